@@ -17,14 +17,13 @@ use Rattle.vr_world.specs.Steps.{Effect, Write, outputs}
 use Rattle.vr_world.specs.Lying.{Lying, lying}
 use Rattle.vr_world.specs.Outputs.{messages}
 use Rattle.vr_world.specs.Group as group
-use Rattle.vr_world.specs.Group.{Arrival, Asked, Message, Time, IsArrival, MayOpen, Move, Moved, Moves, Opens, Played, Run, carried_out, cut_after, cut_in_two, keeps_all, made_by_effect, made_in, mended, once_mended, opening_script, resumed, stepped, with_script}
-use Rattle.vr_world.specs.GroupFit.{IsFitArrival, IsFitGroup, IsFitMember, IsFitMove, IsFitValue}
+use Rattle.vr_world.specs.Group.{Arrival, Asked, Message, Time, IsArrival, Move, Moved, Moves, Opens, Played, Run, carried_out, cut_after, cut_in_two, keeps_all, made_by_effect, made_in, mended, once_mended, opening_script, resumed, stepped, with_script}
+use Rattle.vr_world.specs.GroupFit.{IsFitArrival, IsFitGroup, IsFitMember, IsFitMove}
 use Rattle.vr_world.specs.Own.{IsAt}
 use Rattle.vr_world.specs.Fit.{MayCome, ReadsWell}
-use Rattle.vr_world.proofs.Slots.{least_two}
 use Rattle.vr_world.proofs.FitMessages.{asked_may_come}
 use Rattle.vr_world.proofs.FitLies.{lies_fit}
-use Rattle.vr_world.proofs.FitGroups.{groups_fit}
+use Rattle.vr_world.proofs.FitGroups.{good_value, groups_fit}
 use Rattle.vr_world.proofs.FitOpening.{headers_of}
 use Rattle.vr_world.proofs.SendsScripts.{outputs_append}
 use Rattle.law_1_machine.specs.Basics.{In}
@@ -224,8 +223,8 @@ module _ (u : Setup) (g : group.Group) (s : Group Header) (bridge : Bridges u g 
   vouched v k j x = (x.0, elim x.1 [ inl c ↦ inl (sent _ c) | inr d ↦ inr (d.0, (d.1.0, sent _ d.1.1)) ])
 
   -- the tables of another member: what is made is made in another view than its own
-  tables_other : (j : ℕ) (r : Replica) → j ≢ at → IsAt u.cluster g.n j 1 r → HasTables u s j r → HasTables u a j r
-  tables_other j r other is h frozen =
+  tables_other : (j ed : ℕ) (r : Replica) → j ≢ at → IsAt u.cluster g.n j ed r → HasTables u s j r → HasTables u a j r
+  tables_other j ed r other is h frozen =
       let t = h frozen in
       record {
         acks = λ l k i above has. let x = t.acks l k i above has in (x.0, x.1, vouched r.view k i x.2);
@@ -244,7 +243,7 @@ module _ (u : Setup) (g : group.Group) (s : Group Header) (bridge : Bridges u g 
         disk = subst (IsDisk m) (sym same) x.disk;
         running = λ r e.
             let y = x.running r e in
-            record { memory = y.memory; running = ap (λ (z : Member Header). z.memory) same ∙ y.running; reflects = y.reflects; stored = y.stored; tables = tables_other j r other (f.running r e).1 y.tables; vouched = λ alone views k h here. sent _ (y.vouched alone views k h here) };
+            record { memory = y.memory; running = ap (λ (z : Member Header). z.memory) same ∙ y.running; reflects = y.reflects; stored = y.stored; tables = tables_other j f.edition r other (f.running r e).1 y.tables; vouched = λ alone views k h here. sent _ (y.vouched alone views k h here) };
         stopped = λ e. ap (λ (z : Member Header). z.memory) same ∙ x.stopped e;
       }
 
@@ -551,14 +550,10 @@ module _ (u : Setup) (fits : Fits u) (hash : u.hash ≡ lying.hash) (g : group.G
 
   -- ---- openings
 
-  value_of : (at : ℕ) (m : group.Member) (v : SuperValue) → IsFitMember u.cluster g.n at m → MayOpen m v → IsFitValue u.cluster g.n at v
-  value_of at m v h (inl e) = subst (IsFitValue u.cluster g.n at) e h.last
-  value_of at m v h (inr e) = h.under v e
-
   pub may_begin : (at : ℕ) (m : group.Member) (v : SuperValue) (d : Lying) → Opens g at m v d → ReadsWell lying d → MayBegin u s at (local m) g.made v lying d
   may_begin at m v d o reads =
       let x = bridge.members at m o.member in
-      let f = value_of at m v (fit.members at m o.member) o.value in
+      let f = good_value u.cluster g.n at m v (fit.members at m o.member) o.value in
       record {
         reached = bridge.reached;
         disk = x.disk;
@@ -566,7 +561,7 @@ module _ (u : Setup) (fits : Fits u) (hash : u.hash ≡ lying.hash) (g : group.G
         written = tt;
         value = o.value;
         good = f.0;
-        several = least_two v f.0 f.1.version;
+        several = subst (λ (k : ℕ). 2 ≤ k) (sym f.1.n) fit.several;
         place = f.1.index;
         size = f.1.n ∙ bridge.size;
         reads = headers_of lying d reads;

@@ -52,7 +52,6 @@ pub mod Waking
 pub mod Facts
 pub use Rattle.vr_world.proofs.Combining
 pub use Rattle.vr_world.proofs.FitDisks
-pub use Rattle.vr_world.proofs.FitVersions
 pub use Rattle.vr_world.proofs.FitFresh
 pub use Rattle.vr_world.proofs.FitGroups
 pub use Rattle.vr_world.proofs.FitLies

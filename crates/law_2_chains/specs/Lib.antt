@@ -19,6 +19,7 @@ pub use Rattle.vr_world.specs.Asker
 pub use Rattle.vr_world.specs.Checkpoints
 pub use Rattle.vr_world.specs.Commitment
 pub use Rattle.vr_world.specs.Deciding
+pub use Rattle.vr_world.specs.Files
 pub use Rattle.vr_world.specs.Fit
 pub use Rattle.vr_world.specs.Formatting
 pub use Rattle.vr_world.specs.Given

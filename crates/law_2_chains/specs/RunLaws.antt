@@ -1,5 +1,6 @@
 -- Every move, and every run, of a group is one of the machine.
 use Rattle.vr_base.specs.declared.kind.Kind.{Kind}
+use Rattle.vr_world.specs.Opening.{AreKinds}
 use Rattle.std.specs.Prelude.{ℕ, ◌^◌, ◌<◌, ◌≤◌, ◌≡◌, List, All}
 use Rattle.vr_header.specs.declared.header.Header.{Header}
 use Rattle.vr_world.specs.Lying.{lying}
@@ -25,4 +26,4 @@ RunsAreChains =
 -- and so is every one of a group that was just made
 abbrev pub FreshRunsAreChains : Type 0
 FreshRunsAreChains =
-    (kinds : ℕ → Kind) (cluster n : ℕ) (run : List Played) → cluster < 2 ^ 64 → 2 ≤ n → n ≤ 6 → All (λ p. IsFitMove p.move) run → Run (fresh_group kinds cluster n) run → FollowsFresh kinds cluster n run
+    (kinds : ℕ → Kind) (cluster n : ℕ) (run : List Played) → AreKinds kinds n → cluster < 2 ^ 64 → 2 ≤ n → n ≤ 6 → All (λ p. IsFitMove p.move) run → Run (fresh_group kinds cluster n) run → FollowsFresh kinds cluster n run

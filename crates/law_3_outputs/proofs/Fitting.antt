@@ -1,11 +1,11 @@
 -- Every move of a run of a group writes good entries.
-use Rattle.std.proofs.Common.{ℕ, zero, suc, ◌≡◌, ◌≤◌, inl, inr, ◌+◌, arith, subst, List, [], ◌∷◌, Some}
+use Rattle.std.proofs.Common.{ℕ, zero, suc, ◌≡◌, ◌≤◌, ◌+◌, arith, sym, subst, List, [], ◌∷◌, Some}
 use Rattle.std.specs.Prelude.{All, slice_get}
 use Rattle.std.proofs.lemmas.List.Elements.{All-nil, All-head, All-tail, All-take, All-contains}
 use Rattle.vr_header.specs.Made.{Whole}
 use Rattle.vr_rings.specs.Slots.{IsWhole}
 use Rattle.vr_msg.specs.declared.event.Event.{Event}
-use Rattle.vr_super.specs.Copies.{SuperValue}
+use Rattle.vr_super.specs.Copies.{IsGood, SuperValue}
 use Rattle.law_2_chains.specs.Replica.{Replica}
 use Rattle.law_2_chains.specs.Steps.{Effect, Write, Step}
 use Rattle.law_2_chains.specs.Lying.{Lying, lying}
@@ -13,14 +13,14 @@ use Rattle.law_2_chains.specs.Laws.{IsEvent}
 use Rattle.law_2_chains.specs.Fit.{IsFit, MayCome, ReadsWell}
 use Rattle.law_2_chains.specs.Group.{Member, Group, Arrival, Asked, Message, Time, Move, Moved, Moves, Played, Run, ended, goes, fresh_group, IsArrival, MayOpen, opening_script, stepped}
 use Rattle.law_2_chains.specs.Group as group
-use Rattle.law_2_chains.specs.GroupFit.{IsFitReplica, IsFitValue, IsFitMember, IsFitGroup, IsFitArrival, IsFitMove, IsFitPlayed}
+use Rattle.law_2_chains.specs.Files.{IsOfFile}
+use Rattle.law_2_chains.specs.GroupFit.{IsFitReplica, IsFitGroup, IsFitArrival, IsFitMove, IsFitPlayed}
 use Rattle.law_2_chains.proofs.InTwo.{opening_in_two}
 use Rattle.law_2_chains.proofs.FitMessages.{asked_may_come}
 use Rattle.law_2_chains.proofs.FitSteps.{steps_fit}
 use Rattle.law_2_chains.proofs.FitOpening.{openings_fit}
 use Rattle.law_2_chains.proofs.FitLies.{lies_fit}
-use Rattle.law_2_chains.proofs.FitGroups.{groups_fit}
-use Rattle.law_2_chains.proofs.Slots.{least_two}
+use Rattle.law_2_chains.proofs.FitGroups.{good_value, groups_fit}
 use Rattle.law_3_outputs.proofs.Sets.{in_contains}
 use Rattle.law_2_chains.specs.Chains.{Setup}
 use Rattle.law_3_outputs.specs.Followed.{IsFitRun, IsFollowed, IsGoodEntry}
@@ -60,28 +60,34 @@ arrives c g at Time e h l i = rw i tt
 step_fit : (r : Replica) (e : Event) (d : Lying) → IsFitReplica r → IsEvent e → ReadsWell lying d → All IsFit (stepped e r d).script
 step_fit r e d h m k = (steps_fit lying d r e lies_fit.program lies_fit.roots k h.sound h.savable h.blocks m).each
 
-pub opening_fit : (c n i : ℕ) (v : SuperValue) (d : Lying) → IsFitValue c n i v → ReadsWell lying d → All IsFit (opening_script v d)
-opening_fit c n i v d g k =
-    subst (λ (x : Step). All IsFit x.script) (opening_in_two v d) (openings_fit lying d v lies_fit.program lies_fit.roots k g.0 (least_two v g.0 g.1.version)).each
+-- a value as which a member of a group of at least two may open
+abbrev pub IsOpening : SuperValue → Type 0
+IsOpening v = IsGood v × (2 ≤ v.fields.n)
 
-pub good_value : (c n i : ℕ) (m : Member) (v : SuperValue) → IsFitMember c n i m → MayOpen m v → IsFitValue c n i v
-good_value c n i m v h (inl e) = subst (IsFitValue c n i) e h.last
-good_value c n i m v h (inr e) = h.under v e
+pub opening_of : (c : ℕ) (g : Group) (at : ℕ) (m : Member) (v : SuperValue) → IsFitGroup c g → slice_get g.members at ≡ Some m → MayOpen m v → IsOpening v
+opening_of c g at m v h there may = let value = good_value c g.n at m v (h.members at m there) may in (value.0, subst (λ (k : ℕ). 2 ≤ k) (sym value.1.n) h.several)
+
+pub opening_fit : (v : SuperValue) (d : Lying) → IsOpening v → ReadsWell lying d → All IsFit (opening_script v d)
+opening_fit v d g k = subst (λ (x : Step). All IsFit x.script) (opening_in_two v d) (openings_fit lying d v lies_fit.program lies_fit.roots k g.0 g.1).each
 
 script_fit : (c : ℕ) (g : Group) (move : Move) (moved : Moved) → IsFitGroup c g → IsFitMove move → Moves g move moved → All IsFit moved.script
 script_fit c g _ _ h k (group.steps at arrival e d m r runs i) = step_fit r e d ((h.members at m runs.member).running r runs.running).0 (arrives c g at arrival e h k.0 i) k.1
 script_fit c g _ _ h k (group.cuts at arrival e d j m r runs i) =
     All-take IsFit (j + 1) (stepped e r d).script (step_fit r e d ((h.members at m runs.member).running r runs.running).0 (arrives c g at arrival e h k.0 i) k.1)
 script_fit c g _ _ h k (group.crashes at m there) = All-nil IsFit
-script_fit c g _ _ h k (group.recovers at v d m o) = opening_fit c g.n at v d (good_value c g.n at m v (h.members at m o.member) o.value) k
-script_fit c g _ _ h k (group.recovers_cut at v d j m o) = All-take IsFit (j + 1) (opening_script v d) (opening_fit c g.n at v d (good_value c g.n at m v (h.members at m o.member) o.value) k)
+script_fit c g _ _ h k (group.recovers at v d m o) = opening_fit v d (opening_of c g at m v h o.member o.value) k
+script_fit c g _ _ h k (group.recovers_cut at v d j m o) = All-take IsFit (j + 1) (opening_script v d) (opening_fit v d (opening_of c g at m v h o.member o.value) k)
 
 -- ---- runs
 
 -- each group of a run is fit
 pub fit_at : (cluster n : ℕ) (run : List Played) → IsFitRun cluster n run → (t : ℕ) (p : Played) → slice_get run t ≡ Some p → IsFitPlayed cluster p × IsFitMove p.move
 fit_at cluster n run x t p is =
-    (at_place (IsFitPlayed cluster) run t p (groups_fit.runs x.kinds cluster n run x.number x.few x.many x.moves x.of_run) is, at_place (λ (p : Played). IsFitMove p.move) run t p x.moves is)
+    (at_place (IsFitPlayed cluster) run t p (groups_fit.runs x.kinds cluster n run x.are_kinds x.number x.few x.many x.moves x.of_run) is, at_place (λ (p : Played). IsFitMove p.move) run t p x.moves is)
+
+-- and reads the member's file
+pub file_at : (cluster n : ℕ) (run : List Played) → IsFitRun cluster n run → (t : ℕ) (p : Played) → slice_get run t ≡ Some p → IsOfFile p.before p.move
+file_at cluster n run x t p is = at_place (λ (p : Played). IsOfFile p.before p.move) run t p x.files is
 
 pub writes_good : (cluster n : ℕ) (run : List Played) → IsFitRun cluster n run → (t : ℕ) (p : Played) → slice_get run t ≡ Some p → WritesGood p.moved.script
 writes_good cluster n run x t p is =

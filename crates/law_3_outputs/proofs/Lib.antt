@@ -29,7 +29,6 @@ pub use Rattle.law_2_chains.proofs.FitFresh
 pub use Rattle.law_2_chains.proofs.FitGroups
 pub use Rattle.law_2_chains.proofs.FitLies
 pub use Rattle.law_2_chains.proofs.FitSteps
-pub use Rattle.law_2_chains.proofs.FitVersions
 pub use Rattle.law_2_chains.proofs.Halves
 pub use Rattle.law_2_chains.proofs.Opening
 pub use Rattle.law_2_chains.proofs.Playing

@@ -9,7 +9,7 @@ use Rattle.vr_super.specs.Copies.{SuperValue}
 use Rattle.law_2_chains.specs.Fit.{IsFit, ReadsWell}
 use Rattle.law_2_chains.specs.Group.{Group, Move, Moved, Moves, Played, fresh_group, mended, opening_script, resumed}
 use Rattle.law_2_chains.specs.Group as group
-use Rattle.law_2_chains.specs.GroupFit.{IsFitGroup, IsFitMove, IsFitValue}
+use Rattle.law_2_chains.specs.GroupFit.{IsFitGroup, IsFitMove}
 use Rattle.law_2_chains.specs.Lying.{Lying, lying}
 use Rattle.law_2_chains.specs.Opening.{blank}
 use Rattle.law_2_chains.specs.Steps.{Effect, outputs}
@@ -18,11 +18,10 @@ use Rattle.law_2_chains.proofs.FitLies.{lies_fit}
 use Rattle.law_2_chains.proofs.FitSteps.{steps_fit}
 use Rattle.law_2_chains.proofs.FitWords.{reads_later}
 use Rattle.law_2_chains.proofs.SendsScripts.{outputs_append}
-use Rattle.law_2_chains.proofs.Slots.{least_two}
 use Rattle.law_1_machine.specs.Basics.{In}
 use Rattle.law_3_outputs.specs.Written.{IsWellRead, StepsReadGood}
 use Rattle.law_3_outputs.specs.Followed.{IsFitRun}
-use Rattle.law_3_outputs.proofs.Fitting.{arrives, fit_at, good_value, good_whole, move_of, opening_fit}
+use Rattle.law_3_outputs.proofs.Fitting.{IsOpening, arrives, fit_at, good_whole, move_of, opening_fit, opening_of}
 use Rattle.law_3_outputs.proofs.Ordering.{come_in_order}
 use Rattle.law_3_outputs.proofs.Orders.{IsOther}
 use Rattle.law_3_outputs.proofs.Resuming.{quiet_mending, resumed_order}
@@ -46,15 +45,15 @@ fit_back [] ys h = h
 fit_back (x ∷ xs) ys h = fit_back xs ys (All-tail IsFit x (xs ++ ys) h)
 
 -- an opening mends without a line, and reads then what it applies
-pub opening_reads : (c n i : ℕ) (v : SuperValue) (d : Lying) → IsFitValue c n i v → ReadsWell lying d → (l : Committed) → In (output.Commit l) (outputs (opening_script v d)) → IsWellRead l.entry
-opening_reads c n i v d g k l j =
+pub opening_reads : (v : SuperValue) (d : Lying) → IsOpening v → ReadsWell lying d → (l : Committed) → In (output.Commit l) (outputs (opening_script v d)) → IsWellRead l.entry
+opening_reads v d g k l j =
     let xs = (mended v d).script in
     let ys = (resumed v d).script in
-    let fit = opening_fit c n i v d g k in
+    let fit = opening_fit v d g k in
     elim (in_either (outputs xs) (outputs ys) (output.Commit l) (subst (λ (os : List Output). In (output.Commit l) os) (outputs_append xs ys) j)) [
       | inl a ↦ absurd (every_in IsOther (outputs xs) (output.Commit l) a ((quiet_mending v).every lying (blank v) d).said)
       | inr b ↦
-          let o = (resumed_order v d g.0 (least_two v g.0 g.1.version) k).read l b in
+          let o = (resumed_order v d g.0 g.1 k).read l b in
           let late = reads_later lying d xs k (fit_front xs ys fit) in
           let whole = late.entry o.first (fit_front o.first o.rest (subst (All IsFit) (sym o.are) (fit_back xs ys fit))) o.slot l.entry o.within o.reads in
           record { form = whole.entry.header; good = good_whole l.entry whole }
@@ -66,7 +65,7 @@ move_reads c g _ _ h k (group.steps at arrival e d m r runs i) l j =
     reads_good lying d r e lies_fit.program lies_fit.roots k.1 run.0.sound run.0.savable run.0.blocks (arrives c g at arrival e h k.0 i) l j
 move_reads c g _ _ h k (group.cuts at arrival e d n m r runs i) l j = absurd j
 move_reads c g _ _ h k (group.crashes at m there) l j = absurd j
-move_reads c g _ _ h k (group.recovers at v d m o) l j = opening_reads c g.n at v d (good_value c g.n at m v (h.members at m o.member) o.value) k l j
+move_reads c g _ _ h k (group.recovers at v d m o) l j = opening_reads v d (opening_of c g at m v h o.member o.value) k l j
 move_reads c g _ _ h k (group.recovers_cut at v d n m o) l j = absurd j
 
 pub runs_read : (cluster n : ℕ) (run : List Played) → IsFitRun cluster n run → (t : ℕ) (p : Played) → slice_get run t ≡ Some p → (l : Committed) → In (output.Commit l) p.moved.outputs → IsWellRead l.entry

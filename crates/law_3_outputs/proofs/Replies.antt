@@ -28,13 +28,12 @@ use Rattle.law_2_chains.specs.Safe.{IsHashed, IsTrueReply}
 use Rattle.law_3_outputs.specs.Followed.{IsFollowed, IsSo}
 use Rattle.law_3_outputs.specs.Answering.{one_if, HasState, IsMute, Jumps, lines, IsTold, Told, Leaves}
 use Rattle.law_3_outputs.specs.Replied.{IsReplied, IsServed}
-use Rattle.law_3_outputs.proofs.Fitting.{arrives, fit_at, good_value, move_of}
+use Rattle.law_3_outputs.proofs.Fitting.{arrives, fit_at, move_of, opening_of}
 use Rattle.law_3_outputs.proofs.Orders.{in_order_lined}
 use Rattle.law_3_outputs.proofs.Resuming.{resumed_have, said_right}
 use Rattle.law_3_outputs.proofs.Ordering.{come_in_order}
 use Rattle.law_2_chains.specs.GroupFit.{IsFitMove}
 use Rattle.law_2_chains.proofs.FitLies.{lies_fit}
-use Rattle.law_2_chains.proofs.Slots.{least_two}
 use Rattle.law_3_outputs.proofs.Sets.{get_in}
 use Rattle.law_3_outputs.proofs.Traces.{every_in}
 use Rattle.law_3_outputs.proofs.Log.{the_log, log_numbered, is_log, in_log}
@@ -188,9 +187,9 @@ module _ (cluster n : ℕ) (u : Setup) (run : List Played) (x : IsFollowed clust
       let same : (resumed v d).replica ≡ q = (let o : Some (resumed v d).replica ≡ Some q = e' in cc) in
       subst (λ r. is_frozen r ≡ false → HasState log r) same (λ free.
       let fit = fit_at cluster n run x.fit t p is in
-      let value = good_value cluster g.n at m v (fit.0.0.members at m opens.member) opens.value in
+      let value = opening_of cluster g at m v fit.0.0 opens.member opens.value in
       let had = y.loads never log (is_log cluster n u run x) t at p v d is refl free in
-      resumed_have log (log_numbered cluster n u run x) v d value.0 (least_two v value.0 value.1.version) fit.1 free had (λ c i. line_at t p is c (said_right (mended v d).script (resumed v d).script (output.Commit c) i))) free)
+      resumed_have log (log_numbered cluster n u run x) v d value.0 value.1 fit.1 free had (λ c i. line_at t p is c (said_right (mended v d).script (resumed v d).script (output.Commit c) i))) free)
   moved_have t g _ _ is (recovers_cut at v f k m opens) have = changed_have log g _ at (record (cut_in_two (mended v f).script (resumed v f).script (keeps_all (found v f)) k m) { replica = None }) refl have (λ q e' free. absurd cc)
 
   -- a group that was just made

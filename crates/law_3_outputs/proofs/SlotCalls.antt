@@ -15,16 +15,18 @@ use Rattle.vr_header.specs.declared.header.Header.{Header}
 use Rattle.vr_header.specs.Made.{Whole}
 use Rattle.vr_rings.specs.Calls.{header_calls, prepare_calls}
 use Rattle.vr_rings.specs.Slots.{IsWhole, Takes, padded, prepare_reading, slot_of, whole_in, whole_of}
+use Rattle.vr_rings.proofs.Spelling.{padded_is, whole_again}
 use Rattle.vr_super.specs.Calls.{mend_calls, write_calls}
+use Rattle.vr_super.specs.Copies.{SuperValue}
 use Rattle.vr_ckpt.specs.Grid.{block_calls, put_calls}
 use Rattle.vr_ckpt.specs.Saves.{blocks_calls, save_calls, written}
 use Rattle.law_2_chains.specs.Steps.{Effect, Write, Rewrite, Save, Mend, Checkpoint, PutBlock, Say, after_all}
 use Rattle.law_2_chains.specs.Sectors.{calls_by, sectors_by}
 use Rattle.law_2_chains.specs.Lying.{Lying, lying}
 use Rattle.law_2_chains.specs.Fit.{IsFit}
+use Rattle.law_2_chains.specs.GroupFit.{IsFitValue}
 use Rattle.law_2_chains.specs.Own.{IsOwn}
-use Rattle.law_2_chains.proofs.FitDisks.{header_spares}
-use Rattle.law_2_chains.proofs.FitVersions.{SparesSlots, apart, checkpoint_slots, entry_reads, mend_slots, prepare_spares, put_slots, same_entry, save_slots, slot_below}
+use Rattle.law_2_chains.proofs.FitDisks.{SparesSlots, apart, checkpoint_slots, front_reads, header_spares, mend_slots, prepare_spares, put_slots, same_entry, save_slots, slot_below}
 use Rattle.law_2_chains.proofs.FitGroups.{Known, known_first, known_rest}
 use Rattle.law_2_chains.proofs.FitLies.{same_whole}
 use Rattle.law_1_machine.specs.Basics.{In}
@@ -61,14 +63,19 @@ there v f slot e is =
 
 -- ---- a prepare
 
-prepare_or : (v : ℕ) (w : Whole) (f : Face) (slot : ℕ) (e : Whole) → IsWhole w → Takes 1 w → whole_in v (disk.after_all f (prepare_calls v w)) slot ≡ Some e → (whole_in v f slot ≡ Some e) ⊎ (e ≡ w)
+-- an entry that a file takes reads where it was written
+taken_reads : (v : ℕ) (e : Whole) (f : Face) → prepare_place v (slot_of e.header) + prepare_sectors v ≤ length f.cells → IsWhole e → Takes v e → whole_in v (disk.after_all f (prepare_calls v e)) (slot_of e.header) ≡ Some e
+unfolding whole_in
+taken_reads v e f n w taken = ap (λ o. option_and_then whole_of (option_map (padded v) o)) (front_reads v e f n) ∙ (ap whole_of (padded_is v e w taken) ∙ whole_again e w)
+
+prepare_or : (v : ℕ) (w : Whole) (f : Face) (slot : ℕ) (e : Whole) → IsWhole w → Takes v w → whole_in v (disk.after_all f (prepare_calls v w)) slot ≡ Some e → (whole_in v f slot ≡ Some e) ⊎ (e ≡ w)
 prepare_or v w f slot e whole taken is =
     elim (cases_eq slot (slot_of w.header)) [
       | inl same ↦
           let at : whole_in v (disk.after_all f (prepare_calls v w)) (slot_of w.header) ≡ Some e = subst (λ k. whole_in v (disk.after_all f (prepare_calls v w)) k ≡ Some e) same is in
           let long = there v (disk.after_all f (prepare_calls v w)) (slot_of w.header) e at in
           let kept = length_after_all (prepare_calls v w) f in
-          let two : Some w ≡ Some e = sym (entry_reads v w f (omega (arith, long, kept)) whole taken) ∙ at in
+          let two : Some w ≡ Some e = sym (taken_reads v w f (omega (arith, long, kept)) whole taken) ∙ at in
           let one : w ≡ e = cc in
           inr (sym one)
       | inr other ↦ inl (sym (same_entry v (prepare_calls v w) f slot (λ k m n. prepare_spares v w k (apart v slot (slot_of w.header) k other m n))) ∙ is)
@@ -94,12 +101,12 @@ written_or : (v : ℕ) (again : Bool) (w : Whole) (f : Face) (slot : ℕ) (e : W
 written_or v again w f slot e (inl old) = inl old
 written_or v again w f slot e (inr same) = inr (again, ap (Write again) same)
 
--- what is written is whole, and a file of version 1 takes it, so that each does
-abbrev pub IsTaken : Effect → Type 0
-IsTaken (Write again e) = IsWhole e × Takes 1 e
-IsTaken _ = ⊤
+-- what is written is whole, and a file of this version takes it
+abbrev pub IsTaken : ℕ → Effect → Type 0
+IsTaken v (Write again e) = IsWhole e × Takes v e
+IsTaken v _ = ⊤
 
-effect_or : (v : ℕ) (x : Effect) (f : Face) → IsTaken x → (slot : ℕ) (e : Whole) → slot < 64 → whole_in v (disk.after_all f (calls_by v x f)) slot ≡ Some e → Either v x f slot e
+effect_or : (v : ℕ) (x : Effect) (f : Face) → IsTaken v x → (slot : ℕ) (e : Whole) → slot < 64 → whole_in v (disk.after_all f (calls_by v x f)) slot ≡ Some e → Either v x f slot e
 unfolding put_calls save_calls
 effect_or v (Write true w) f taken slot e l is =
     let g = disk.after_all f (header_calls w.header) in
@@ -117,36 +124,43 @@ effect_or v (Checkpoint cluster texts op old) f taken slot e l is =
 effect_or v (PutBlock name block) f taken slot e l is = inl (spared v (block_calls name.address block ++ Sync ∷ []) f slot e l (put_slots v name.address block) is)
 effect_or v (Say o) f taken slot e l is = inl is
 
-sectors_or : (v : ℕ) (es : List Effect) (f : Face) → All IsTaken es → (slot : ℕ) (e : Whole) → slot < 64 → whole_in v (after_all (sectors_by v) f es) slot ≡ Some e
+sectors_or : (v : ℕ) (es : List Effect) (f : Face) → All (IsTaken v) es → (slot : ℕ) (e : Whole) → slot < 64 → whole_in v (after_all (sectors_by v) f es) slot ≡ Some e
     → (whole_in v f slot ≡ Some e) ⊎ ((again : Bool) × In (Write again e) es)
 unfolding after_all
 sectors_or v [] f taken slot e l is = inl is
 sectors_or v (x ∷ es) f taken slot e l is =
-    elim (sectors_or v es (disk.after_all f (calls_by v x f)) (All-tail IsTaken x es taken) slot e l is) [
+    elim (sectors_or v es (disk.after_all f (calls_by v x f)) (All-tail (IsTaken v) x es taken) slot e l is) [
       | inr later ↦ inr (later.0, inr later.1)
-      | inl before ↦ elim (effect_or v x f (All-head IsTaken x es taken) slot e l before) [
+      | inl before ↦ elim (effect_or v x f (All-head (IsTaken v) x es taken) slot e l before) [
         | inl old ↦ inl old
         | inr new ↦ inr (new.0, inl new.1)
       ]
     ]
 
-one_taken : (c n i : ℕ) (x : Effect) → IsFit x → IsOwn c n i 1 x → IsTaken x
-one_taken c n i (Write again e) fit own = (fit, record { most = omega arith; taken = own.1 })
-one_taken c n i (Rewrite h) fit own = tt
-one_taken c n i (Save old new) fit own = tt
-one_taken c n i (Mend v) fit own = tt
-one_taken c n i (Checkpoint cluster texts op old) fit own = tt
-one_taken c n i (PutBlock name block) fit own = tt
-one_taken c n i (Say o) fit own = tt
+one_taken : (c n i ed : ℕ) (x : Effect) → ed ≤ 2 → IsFit x → IsOwn c n i ed x → IsTaken ed x
+one_taken c n i ed (Write again e) most fit own = (fit, record { most = most; taken = own.1 })
+one_taken c n i ed (Rewrite h) most fit own = tt
+one_taken c n i ed (Save old new) most fit own = tt
+one_taken c n i ed (Mend v) most fit own = tt
+one_taken c n i ed (Checkpoint cluster texts op old) most fit own = tt
+one_taken c n i ed (PutBlock name block) most fit own = tt
+one_taken c n i ed (Say o) most fit own = tt
 
 -- so is all that a member of a group writes
-pub known_taken : (c n i : ℕ) (es : List Effect) → Known c n i es → All IsTaken es
-known_taken c n i [] k = All-nil IsTaken
-known_taken c n i (x ∷ es) k =
-    let one = known_first c n i x es k in
-    All-cons IsTaken x es (one_taken c n i x one.0 one.2) (known_taken c n i es (known_rest c n i x es k))
+known_taken : (c n i ed : ℕ) (es : List Effect) → ed ≤ 2 → Known c n i ed es → All (IsTaken ed) es
+known_taken c n i ed [] most k = All-nil (IsTaken ed)
+known_taken c n i ed (x ∷ es) most k =
+    let one = known_first c n i ed x es k in
+    All-cons (IsTaken ed) x es (one_taken c n i ed x most one.0 one.2) (known_taken c n i ed es most (known_rest c n i ed x es k))
+
+-- of a member with this value, on its file
+pub member_taken : (c n i ed : ℕ) (value : SuperValue) (d : Lying) (es : List Effect) → IsFitValue c n i ed value → d.version ≡ value.fields.version → Known c n i ed es → All (IsTaken d.version) es
+member_taken c n i ed value d es fit file known =
+    let most = fit.0.numbers.version.1 in
+    let own = fit.1.version in
+    subst (λ (v : ℕ). All (IsTaken v) es) (sym (file ∙ own)) (known_taken c n i ed es (omega (arith, most, own)) known)
 
 -- of the disks of a run, whatever they read as
-pub read_or_written : (es : List Effect) (d : Lying) → All IsTaken es → (slot : ℕ) (e : Whole) → slot < 64 → lying.entry (after_all lying d es) slot ≡ Some e
+pub read_or_written : (es : List Effect) (d : Lying) → All (IsTaken d.version) es → (slot : ℕ) (e : Whole) → slot < 64 → lying.entry (after_all lying d es) slot ≡ Some e
     → (lying.entry d slot ≡ Some e) ⊎ ((again : Bool) × In (Write again e) es)
 read_or_written es d taken slot e l is = sectors_or d.version es d.face taken slot e l (sym (same_whole es d slot) ∙ is)

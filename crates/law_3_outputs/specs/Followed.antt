@@ -21,7 +21,9 @@ use Rattle.vr_msg.specs.Logs.{IsStatement}
 use Rattle.vr_base.specs.Groups.{quorums_of}
 use Rattle.vr_base.specs.declared.table.Quorums.{Quorums}
 use Rattle.law_2_chains.specs.Group.{Played, Run, fresh_group, made_in}
+use Rattle.law_2_chains.specs.Files.{IsOfFile}
 use Rattle.law_2_chains.specs.GroupFit.{IsFitMove}
+use Rattle.law_2_chains.specs.Opening.{AreKinds}
 use Rattle.law_2_chains.specs.Replica.{Replica, version}
 use Rattle.law_2_chains.specs.Words.{log_end}
 use Rattle.law_1_machine.specs.Basics.{In}
@@ -93,13 +95,15 @@ IsSo cluster u run before after p _ = ⊤
 
 -- ---- a move, and a run
 
--- a run of a group that is made, in which each move reads what the program has
+-- a run of a group that is made, in which each move reads what the program has, on the member's file
 pub record IsFitRun (cluster n : ℕ) (run : List Played) : Type 0 where
   pub number : cluster < 2 ^ 64
   pub few : 2 ≤ n
   pub many : n ≤ 6
   pub moves : All (λ p. IsFitMove p.move) run
+  pub files : All (λ p. IsOfFile p.before p.move) run
   pub kinds : ℕ → Kind  -- of the files of its members
+  pub are_kinds : AreKinds kinds n
   pub of_run : Run (fresh_group kinds cluster n) run
 
 pub record IsCarried (cluster : ℕ) (u : Setup) (run : List Played) (before after : Group Header) (p : Played) : Type 0 where

@@ -11,6 +11,7 @@ pub use Rattle.law_2_chains.specs.Chains
 pub use Rattle.law_2_chains.specs.Checkpoints
 pub use Rattle.law_2_chains.specs.Commitment
 pub use Rattle.law_2_chains.specs.Deciding
+pub use Rattle.law_2_chains.specs.Files
 pub use Rattle.law_2_chains.specs.Finished
 pub use Rattle.law_2_chains.specs.Fit
 pub use Rattle.law_2_chains.specs.Formatting

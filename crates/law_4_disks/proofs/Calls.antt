@@ -1,8 +1,8 @@
 -- The calls of effects write sectors of 512 bytes.
-use Rattle.std.proofs.Common.{ℕ, zero, suc, ◌+◌, ◌*◌, ◌-◌, ◌^◌, ◌≤◌, ◌<◌, ◌≡◌, arith, refl, true, false, cond, List, [], ◌∷◌, ◌++◌, length, drop, map}
+use Rattle.std.proofs.Common.{ℕ, zero, suc, ◌+◌, ◌*◌, ◌-◌, ◌^◌, ◌≤◌, ◌<◌, ◌≡◌, arith, refl, sym, subst, true, false, cond, eqb, List, [], ◌∷◌, ◌++◌, length, drop, map}
 use Rattle.std.specs.Prelude.{replicate}
 use Rattle.std.specs.List.{AllByRecursion, range_with_len}
-use Rattle.std.proofs.lemmas.List.{get_or-drop, length-drop, length-replicate}
+use Rattle.std.proofs.lemmas.List.{append_assoc, get_or-drop, length-drop, length-replicate}
 use Rattle.vr_base.specs.Bytes.{IsBytes, name_of, piece}
 use Rattle.vr_base.proofs.FieldLaws.{IsBytes-piece, length-piece}
 use Rattle.vr_base.proofs.AreBytes.{AllBytes, IsBytes-append, IsBytes-bytes16, IsBytes-bytes32, IsBytes-bytes64, IsBytes-joined, IsBytes-name_of, IsBytes-none, IsBytes-one, IsBytes-zeros}
@@ -152,8 +152,8 @@ zeros_written : (n i : ℕ) → i + n ≤ sectors → AreCalls (map (λ k. Write
 zeros_written zero i l = tt
 zeros_written (suc n) i l = ((omega (arith, l), zero_content), zeros_written n (i + 1) (omega (arith, l)))
 
-pub reserved_is : (home slot : ℕ) → home < 2 ^ 64 → slot < 64 → IsHeader (reserved_header home slot)
-reserved_is home slot room l = record {
+pub reserved_is : (ver home slot : ℕ) → (1 ≤ ver) × (ver ≤ 2) → home < 2 ^ 64 → slot < 64 → IsHeader (reserved_header ver home slot)
+reserved_is ver home slot is room l = record {
   body = length-name_of [];
   body_bytes = IsBytes-name_of [];
   parent = refl;
@@ -168,18 +168,31 @@ reserved_is home slot room l = record {
   commit = omega arith;
   size = omega arith;
   replica = omega arith;
-  version = (omega arith, omega arith);
+  version = is;
   kind = omega arith;
   aux = omega arith;
 }
 
-reserved_written : (home n i : ℕ) → home < 2 ^ 64 → i + n ≤ 64 → AreCalls (map (λ slot. Write (header_place slot) (sector_of (reserved_header home slot))) (range_with_len i n))
-reserved_written home zero i room l = tt
-reserved_written home (suc n) i room l = ((omega (arith, l), sector_content (reserved_header home i) (reserved_is home i room (omega (arith, l)))), reserved_written home n (i + 1) room (omega (arith, l)))
+reserved_written : (ver home n i : ℕ) → (1 ≤ ver) × (ver ≤ 2) → home < 2 ^ 64 → i + n ≤ 64 → AreCalls (map (λ slot. Write (header_place slot) (sector_of (reserved_header ver home slot))) (range_with_len i n))
+reserved_written ver home zero i is room l = tt
+reserved_written ver home (suc n) i is room l =
+    ((omega (arith, l), sector_content (reserved_header ver home i) (reserved_is ver home i is room (omega (arith, l)))), reserved_written ver home n (i + 1) is room (omega (arith, l)))
+
+-- the prepares of all slots, one behind the other
+pub prepares_fit : (ver : ℕ) → prepare_place ver 0 + 64 * prepare_sectors ver ≤ sectors
+prepares_fit ver = elim (eqb ver 2) as (λ t. cond t 1424 144 + 64 * cond t 8 4 ≤ sectors) [ true ↦ omega arith | false ↦ omega arith ]
+
+-- the calls of a formatting, one part behind the other
+pub format_is : (kind : Kind) (home n i : ℕ)
+    → format_calls kind home n i ≡ zero_prepares kind.version ++ (reserved_headers kind.version home ++ Sync ∷ save_from 0 4 (copy_bytes (first_value kind home n i)))
+unfolding format_calls
+format_is kind home n i = append_assoc (zero_prepares kind.version) (reserved_headers kind.version home) (Sync ∷ save_from 0 4 (copy_bytes (first_value kind home n i)))
 
 pub format_are : (kind : Kind) (home n i : ℕ) → home < 2 ^ 64 → IsGood (first_value kind home n i) → AreCalls (format_calls kind home n i)
-unfolding format_calls
 format_are kind home n i room g =
     let v = first_value kind home n i in
-    calls_append zero_prepares (reserved_headers home ++ Sync ∷ save_from 0 4 (copy_bytes v)) (zeros_written (64 * prepare_sectors 1) (prepare_place 1 0) (omega arith))
-    (calls_append (reserved_headers home) (Sync ∷ save_from 0 4 (copy_bytes v)) (reserved_written home 64 0 room (omega arith)) (tt, saves_are 4 0 (copy_bytes v) (omega arith) (copy_are v g) (length-copy_bytes v g)))
+    let ver = kind.version in
+    let last : List Call = Sync ∷ save_from 0 4 (copy_bytes v) in
+    subst AreCalls (sym (format_is kind home n i))
+    (calls_append (zero_prepares ver) (reserved_headers ver home ++ last) (zeros_written (64 * prepare_sectors ver) (prepare_place ver 0) (prepares_fit ver))
+    (calls_append (reserved_headers ver home) last (reserved_written ver home 64 0 g.numbers.version room (omega arith)) (tt, saves_are 4 0 (copy_bytes v) (omega arith) (copy_are v g) (length-copy_bytes v g))))

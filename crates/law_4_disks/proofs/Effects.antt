@@ -56,14 +56,14 @@ calm_cut {mode} cs d j code c k l s = record {
 abbrev Apart : ℕ → List Call → Type 0
 Apart v cs = (slot : ℕ) → slot < 64 → AllByRecursion (AllApart v slot) cs
 
--- the same entry, of the same group
-pub holds_as : {a b : ℕ} {x y : Option (List ℕ)} (g : Header) → x ≡ y → a ≡ b → HoldsEntry a g x → HoldsEntry b g y
-holds_as g e c h = record { entry = h.entry; whole = h.whole; header = h.header; group = h.group ∙ c; version = h.version; there = sym e ∙ h.there }
+-- the same entry, of the same group, in a file of the same version
+pub holds_as : {v w a b : ℕ} {x y : Option (List ℕ)} (g : Header) → x ≡ y → v ≡ w → a ≡ b → HoldsEntry v a g x → HoldsEntry w b g y
+holds_as g e f c h = record { entry = h.entry; whole = h.whole; header = h.header; group = h.group ∙ c; version = subst (λ (n : ℕ). g.version ≤ n) f h.version; there = sym e ∙ h.there }
 
-held_moves : (d x : Lying) (m q : Member) → q.kept ≡ m.kept → q.last.fields.cluster ≡ m.last.fields.cluster → ((slot : ℕ) → slot < 64 → held_at x.held slot ≡ held_at d.held slot) → IsHeld d m → IsHeld x q
-held_moves d x m q e c s h = record {
+held_moves : (d x : Lying) (m q : Member) → x.version ≡ d.version → q.kept ≡ m.kept → q.last.fields.cluster ≡ m.last.fields.cluster → ((slot : ℕ) → slot < 64 → held_at x.held slot ≡ held_at d.held slot) → IsHeld d m → IsHeld x q
+held_moves d x m q f e c s h = record {
   count = ap (λ (k : List (Option Header)). length k) e ∙ h.count;
-  each = λ slot g l k. holds_as g (sym (s slot l)) (sym c) (h.each slot g l (ap (λ (k : List (Option Header)). get_or k slot None) (sym e) ∙ k));
+  each = λ slot g l k. holds_as g (sym (s slot l)) (sym f) (sym c) (h.each slot g l (ap (λ (k : List (Option Header)). get_or k slot None) (sym e) ∙ k));
 }
 
 apart_after : {mode : Mode} (cs : List Call) (d : Lying) → IsCalm mode d → Apart d.version cs → (slot : ℕ) → slot < 64 → held_at (after_calls d cs).held slot ≡ held_at d.held slot
@@ -85,10 +85,9 @@ mend_opens v d m o k =
     let s = mended v d.face o.calm.face o.calm.rests o.value in
     record {
       calm = calm_after cs d o.calm k s.waiting;
-      held = held_moves d (after_calls d cs) m (ends (Mend v) m) refl o.group (apart_after cs d o.calm (λ slot l. mend_apart d.version v d.face slot)) o.held;
+      held = held_moves d (after_calls d cs) m (ends (Mend v) m) refl refl o.group (apart_after cs d o.calm (λ slot l. mend_apart d.version v d.face slot)) o.held;
       value = s.opens;
       file = o.file;
-      version = o.version;
       under = refl;
     }
 
@@ -97,16 +96,15 @@ mend_cut v d m j code o c l t =
     let cs = mend_calls v d.face in
     record {
       calm = calm_cut cs d j code o.calm c.calls l (apart_stands cs d j code o.calm (λ slot l. mend_apart d.version v d.face slot));
-      held = held_moves d (cut_calls j code d cs) m m refl refl (apart_stopped cs d j code o.calm (λ slot l. mend_apart d.version v d.face slot)) o.held;
+      held = held_moves d (cut_calls j code d cs) m m refl refl refl (apart_stopped cs d j code o.calm (λ slot l. mend_apart d.version v d.face slot)) o.held;
       value = (mend_law v d.face o.calm.face o.calm.rests o.value).stopped j code (t.value v refl);
       file = o.file;
-      version = o.version;
       may = o.may;
       group = o.group;
     }
 
 pub off : (d : Lying) (m : Member) → IsOn d m → IsOff d m m.last
-off d m o = record { calm = o.calm; held = o.held; value = o.value; file = o.file; version = o.version; may = inl refl; group = refl }
+off d m o = record { calm = o.calm; held = o.held; value = o.value; file = o.file; may = inl refl; group = refl }
 
 -- ---- saving
 
@@ -117,10 +115,9 @@ save_done old new d m o c =
     let kind = c.fit.1 ∙ ap (λ (v : SuperValue). file_kind v.fields) c.fit.0 in
     record {
       calm = subst (λ k. IsCalm k (after_calls d cs)) (sym (ap (λ (k : Kind). k.mode) kind)) (calm_after cs d o.calm c.calls s.waiting);
-      held = held_moves d (after_calls d cs) m (ends (Save old new) (begins (Save old new) m)) refl (c.fit.3 ∙ ap (λ (v : SuperValue). v.fields.cluster) c.fit.0) (apart_after cs d o.calm (λ slot l. write_apart d.version old new d.face slot)) o.held;
+      held = held_moves d (after_calls d cs) m (ends (Save old new) (begins (Save old new) m)) refl refl (c.fit.3 ∙ ap (λ (v : SuperValue). v.fields.cluster) c.fit.0) (apart_after cs d o.calm (λ slot l. write_apart d.version old new d.face slot)) o.held;
       value = s.opens;
       file = o.file ∙ sym (ap (λ (k : Kind). k.version) kind);
-      version = ap (λ (k : Kind). k.version) kind ∙ o.version;
       under = refl;
     }
 
@@ -131,14 +128,14 @@ save_cut old new d m j code o c l t =
     let x : Lying = cut_calls j code d cs in
     let q : Member = begins (Save old new) m in
     let calm = calm_cut cs d j code o.calm c.calls l (apart_stands cs d j code o.calm (λ slot l. write_apart d.version old new d.face slot)) in
-    let held = held_moves d x m q refl refl (apart_stopped cs d j code o.calm (λ slot l. write_apart d.version old new d.face slot)) o.held in
+    let held = held_moves d x m q refl refl refl (apart_stopped cs d j code o.calm (λ slot l. write_apart d.version old new d.face slot)) o.held in
     let first = ap (λ (v : SuperValue). file_kind v.fields) c.fit.0 in
     let later = c.fit.1 ∙ first in
     let group = ap (λ (v : SuperValue). v.fields.cluster) c.fit.0 in
     let leads = write_law old new d.face o.calm.face o.calm.rests (o.value ∙ ap Some (sym c.fit.0)) c.fit.2 in
     elim (leads.stopped j code (t.value old (inl refl)) (t.value new (inr refl))) [
-      | inl e ↦ (old, record { calm = subst (λ k. IsCalm k x) (sym (ap (λ (k : Kind). k.mode) first)) calm; held = held; value = e; file = o.file ∙ sym (ap (λ (k : Kind). k.version) first); version = ap (λ (k : Kind). k.version) first ∙ o.version; may = inl (sym c.fit.0); group = group })
-      | inr e ↦ (new, record { calm = subst (λ k. IsCalm k x) (sym (ap (λ (k : Kind). k.mode) later)) calm; held = held; value = e; file = o.file ∙ sym (ap (λ (k : Kind). k.version) later); version = ap (λ (k : Kind). k.version) later ∙ o.version; may = inr refl; group = c.fit.3 ∙ group })
+      | inl e ↦ (old, record { calm = subst (λ k. IsCalm k x) (sym (ap (λ (k : Kind). k.mode) first)) calm; held = held; value = e; file = o.file ∙ sym (ap (λ (k : Kind). k.version) first); may = inl (sym c.fit.0); group = group })
+      | inr e ↦ (new, record { calm = subst (λ k. IsCalm k x) (sym (ap (λ (k : Kind). k.mode) later)) calm; held = held; value = e; file = o.file ∙ sym (ap (λ (k : Kind). k.version) later); may = inr refl; group = c.fit.3 ∙ group })
     ]
 
 -- ---- blocks, which no slot and no copy of the superblock shares
@@ -146,20 +143,18 @@ save_cut old new d m j code o c l t =
 pub grid_done : (cs : List Call) (d : Lying) (m : Member) → IsOn d m → AllByRecursion IsCall cs → AllByRecursion (From 400) cs → Apart d.version cs → (after_all d.face cs).waiting ≡ [] → IsOn (after_calls d cs) m
 grid_done cs d m o k a p r = record {
   calm = calm_after cs d o.calm k r;
-  held = held_moves d (after_calls d cs) m m refl refl (apart_after cs d o.calm p) o.held;
+  held = held_moves d (after_calls d cs) m m refl refl refl (apart_after cs d o.calm p) o.held;
   value = opens_after cs d.face (from_less 80 400 cs (omega arith) a) ∙ o.value;
   file = o.file;
-  version = o.version;
   under = o.under;
 }
 
 pub grid_cut : (cs : List Call) (d : Lying) (m : Member) (j code : ℕ) → IsOn d m → AllByRecursion IsCall cs → AllByRecursion (From 400) cs → Apart d.version cs → j < length cs → IsOff (cut_calls j code d cs) m m.last
 grid_cut cs d m j code o k a p l = record {
   calm = calm_cut cs d j code o.calm k l (apart_stands cs d j code o.calm p);
-  held = held_moves d (cut_calls j code d cs) m m refl refl (apart_stopped cs d j code o.calm p) o.held;
+  held = held_moves d (cut_calls j code d cs) m m refl refl refl (apart_stopped cs d j code o.calm p) o.held;
   value = opens_cut cs d.face j code o.calm.rests (from_less 80 400 cs (omega arith) a) ∙ o.value;
   file = o.file;
-  version = o.version;
   may = inl refl;
   group = refl;
 }
@@ -172,13 +167,13 @@ synced cs f = ap (λ (g : Face). g.waiting) (after_all_append cs (Sync ∷ []) f
 abbrev pub quiet_disk : Face → Disk
 quiet_disk f = record { face = f; fate = record { fuse = None; made = 0; failing = []; dead = false }; beside = nothing_beside }
 
-pub written_held : (d x : Lying) (m q : Member) (at : ℕ) → length q.kept ≡ 64 → q.last.fields.cluster ≡ m.last.fields.cluster → ((slot : ℕ) → slot < 64 → at ≢ slot → get_or q.kept slot None ≡ get_or m.kept slot None)
-    → ((slot : ℕ) → slot < 64 → at ≢ slot → held_at x.held slot ≡ held_at d.held slot) → ((g : Header) → get_or q.kept at None ≡ Some g → HoldsEntry q.last.fields.cluster g (held_at x.held at)) → IsHeld d m → IsHeld x q
-written_held d x m q at n c k s own h = record {
+pub written_held : (d x : Lying) (m q : Member) (at : ℕ) → x.version ≡ d.version → length q.kept ≡ 64 → q.last.fields.cluster ≡ m.last.fields.cluster → ((slot : ℕ) → slot < 64 → at ≢ slot → get_or q.kept slot None ≡ get_or m.kept slot None)
+    → ((slot : ℕ) → slot < 64 → at ≢ slot → held_at x.held slot ≡ held_at d.held slot) → ((g : Header) → get_or q.kept at None ≡ Some g → HoldsEntry x.version q.last.fields.cluster g (held_at x.held at)) → IsHeld d m → IsHeld x q
+written_held d x m q at f n c k s own h = record {
   count = n;
   each = λ slot g l e. elim (cases_eq at slot) [
-    | inl same ↦ subst (λ (slot : ℕ). HoldsEntry q.last.fields.cluster g (held_at x.held slot)) same (own g (subst (λ (slot : ℕ). get_or q.kept slot None ≡ Some g) (sym same) e))
-    | inr other ↦ holds_as g (sym (s slot l other)) (sym c) (h.each slot g l (sym (k slot l other) ∙ e))
+    | inl same ↦ subst (λ (slot : ℕ). HoldsEntry x.version q.last.fields.cluster g (held_at x.held slot)) same (own g (subst (λ (slot : ℕ). get_or q.kept slot None ≡ Some g) (sym same) e))
+    | inr other ↦ holds_as g (sym (s slot l other)) (sym f) (sym c) (h.each slot g l (sym (k slot l other) ∙ e))
   ];
 }
 
@@ -212,7 +207,7 @@ slot_less h = omega arith
 
 -- written to the end
 pub stored_on : (cs : List Call) (d : Lying) (m q : Member) (e : Whole) (mid : Option Header) → IsOn d m → AllByRecursion IsCall cs → AllByRecursion (From 80) cs → (after_all d.face cs).waiting ≡ []
-    → ((slot : ℕ) → slot < 64 → slot_of e.header ≢ slot → AllByRecursion (AllApart d.version slot) cs) → IsWhole e → e.header.cluster ≡ m.last.fields.cluster → e.header.version ≤ 1 → held_after_all d.version d.face cs (slot_of e.header) (held_at d.held (slot_of e.header)) ≡ Some (prepare_bytes e)
+    → ((slot : ℕ) → slot < 64 → slot_of e.header ≢ slot → AllByRecursion (AllApart d.version slot) cs) → IsWhole e → e.header.cluster ≡ m.last.fields.cluster → e.header.version ≤ d.version → held_after_all d.version d.face cs (slot_of e.header) (held_at d.held (slot_of e.header)) ≡ Some (prepare_bytes e)
     → q ≡ record m { kept = set (set m.kept (slot_of e.header) mid) (slot_of e.header) (Some e.header) } → IsOn (after_calls d cs) q
 stored_on cs d m q e mid o k a r apart w own few held is =
     let at = slot_of e.header in
@@ -222,12 +217,11 @@ stored_on cs d m q e mid o k a r apart w own few held is =
     let p : Member = record m { kept = ks } in
     subst (IsOn (after_calls d cs)) (sym is) (let x : IsOn (after_calls d cs) p = record {
       calm = calm_after cs d o.calm k r;
-      held = written_held d (after_calls d cs) m p at n refl (λ slot b c. set_other (set m.kept at mid) at (Some e.header) slot c ∙ set_other m.kept at mid slot c) (others_after cs d at o.calm apart)
-          (λ g i. let one = some_header e.header g (sym (get_or-set_same (set m.kept at mid) at (Some e.header) None l) ∙ i) in record { entry = e; whole = w; header = one; group = ap (λ (h : Header). h.cluster) (sym one) ∙ own; version = subst (λ (h : Header). h.version ≤ 1) one few; there = at_slot (λ slot. held_after_all d.version d.face cs slot (held_at d.held slot)) at (slot_less e.header) ∙ held })
+      held = written_held d (after_calls d cs) m p at refl n refl (λ slot b c. set_other (set m.kept at mid) at (Some e.header) slot c ∙ set_other m.kept at mid slot c) (others_after cs d at o.calm apart)
+          (λ g i. let one = some_header e.header g (sym (get_or-set_same (set m.kept at mid) at (Some e.header) None l) ∙ i) in record { entry = e; whole = w; header = one; group = ap (λ (h : Header). h.cluster) (sym one) ∙ own; version = subst (λ (h : Header). h.version ≤ d.version) one few; there = at_slot (λ slot. held_after_all d.version d.face cs slot (held_at d.held slot)) at (slot_less e.header) ∙ held })
           o.held;
       value = opens_after cs d.face a ∙ o.value;
       file = o.file;
-      version = o.version;
       under = o.under;
     } in x)
 
@@ -235,7 +229,7 @@ stored_on cs d m q e mid o k a r apart w own few held is =
 pub begun_off : (cs : List Call) (d : Lying) (m q : Member) (h : Header) (again : Bool) (j code : ℕ) → IsOn d m → AllByRecursion IsCall cs → AllByRecursion (From 80) cs → j < length cs
     → ((slot : ℕ) → slot < 64 → slot_of h ≢ slot → AllByRecursion (AllApart d.version slot) cs)
     → ((slot : ℕ) → slot < 64 → Stands d.version m.last.fields.mode (cut j code d.face cs) slot (held_cut d.version j code d.face cs slot (held_at d.held slot)))
-    → (again ≡ true → HoldsEntry m.last.fields.cluster h (held_at d.held (slot_of h)) → held_cut d.version j code d.face cs (slot_of h) (held_at d.held (slot_of h)) ≡ held_at d.held (slot_of h))
+    → (again ≡ true → HoldsEntry d.version m.last.fields.cluster h (held_at d.held (slot_of h)) → held_cut d.version j code d.face cs (slot_of h) (held_at d.held (slot_of h)) ≡ held_at d.held (slot_of h))
     → q ≡ record m { kept = set m.kept (slot_of h) (kept_under again h (kept_at m h.op)) } → IsOff (cut_calls j code d cs) q m.last
 begun_off cs d m q h again j code o k a l apart stands lasts is =
     let at = slot_of h in
@@ -247,16 +241,15 @@ begun_off cs d m q h again j code o k a l apart stands lasts is =
     let less : at < length m.kept = let y = o.held.count in let less = slot_less h in omega (arith, y, less) in
     subst (λ (q : Member). IsOff x q m.last) (sym is) (let y : IsOff x p m.last = record {
       calm = calm_cut cs d j code o.calm k l stands;
-      held = written_held d x m p at n refl (λ slot b c. set_other m.kept at u slot c) (others_cut cs d j code at o.calm apart)
+      held = written_held d x m p at refl n refl (λ slot b c. set_other m.kept at u slot c) (others_cut cs d j code at o.calm apart)
           (λ g i.
           let under = under_is again h g (kept_at m h.op) (sym (get_or-set_same m.kept at u None less) ∙ i) in
-          let was : HoldsEntry m.last.fields.cluster g (held_at d.held at) = o.held.each at g (slot_less h) under.1 in
-          let same : held_at x.held at ≡ held_at d.held at = at_slot (λ slot. held_cut d.version j code d.face cs slot (held_at d.held slot)) at (slot_less h) ∙ lasts under.0 (subst (λ (g : Header). HoldsEntry m.last.fields.cluster g (held_at d.held at)) under.2 was) in
-          subst (HoldsEntry m.last.fields.cluster g) (sym same) was)
+          let was : HoldsEntry d.version m.last.fields.cluster g (held_at d.held at) = o.held.each at g (slot_less h) under.1 in
+          let same : held_at x.held at ≡ held_at d.held at = at_slot (λ slot. held_cut d.version j code d.face cs slot (held_at d.held slot)) at (slot_less h) ∙ lasts under.0 (subst (λ (g : Header). HoldsEntry d.version m.last.fields.cluster g (held_at d.held at)) under.2 was) in
+          subst (HoldsEntry d.version m.last.fields.cluster g) (sym same) was)
           o.held;
       value = opens_cut cs d.face j code o.calm.rests a ∙ o.value;
       file = o.file;
-      version = o.version;
       may = inl refl;
       group = refl;
     } in y)

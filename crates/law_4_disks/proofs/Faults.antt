@@ -146,10 +146,10 @@ module _ (d : Lying) (x : Fault) (t : keeps_premise d (faulted d.face x) ≡ tru
   lie_on q o =
       let j : mode ≡ q.last.fields.mode = judged d.face q.last o.value in
       let was : IsCalm mode d = subst (λ (m : Mode). IsCalm m d) (sym j) o.calm in
-      record { calm = subst (λ (m : Mode). IsCalm m (lied_to d (faulted d.face x))) j (calm was); held = held q was o.held; value = kept.opens ∙ o.value; file = o.file; version = o.version; under = o.under }
+      record { calm = subst (λ (m : Mode). IsCalm m (lied_to d (faulted d.face x))) j (calm was); held = held q was o.held; value = kept.opens ∙ o.value; file = o.file; under = o.under }
 
   pub lie_off : (q : Member) (v : SuperValue) → IsOff d q v → IsOff (lied_to d (faulted d.face x)) q v
   lie_off q v o =
       let j : mode ≡ v.fields.mode = judged d.face v o.value in
       let was : IsCalm mode d = subst (λ (m : Mode). IsCalm m d) (sym j) o.calm in
-      record { calm = subst (λ (m : Mode). IsCalm m (lied_to d (faulted d.face x))) j (calm was); held = held q was o.held; value = kept.opens ∙ o.value; file = o.file; version = o.version; may = o.may; group = o.group }
+      record { calm = subst (λ (m : Mode). IsCalm m (lied_to d (faulted d.face x))) j (calm was); held = held q was o.held; value = kept.opens ∙ o.value; file = o.file; may = o.may; group = o.group }

@@ -2,11 +2,10 @@
 use Rattle.std.proofs.Common.{ℕ, zero, suc, ◌+◌, ◌*◌, ◌^◌, ◌≤◌, ◌<◌, ◌≡◌, arith, refl, sym, ap, ◌∙◌, subst, inl, inr, List, [], ◌∷◌, ◌++◌, length, map, Option, Some, None}
 use Rattle.std.specs.Prelude.{replicate, slice_get}
 use Rattle.std.specs.List.{range_with_len}
-use Rattle.std.proofs.lemmas.Bool.{cases_eq, cases_lt, le-leb, lt-ltb}
+use Rattle.std.proofs.lemmas.Bool.{cases_eq, cases_lt}
 use Rattle.std.proofs.lemmas.List.{append-nil, get_or-replicate, get_or_past, length-replicate, take_all}
 use Rattle.std.proofs.lemmas.List.FromFn.{get_or-map-range_with_len, length-map-range_with_len}
 use Rattle.std.proofs.lemmas.Option.{slice_get_within, slice_get-get_or}
-use Rattle.vr_base.proofs.AreBytes.{IsBytes-zeros}
 use Rattle.vr_base.specs.declared.kind.Kind.{Kind}
 use Rattle.vr_base.specs.declared.mode.Mode.{Mode}
 use Rattle.vr_disk.specs.DiskState.{Call, Face, IsCell, IsContent, IsFace, Sync, after, after_all}
@@ -16,7 +15,7 @@ use Rattle.vr_disk.proofs.Together.{after_all_append, length_after_all, together
 use Rattle.vr_header.specs.declared.header.Header.{Header}
 use Rattle.vr_mem.specs.Seen.{copies}
 use Rattle.vr_mem.specs.Seen as mem
-use Rattle.vr_lie.specs.Copies.{IsGood, SuperValue, are_listed, copy_bytes, good_fields}
+use Rattle.vr_lie.specs.Copies.{IsGood, SuperValue, copy_bytes}
 use Rattle.vr_lie.specs.Opens.{copy_reading, good_copies, good_copy, opened, opens}
 use Rattle.vr_lie.specs.Calls.{copy_calls, save_from}
 use Rattle.vr_lie.proofs.Best.{opened_among, opened_some}
@@ -28,7 +27,7 @@ use Rattle.vr_lie.specs.Laws.{AllStand}
 use Rattle.vr_lie.proofs.Calls.{empty_at, new_table}
 use Rattle.vr_lie.proofs.Premise.{none_stands}
 use Rattle.vr_world.specs.Replica.{Replica}
-use Rattle.vr_world.specs.Opening.{blank, first_value, fresh}
+use Rattle.vr_world.specs.Opening.{AreKinds, IsKind, blank, first_value, fresh}
 use Rattle.vr_world.specs.Lying.{Lying, blank_lying, hazards, zero_cell, zero_face}
 use Rattle.vr_world.specs.Formatting.{format_calls, reserved_headers, zero_prepares, zero_sector}
 use Rattle.vr_world.specs.World as world
@@ -36,9 +35,10 @@ use Rattle.vr_world.specs.Group as group
 use Rattle.vr_world.specs.Group.{fresh_group}
 use Rattle.law_4_disks.specs.Beside.{IsCalm, IsOn}
 use Rattle.law_4_disks.specs.Laws.{SchedulesBegin, WorldsBegin}
+use Rattle.vr_world.proofs.FitFresh.{fresh_fits}
 use Rattle.vr_world.proofs.FitGroups.{fresh_group_fits}
 use Rattle.law_4_disks.specs.Worlds.{AreBeside, Stands as Beside, first_host, first_world}
-use Rattle.law_4_disks.proofs.Calls.{format_are}
+use Rattle.law_4_disks.proofs.Calls.{format_are, format_is}
 use Rattle.law_4_disks.specs.Stocks.{IsStocked, IsStockedGroup}
 use Rattle.law_4_disks.proofs.States.{state_empty}
 use Rattle.law_4_disks.proofs.Effects.{at_slot, calm_after}
@@ -71,17 +71,17 @@ zero_is : zero_face ≡ record { cells = copies sectors mem.zero_cell; waiting =
 unfolding copies mem.zero_cell
 zero_is = refl
 
-zero_stands : (mode : Mode) (slot : ℕ) → slot < 64 → Stands 1 mode zero_face slot None
-zero_stands mode slot l =
+zero_stands : (v : ℕ) (mode : Mode) (slot : ℕ) → slot < 64 → Stands v mode zero_face slot None
+zero_stands v mode slot l =
     let held : List (Option (List ℕ)) = replicate 64 None in
-    let all : AllStand 1 mode zero_face held = none_stands 1 zero_face held (new_table 1 zero_face held zero_is refl) (λ s b. empty_at 64 s) in
-    subst (Stands 1 mode zero_face slot) (empty_at 64 slot) (all.each slot l)
+    let all : AllStand v mode zero_face held = none_stands v zero_face held (new_table v zero_face held zero_is refl) (λ s b. empty_at 64 s) in
+    subst (Stands v mode zero_face slot) (empty_at 64 slot) (all.each slot l)
 
-empty_calm : (mode : Mode) → IsCalm mode blank_lying
-empty_calm mode = record {
+empty_calm : (v : ℕ) (mode : Mode) → IsCalm mode (blank_lying v)
+empty_calm v mode = record {
   face = zero_is_face;
   rests = refl;
-  stand = record { each = λ slot l. subst (Stands 1 mode zero_face slot) (sym (at_slot (λ slot. None) slot l)) (zero_stands mode slot l) };
+  stand = record { each = λ slot l. subst (Stands v mode zero_face slot) (sym (at_slot (λ slot. None) slot l)) (zero_stands v mode slot l) };
 }
 
 -- ---- four copies
@@ -132,57 +132,32 @@ all_open v g gv a =
       | inr a ↦ elim a [ inl e ↦ is 1 (omega arith) e | inr a ↦ elim a [ inl e ↦ is 2 (omega arith) e | inr a ↦ elim a [ inl e ↦ is 3 (omega arith) e | inr a ↦ elim a [ ] ] ] ]
     ]
 
--- ---- the first value
-
-good_first : (kind : Kind) (home n i : ℕ) → home < 2 ^ 64 → 2 ≤ n → n ≤ 6 → i < n → IsGood (first_value kind home n i)
-unfolding good_fields are_listed
-good_first kind home n i room a b l = record {
-  numbers = record {
-    sequence = omega arith;
-    cluster = room;
-    view = omega arith;
-    log_view = omega arith;
-    checkpoint = omega arith;
-    root_address = omega arith;
-    root_name = refl;
-    root_name_bytes = IsBytes-zeros 16;
-    commit = omega arith;
-    head = omega arith;
-    replica = omega arith;
-    n = omega arith;
-    version = (omega arith, omega arith);
-  };
-  fields = rw (le-leb 2 n a, le-leb n 6 b, lt-ltb i n l) refl;
-  each = tt;
-  listed = refl;
-}
-
 -- ---- a member
 
 abbrev nothing_kept : Option Header
 nothing_kept = None
 
-formatted_on : (kind : Kind) (home n i : ℕ) → home < 2 ^ 64 → 2 ≤ n → n ≤ 6 → i < n → IsOn (hazards.formatted kind home n i) (group.fresh_member kind home n i)
-unfolding format_calls
-formatted_on kind home n i room a b l =
+formatted_on : (kind : Kind) (home n i : ℕ) → IsKind kind → home < 2 ^ 64 → 2 ≤ n → n ≤ 6 → i < n → IsOn (hazards.formatted kind home n i) (group.fresh_member kind home n i)
+formatted_on kind home n i k room a b l =
     let v = first_value kind home n i in
     let cs = copy_bytes v in
-    let good = good_first kind home n i room a b l in
+    let good = (fresh_fits kind home n i k room a b l).value in
     let saves = save_from 0 4 cs in
-    let one = zero_prepares in
-    let two = reserved_headers home in
+    let one = zero_prepares kind.version in
+    let two = reserved_headers kind.version home in
     let f1 = after_all zero_face one in
     let f2 = after_all f1 two in
     let f3 = after f2 Sync in
-    let all : after_all zero_face (one ++ (two ++ Sync ∷ saves)) ≡ after_all f3 saves = after_all_append one (two ++ Sync ∷ saves) zero_face ∙ after_all_append two (Sync ∷ saves) f1 in
+    let made = format_calls kind home n i in
+    let all : after_all zero_face made ≡ after_all f3 saves =
+    ap (after_all zero_face) (format_is kind home n i) ∙ (after_all_append one (two ++ Sync ∷ saves) zero_face ∙ after_all_append two (Sync ∷ saves) f1) in
     let count : length f3.cells ≡ sectors = length_after_all two f1 ∙ (length_after_all one zero_face ∙ length-replicate sectors zero_cell) in
     let reads = copies_read 4 0 cs f3 (length-copy_bytes v good) count (omega arith) (λ c m. absurd (omega arith)) in
     record {
-      calm = calm_after (one ++ (two ++ Sync ∷ saves)) blank_lying (empty_calm kind.mode) (format_are kind home n i room good) (ap (λ (g : Face). g.waiting) all ∙ saves_rest 3 0 cs f3);
+      calm = calm_after made (blank_lying kind.version) (empty_calm kind.version kind.mode) (format_are kind home n i room good) (ap (λ (g : Face). g.waiting) all ∙ saves_rest 3 0 cs f3);
       held = record { count = length-replicate 64 (nothing_kept); each = λ slot h b e. absurd (let bad : None ≡ Some h = sym (get_or-replicate 64 slot nothing_kept None b) ∙ e in cc) };
       value = ap opens all ∙ all_open v (after_all f3 saves) good reads;
       file = refl;
-      version = refl;
       under = refl;
     }
 
@@ -193,19 +168,19 @@ fresh_saved : (kind : Kind) (home n i : ℕ) → (fresh kind home n i).saved ≡
 unfolding blank
 fresh_saved kind home n i = refl
 
-fresh_stands : (kinds : ℕ → Kind) (home n i : ℕ) → home < 2 ^ 64 → 2 ≤ n → n ≤ 6 → i < n → Beside (first_host kinds home n i) (group.fresh_member (kinds i) home n i)
-fresh_stands kinds home n i room a b l = record {
+fresh_stands : (kinds : ℕ → Kind) (home n i : ℕ) → AreKinds kinds n → home < 2 ^ 64 → 2 ≤ n → n ≤ 6 → i < n → Beside (first_host kinds home n i) (group.fresh_member (kinds i) home n i)
+fresh_stands kinds home n i k room a b l = record {
   replica = refl;
-  running = λ r e. (formatted_on (kinds i) home n i room a b l, ap (λ (r : Replica). r.saved) (sym (some_replica (fresh (kinds i) home n i) r e)) ∙ fresh_saved (kinds i) home n i);
+  running = λ r e. (formatted_on (kinds i) home n i (k i l) room a b l, ap (λ (r : Replica). r.saved) (sym (some_replica (fresh (kinds i) home n i) r e)) ∙ fresh_saved (kinds i) home n i);
   stopped = λ e. absurd (let bad : Some (fresh (kinds i) home n i) ≡ None = e in cc);
 }
 
 pub some_world : (a b : world.Host Lying) → Some a ≡ Some b → a ≡ b
 some_world a b e = cc
 
-pub fresh_beside : (kinds : ℕ → Kind) (home n : ℕ) → home < 2 ^ 64 → 2 ≤ n → n ≤ 6 → AreBeside (first_world kinds home n) (fresh_group kinds home n)
+pub fresh_beside : (kinds : ℕ → Kind) (home n : ℕ) → AreKinds kinds n → home < 2 ^ 64 → 2 ≤ n → n ≤ 6 → AreBeside (first_world kinds home n) (fresh_group kinds home n)
 unfolding first_world fresh_group
-fresh_beside kinds home n room a b = record {
+fresh_beside kinds home n k room a b = record {
   n = refl;
   sent = refl;
   count = length-map-range_with_len (λ i. group.fresh_member (kinds i) home n i) 0 n ∙ sym (length-map-range_with_len (first_host kinds home n) 0 n);
@@ -218,7 +193,7 @@ fresh_beside kinds home n room a b = record {
       let l : i < n = omega (arith, size, within) in
       let is : m ≡ f i = some_world m (f i) (sym e ∙ (slice_get-get_or (map f (range_with_len 0 n)) i m within ∙ ap Some (get_or-map-range_with_len f 0 n i i m l (omega arith)))) in
       let there : slice_get (map h (range_with_len 0 n)) i ≡ Some (h i) = slice_get-get_or (map h (range_with_len 0 n)) i (h i) (omega (arith, size2, l)) ∙ ap Some (get_or-map-range_with_len h 0 n i i (h i) l (omega arith)) in
-      (h i, there, subst (λ (m : world.Host Lying). Beside m (h i)) (sym is) (fresh_stands kinds home n i room a b l));
+      (h i, there, subst (λ (m : world.Host Lying). Beside m (h i)) (sym is) (fresh_stands kinds home n i k room a b l));
 }
 
 fresh_stocked : (kind : Kind) (home n i : ℕ) → IsStocked (fresh kind home n i)
@@ -247,7 +222,7 @@ unfolding fresh_group
 none_made kinds home n = refl
 
 pub worlds_begin : WorldsBegin
-worlds_begin kinds home n room a b = record { beside = fresh_beside kinds home n room a b; fit = fresh_group_fits kinds home n room a b; stock = group_stocked kinds home n }
+worlds_begin kinds home n k room a b = record { beside = fresh_beside kinds home n k room a b; fit = fresh_group_fits kinds home n k room a b; stock = group_stocked kinds home n }
 
 pub schedules_begin : SchedulesBegin
 unfolding world.fresh_world first_world

@@ -1,5 +1,5 @@
 -- A script whose saves chain, and whose effects have their forms, may go.
-use Rattle.std.proofs.Common.{ℕ, ◌≡◌, refl, sym, ap, ◌∙◌, subst, Bool, true, false, cond, List, [], ◌∷◌}
+use Rattle.std.proofs.Common.{arith, ℕ, ◌≡◌, refl, sym, ap, ◌∙◌, subst, Bool, true, false, cond, List, [], ◌∷◌}
 use Rattle.vr_header.specs.declared.header.Header.{Header}
 use Rattle.vr_header.specs.Made.{Whole}
 use Rattle.vr_header.specs.declared.part.Part.{Part}
@@ -56,20 +56,20 @@ write_are : (v : ℕ) (again : Bool) (e : Whole) → IsWhole e → AreCalls (con
 write_are v true e w = again_are v e w
 write_are v false e w = new_are v e w
 
-pub known_goes : (P Q : List ℕ → Type 0) (home n i : ℕ) (es : List Effect) (d : Lying) (v u : SuperValue) → IsGood v → Chain v es u → Known home n i es → AllByRecursion (WritesBlocks P Q) es → Rewrites home es d → GoesWell home es d
-known_goes P Q home n i [] d v u g c k b w = tt
-known_goes P Q home n i (Write again e ∷ es) d v u g c k b w =
-    let one = known_first home n i (Write again e) es k in ((one.0, one.2.0, one.2.1), write_are d.version again e one.0, known_goes P Q home n i es (lying.after d (Write again e)) v u g c (known_rest home n i (Write again e) es k) b.1 w.1)
-known_goes P Q home n i (Rewrite h ∷ es) d v u g c k b w =
-    (w.0, header_are h (known_first home n i (Rewrite h) es k).0, known_goes P Q home n i es (lying.after d (Rewrite h)) v u g c (known_rest home n i (Rewrite h) es k) b.1 w.1)
-known_goes P Q home n i (Save old new ∷ es) d v u g c k b w =
-    let one = known_first home n i (Save old new) es k in
-    ((one.1, one.2.cluster), save_are old new d.face (subst IsGood (sym c.0) g) one.1, known_goes P Q home n i es (lying.after d (Save old new)) new u one.1 c.2 (known_rest home n i (Save old new) es k) b.1 w.1)
-known_goes P Q home n i (Mend x ∷ es) d v u g c k b w =
-    (tt, mend_are x d.face (known_first home n i (Mend x) es k).0, known_goes P Q home n i es (lying.after d (Mend x)) v u g c.1 (known_rest home n i (Mend x) es k) b.1 w.1)
-known_goes P Q home n i (Checkpoint t x o p ∷ es) d v u g c k b w = (tt, b.0.0, known_goes P Q home n i es (lying.after d (Checkpoint t x o p)) v u g c (known_rest home n i (Checkpoint t x o p) es k) b.1 w.1)
-known_goes P Q home n i (PutBlock m x ∷ es) d v u g c k b w = (tt, b.0.0, known_goes P Q home n i es (lying.after d (PutBlock m x)) v u g c (known_rest home n i (PutBlock m x) es k) b.1 w.1)
-known_goes P Q home n i (Say o ∷ es) d v u g c k b w = (tt, tt, known_goes P Q home n i es (lying.after d (Say o)) v u g c (known_rest home n i (Say o) es k) b.1 w.1)
+pub known_goes : (P Q : List ℕ → Type 0) (home n i ed : ℕ) (es : List Effect) (d : Lying) (v u : SuperValue) → d.version ≡ ed → IsGood v → Chain v es u → Known home n i ed es → AllByRecursion (WritesBlocks P Q) es → Rewrites home es d → GoesWell home es d
+known_goes P Q home n i ed [] d v u f g c k b w = tt
+known_goes P Q home n i ed (Write again e ∷ es) d v u f g c k b w =
+    let one = known_first home n i ed (Write again e) es k in ((one.0, one.2.0, (let few = one.2.1 in omega (arith, few, f))), write_are d.version again e one.0, known_goes P Q home n i ed es (lying.after d (Write again e)) v u f g c (known_rest home n i ed (Write again e) es k) b.1 w.1)
+known_goes P Q home n i ed (Rewrite h ∷ es) d v u f g c k b w =
+    (w.0, header_are h (known_first home n i ed (Rewrite h) es k).0, known_goes P Q home n i ed es (lying.after d (Rewrite h)) v u f g c (known_rest home n i ed (Rewrite h) es k) b.1 w.1)
+known_goes P Q home n i ed (Save old new ∷ es) d v u f g c k b w =
+    let one = known_first home n i ed (Save old new) es k in
+    ((one.1, one.2.cluster), save_are old new d.face (subst IsGood (sym c.0) g) one.1, known_goes P Q home n i ed es (lying.after d (Save old new)) new u f one.1 c.2 (known_rest home n i ed (Save old new) es k) b.1 w.1)
+known_goes P Q home n i ed (Mend x ∷ es) d v u f g c k b w =
+    (tt, mend_are x d.face (known_first home n i ed (Mend x) es k).0, known_goes P Q home n i ed es (lying.after d (Mend x)) v u f g c.1 (known_rest home n i ed (Mend x) es k) b.1 w.1)
+known_goes P Q home n i ed (Checkpoint t x o p ∷ es) d v u f g c k b w = (tt, b.0.0, known_goes P Q home n i ed es (lying.after d (Checkpoint t x o p)) v u f g c (known_rest home n i ed (Checkpoint t x o p) es k) b.1 w.1)
+known_goes P Q home n i ed (PutBlock m x ∷ es) d v u f g c k b w = (tt, b.0.0, known_goes P Q home n i ed es (lying.after d (PutBlock m x)) v u f g c (known_rest home n i ed (PutBlock m x) es k) b.1 w.1)
+known_goes P Q home n i ed (Say o ∷ es) d v u f g c k b w = (tt, tt, known_goes P Q home n i ed es (lying.after d (Say o)) v u f g c (known_rest home n i ed (Say o) es k) b.1 w.1)
 
 -- ---- what an opening finds keeps the value
 

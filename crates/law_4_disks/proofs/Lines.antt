@@ -32,6 +32,8 @@ use Rattle.vr_base.specs.Bytes.{IsBytes}
 use Rattle.vr_header.specs.NoCollision.{NoCollision}
 use Rattle.vr_lie.specs.Copies.{IsGood}
 use Rattle.vr_world.specs.Group.{made_in}
+use Rattle.vr_world.specs.Files.{IsFileAt, IsOfFile}
+use Rattle.vr_world.specs.Own.{IsAt}
 use Rattle.vr_world.specs.GroupFit.{IsFitArrival, IsFitGroup, IsFitMove}
 use Rattle.vr_world.proofs.FitLies.{lies_fit}
 use Rattle.vr_world.proofs.FitGroups.{Known, arrives, groups_fit, step_is}
@@ -107,17 +109,18 @@ stayed w g i m q a b at there s e = record {
 
 pub no_move : {home : ℕ} (fs : List Lying) (g : Group) (h : Happened Lying) → IsFitGroup home g → IsStockedGroup g → AreBeside h.world g → Said h.outputs [] → IsMatchedBy home [] fs g h
 unfolding run_outputs made_in
-no_move {home} fs g h f k b s = record { matched = record { run = []; is = Run.ended g; reads = All-nil (λ (p : Played). IsFitMove p.move); bytes = All-nil (λ (p : Played). IsOfBytes p.move); beside = b; said = s }; one = unmoved refl; fit = f; stock = k; made = sym (append-nil g.made) }
+no_move {home} fs g h f k b s = record { matched = record { run = []; is = Run.ended g; reads = All-nil (λ (p : Played). IsFitMove p.move); bytes = All-nil (λ (p : Played). IsOfBytes p.move); files = All-nil (λ (p : Played). IsOfFile p.before p.move); beside = b; said = s }; one = unmoved refl; fit = f; stock = k; made = sym (append-nil g.made) }
 
-pub one_move : {home : ℕ} (es : List Effect) (fs : List Lying) (g : Group) (h : Happened Lying) (x : Move) (y : Moved) → IsFitGroup home g → IsFitMove x → IsOfBytes x → IsStockedGroup y.group → Moves g x y → AreBeside h.world y.group → Said h.outputs y.outputs → y.group.made ≡ g.made ++ made_in es
+pub one_move : {home : ℕ} (es : List Effect) (fs : List Lying) (g : Group) (h : Happened Lying) (x : Move) (y : Moved) → IsFitGroup home g → IsFitMove x → IsOfBytes x → IsOfFile g x → IsStockedGroup y.group → Moves g x y → AreBeside h.world y.group → Said h.outputs y.outputs → y.group.made ≡ g.made ++ made_in es
     → y.script ≡ es → (disks_of x ≡ []) ⊎ (disks_of x ≡ fs) → IsMatchedBy home es fs g h
 unfolding run_outputs
-one_move {home} es fs g h x y f well bytes stock move b s made script faces = record {
+one_move {home} es fs g h x y f well bytes file stock move b s made script faces = record {
   matched = record {
     run = record { before = g; move = x; moved = y } ∷ [];
     is = Run.goes g x y [] move (Run.ended y.group);
     reads = All-cons (λ (p : Played). IsFitMove p.move) (record { before = g; move = x; moved = y }) [] well (All-nil (λ (p : Played). IsFitMove p.move));
     bytes = All-cons (λ (p : Played). IsOfBytes p.move) (record { before = g; move = x; moved = y }) [] bytes (All-nil (λ (p : Played). IsOfBytes p.move));
+    files = All-cons (λ (p : Played). IsOfFile p.before p.move) (record { before = g; move = x; moved = y }) [] file (All-nil (λ (p : Played). IsOfFile p.before p.move));
     beside = b;
     said = subst (Said h.outputs) (sym (append-nil y.outputs)) s;
   };
@@ -126,6 +129,10 @@ one_move {home} es fs g h x y f well bytes stock move b s made script faces = re
   stock = stock;
   made = made;
 }
+
+-- the file of the member at a place
+file_at : (g : Group) (i : ℕ) (q : group.Member) (d : Lying) → slice_get g.members i ≡ Some q → d.version ≡ q.last.fields.version → IsFileAt g i d
+file_at g i q d there f m e = f ∙ ap (λ (m : group.Member). m.last.fields.version) (some_group q m (sym there ∙ e))
 
 pub said_same : (os : List Output) → Said os os
 said_same os = subst (λ (x : List Output). Said x x) (append-nil os) (both os [] [] none)
@@ -144,8 +151,8 @@ well_of home s d q v e own c g =
 
 -- what is known of the script by which a replica handles an event
 pub record HandlesWell (home : ℕ) (e : Event) (r : Replica) (d : Lying) (q : group.Member) (n i : ℕ) : Type 0 where
-  pub known : Known home n i (react e lying r d).script
-  pub at : At r d
+  pub known : Known home n i d.version (react e lying r d).script
+  pub at : At d.version r d
   pub leaves : Leaves IsBytes IsBytes home (react e) r d
   pub well : StepsWell (react e lying r d) d q
 
@@ -156,10 +163,10 @@ reads_bytes (event.Request q) = tt
 reads_bytes event.Tick = tt
 
 pub on_running : (d : Lying) (q : group.Member) (r : Option Replica) → IsOn d q → IsOn d (record q { replica = r })
-on_running d q r o = record { calm = o.calm; held = record { count = o.held.count; each = o.held.each }; value = o.value; file = o.file; version = o.version; under = o.under }
+on_running d q r o = record { calm = o.calm; held = record { count = o.held.count; each = o.held.each }; value = o.value; file = o.file; under = o.under }
 
 pub off_stopped : (d : Lying) (q : group.Member) (r : Option Replica) (v : SuperValue) → IsOff d q v → IsOff d (record q { replica = r }) v
-off_stopped d q r v o = record { calm = o.calm; held = record { count = o.held.count; each = o.held.each }; value = o.value; file = o.file; version = o.version; may = o.may; group = o.group }
+off_stopped d q r v o = record { calm = o.calm; held = record { count = o.held.count; each = o.held.each }; value = o.value; file = o.file; may = o.may; group = o.group }
 
 pub some_replica : (a b : Replica) → Some a ≡ Some b → a ≡ b
 some_replica a b e = cc
@@ -183,7 +190,7 @@ halted_stands i m q s u n v o = record {
 }
 
 pub running_off : (d : Lying) (q : group.Member) → IsOn d q → IsOff d q q.last
-running_off d q o = record { calm = o.calm; held = o.held; value = o.value; file = o.file; version = o.version; may = inl refl; group = refl }
+running_off d q o = record { calm = o.calm; held = o.held; value = o.value; file = o.file; may = inl refl; group = refl }
 
 -- ---- what is known of the work of a line
 
@@ -250,7 +257,7 @@ module _ {home : ℕ} (w : World Lying) (g : Group) (i : ℕ) (m : world.Host Ly
       let h = with_member w i a in
       let runs : Runs g i q r = record { member = there; running = s.replica ∙ run } in
       let on = (s.running r run).0 in
-      one_move x.script (m.disk ∷ []) g h (Move.Steps i arrival e m.disk) (finished g i q (stepped e r m.disk)) fits (fit, lies_fit.reads m.disk on.calm.face) on.calm.face (stock_moves g i q p x.script (steps.outputs x.script) stock there (λ y h. runs_one x.replica y leaves.stock h) (outputs_given IsBytes IsBytes x.script leaves.blocks)) (Moves.steps i arrival e m.disk q r runs arrives)
+      one_move x.script (m.disk ∷ []) g h (Move.Steps i arrival e m.disk) (finished g i q (stepped e r m.disk)) fits (fit, lies_fit.reads m.disk on.calm.face) on.calm.face (file_at g i q m.disk there on.file) (stock_moves g i q p x.script (steps.outputs x.script) stock there (λ y h. runs_one x.replica y leaves.stock h) (outputs_given IsBytes IsBytes x.script leaves.blocks)) (Moves.steps i arrival e m.disk q r runs arrives)
       (placed w g i m q p a x.script (steps.outputs x.script) b at there (went_stands m q x fuse on well) refl) (said_same (steps.outputs x.script)) refl refl (inr refl)
 
   step_halts : (arrival : Arrival) (e : Event) (r : Replica) (u : Fuse) → m.replica ≡ Some r → IsArrival g i arrival e → IsFitArrival arrival → StepsWell (react e lying r m.disk) m.disk q → u.calls < length (script_calls m.disk.version (react e lying r m.disk).script m.disk.face)
@@ -264,7 +271,7 @@ module _ {home : ℕ} (w : World Lying) (g : Group) (i : ℕ) (m : world.Host Ly
       let a = halted hazards i m x u in
       let h = with_member w i a in
       let runs : Runs g i q r = record { member = there; running = s.replica ∙ run } in
-      one_move (begun_by (Some u) x.script m.disk) (m.disk ∷ []) g h (Move.Cuts i arrival e m.disk c.effects) (cut_short g i q (stepped e r m.disk) c.effects) fits (fit, lies_fit.reads m.disk on.calm.face) on.calm.face (stock_moves g i q p (take (c.effects + 1) x.script) [] stock there none_runs (none_sent IsBytes)) (Moves.cuts i arrival e m.disk c.effects q r runs arrives)
+      one_move (begun_by (Some u) x.script m.disk) (m.disk ∷ []) g h (Move.Cuts i arrival e m.disk c.effects) (cut_short g i q (stepped e r m.disk) c.effects) fits (fit, lies_fit.reads m.disk on.calm.face) on.calm.face (file_at g i q m.disk there on.file) (stock_moves g i q p (take (c.effects + 1) x.script) [] stock there none_runs (none_sent IsBytes)) (Moves.cuts i arrival e m.disk c.effects q r runs arrives)
       (placed w g i m q p a (take (c.effects + 1) x.script) [] b at there (halted_stands i m q x u c.effects c.value c.off) refl) (aside (output.Halted i) [] [] tt none)
       (ap (λ (es : List Effect). g.made ++ made_in es) (begun_cut x.script m.disk u c.effects c.begun)) (begun_cut x.script m.disk u c.effects c.begun) (inr refl)
 
@@ -289,13 +296,15 @@ module _ {home : ℕ} (w : World Lying) (g : Group) (i : ℕ) (m : world.Host Ly
       let saved = (s.running r run).1 in
       let is = fits.members i q there in
       let runs = is.running r (s.replica ∙ run) in
+      let file : d.version ≡ is.edition = on.file ∙ is.last.1.version in
+      let place : IsAt home g.n i d.version r = subst (λ (k : ℕ). IsAt home g.n i k r) (sym file) runs.1 in
       let event = arrives home g i arrival e fits fit arrive in
-      let step = step_is home g.n i r e d runs.0 runs.1 event (lies_fit.reads d on.calm.face) in
+      let step = step_is home g.n i d.version r e d runs.0 place event (lies_fit.reads d on.calm.face) in
       let good : IsGood r.saved = subst IsGood (sym saved) is.last.0 in
       let chain = (c_react e).each lying r d in
-      let here : At r d = record { face = on.calm.face; good = good; stock = stock.running i q r there (s.replica ∙ run) } in
-      let leaves = (v_react {P = IsBytes} {Q = IsBytes} e given given (reads_bytes e)).each g.n i r d here runs.0.sound runs.1 step.known in
-      let goes = known_goes IsBytes IsBytes home g.n i x.script d r.saved x.replica.saved good chain step.known leaves.blocks leaves.rewrites in
+      let here : At d.version r d = record { face = on.calm.face; file = refl; good = good; stock = stock.running i q r there (s.replica ∙ run) } in
+      let leaves = (v_react {P = IsBytes} {Q = IsBytes} e given given (reads_bytes e)).each g.n i d.version r d here runs.0.sound place step.known in
+      let goes = known_goes IsBytes IsBytes home g.n i d.version x.script d r.saved x.replica.saved refl good chain step.known leaves.blocks leaves.rewrites in
       record { known = step.known; at = here; leaves = leaves; well = well_of home x d q r.saved saved is.last.1.cluster chain goes }
 
   handle_by : (arrival : Arrival) (e : Event) (r : Replica) → m.replica ≡ Some r → IsArrival g i arrival e → IsFitArrival arrival → IsGivenEvent IsBytes e → WorksWell (stepping e m r)
@@ -324,7 +333,7 @@ module _ {home : ℕ} (w : World Lying) (g : Group) (i : ℕ) (m : world.Host Ly
       ] in
       let y = off m.replica refl in
       let stands : Stands a.member p = record { replica = refl; running = λ r e. absurd (let bad : None ≡ Some r = e in cc); stopped = λ e. (y.0, off_stopped m.disk q None y.0 y.1) } in
-      one_move [] [] g (with_member w i a) (Move.Crashes i) (with_script g i p [] []) fits tt tt (stock_moves g i q p [] [] stock there none_runs (none_sent IsBytes)) (Moves.crashes i q there) (placed w g i m q p a [] [] b at there stands refl) none refl refl (inl refl)
+      one_move [] [] g (with_member w i a) (Move.Crashes i) (with_script g i p [] []) fits tt tt tt (stock_moves g i q p [] [] stock there none_runs (none_sent IsBytes)) (Moves.crashes i q there) (placed w g i m q p a [] [] b at there stands refl) none refl refl (inl refl)
 
   pub fuse : (c code : ℕ) → IsMatchedBy home [] [] g (with_member w i (world.fused c code i m))
   unfolding messages

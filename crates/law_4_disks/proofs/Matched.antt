@@ -1,8 +1,8 @@
 -- Each line of a schedule is a move of the group, or none.
-use Rattle.std.proofs.Common.{◌∷◌, inr, ℕ, ◌+◌, ◌-◌, ◌%◌, ◌<◌, ◌≡◌, refl, sym, ap, ◌∙◌, subst, Bool, true, false, cond, List, [], ◌++◌, length, take, Option, Some, None}
+use Rattle.std.proofs.Common.{◌∷◌, inr, ℕ, ◌+◌, ◌-◌, ◌%◌, ◌<◌, ◌≤◌, ◌≡◌, refl, sym, ap, ◌∙◌, subst, Bool, true, false, cond, List, [], ◌++◌, length, take, Option, Some, None}
 use Rattle.std.specs.Prelude.{nat_le, slice_get}
 use Rattle.std.specs.Option.{option_map, option_map_or}
-use Rattle.std.proofs.lemmas.Bool.{eq-eqb, leb-false, leb-true}
+use Rattle.std.proofs.lemmas.Bool.{eq-eqb, le-leb, leb-false, leb-true}
 use Rattle.vr_disk.specs.DiskState.{Fuse}
 use Rattle.vr_msg.specs.declared.event.Event.TheVariants as event
 use Rattle.vr_msg.specs.declared.output.Output.TheVariants as output
@@ -32,8 +32,8 @@ use Rattle.vr_lie.specs.Copies.{IsGood}
 use Rattle.vr_lie.specs.Faults.{IsFault}
 use Rattle.vr_world.specs.Steps.{Effect, Mend}
 use Rattle.vr_world.specs.Group.{Arrival, made_in}
-use Rattle.vr_world.specs.GroupFit.{IsFitArrival, IsFitGroup}
-use Rattle.vr_world.proofs.FitLies.{lies_fit}
+use Rattle.vr_world.specs.GroupFit.{IsFitArrival, IsFitGroup, IsFitValue}
+use Rattle.vr_world.proofs.FitLies.{lies_fit, same_version}
 use Rattle.vr_world.proofs.FitGroups.{Known, good_value, known_right, start_is}
 use Rattle.law_4_disks.specs.Beside.{AreMade, Finds, IsOff, IsOn, MayGo, TellsIn}
 use Rattle.law_4_disks.specs.Naming.{IsHashedAfter}
@@ -146,7 +146,7 @@ module _ {home : ℕ} (w : World Lying) (g : Group) (i : ℕ) (m : world.Host Ly
         running = λ r e. (on_running (after_all lying d (xs ++ ys)) (carried_out ys (once_mended v d q)) (Some x.replica) on, ap (λ (r : Replica). r.saved) (sym (some_replica x.replica r e)) ∙ may.saved);
         stopped = λ e. absurd (let bad : Some x.replica ≡ None = e in cc);
       } in
-      one_move x.script (d ∷ []) g (with_member w i a) (Move.Recovers i v d) (started g i q v d) fits (lies_fit.reads d o.calm.face) o.calm.face (stock_moves g i q p x.script (steps.outputs x.script) stock there (λ y h. runs_one (resumed v d).replica y leaves.stock h) (outputs_given IsBytes IsBytes x.script (blocks_both IsBytes IsBytes xs ys still leaves.blocks))) (Moves.recovers i v d q (opens_group v run o f))
+      one_move x.script (d ∷ []) g (with_member w i a) (Move.Recovers i v d) (started g i q v d) fits (lies_fit.reads d o.calm.face) o.calm.face o.file (stock_moves g i q p x.script (steps.outputs x.script) stock there (λ y h. runs_one (resumed v d).replica y leaves.stock h) (outputs_given IsBytes IsBytes x.script (blocks_both IsBytes IsBytes xs ys still leaves.blocks))) (Moves.recovers i v d q (opens_group v run o f))
       (placed w g i m q p a x.script (steps.outputs x.script) b at there stands refl) (said_same (steps.outputs x.script)) refl refl (inr refl)
 
   start_halts : (v : SuperValue) (u : Fuse) → m.replica ≡ None → IsOff m.disk q v → Finds m.disk q v g.made → StepsWell (resumed v m.disk) (after_all lying m.disk (mended v m.disk).script) (once_mended v m.disk q) → u.calls < length (script_calls m.disk.version (opening_script v m.disk) m.disk.face)
@@ -164,7 +164,7 @@ module _ {home : ℕ} (w : World Lying) (g : Group) (i : ℕ) (m : world.Host Ly
         running = λ r e. absurd (let bad : None ≡ Some r = e in cc);
         stopped = λ e. (c.value, off_stopped (cut_calls u.calls u.code d (script_calls d.version (opening_script v d) d.face)) k None c.value c.off);
       } in
-      one_move (begun_by (Some u) x.script d) (d ∷ []) g (with_member w i a) (Move.RecoversCut i v d c.effects) (start_cut g i q v d c.effects) fits (lies_fit.reads d o.calm.face) o.calm.face (stock_moves g i q p (take (c.effects + 1) x.script) [] stock there none_runs (none_sent IsBytes)) (Moves.recovers_cut i v d c.effects q (opens_group v run o f))
+      one_move (begun_by (Some u) x.script d) (d ∷ []) g (with_member w i a) (Move.RecoversCut i v d c.effects) (start_cut g i q v d c.effects) fits (lies_fit.reads d o.calm.face) o.calm.face o.file (stock_moves g i q p (take (c.effects + 1) x.script) [] stock there none_runs (none_sent IsBytes)) (Moves.recovers_cut i v d c.effects q (opens_group v run o f))
       (placed w g i m q p a (take (c.effects + 1) x.script) [] b at there stands refl) (aside (output.Halted i) [] [] tt none) (ap (λ (es : List Effect). g.made ++ made_in es) (sym c.begun)) (sym c.begun) (inr refl)
 
   start_acts : (v : SuperValue) (fuse : Option Fuse) → m.replica ≡ None → IsOff m.disk q v → Finds m.disk q v g.made → StepsWell (resumed v m.disk) (after_all lying m.disk (mended v m.disk).script) (once_mended v m.disk q)
@@ -180,12 +180,16 @@ module _ {home : ℕ} (w : World Lying) (g : Group) (i : ℕ) (m : world.Host Ly
         | false ↦ λ t. start_halts v u run o f may (leb-false made u.calls t) (tells u refl)
       ] refl
 
+  -- the group's size is the value's
+  pub off_several : (v : SuperValue) → IsOff m.disk q v → 2 ≤ v.fields.n
+  off_several v o = let own = good_value home g.n i q v (fits.members i q there) o.may in subst (λ (k : ℕ). 2 ≤ k) (sym own.1.n) fits.several
+
   -- what the script of an opening is
   pub record StartsWell (v : SuperValue) : Type 0 where
     pub value : IsGood v
     pub finds : Finds m.disk q v g.made
-    pub known : Known home g.n i (opening_script v m.disk)
-    pub here : At (recovered v m.disk) (after_all lying m.disk (mended v m.disk).script)
+    pub known : Known home g.n i m.disk.version (opening_script v m.disk)
+    pub here : At m.disk.version (recovered v m.disk) (after_all lying m.disk (mended v m.disk).script)
     pub well : StepsWell (resumed v m.disk) (after_all lying m.disk (mended v m.disk).script) (once_mended v m.disk q)
     pub go : MayGo (opening_script v m.disk) m.disk v
 
@@ -197,16 +201,19 @@ module _ {home : ℕ} (w : World Lying) (g : Group) (i : ℕ) (m : world.Host Ly
       let mid : Lying = after_all lying d xs in
       let r = recovered v d in
       let is = fits.members i q there in
-      let value = good_value home g.n i q v is o.may in
-      let step = start_is home g.n i v d value (lies_fit.reads d o.calm.face) in
-      let f = openings_find d q v g.made o made in
-      let h = is_mended_of v d q o in
+      let own = good_value home g.n i q v is o.may in
+      let file : d.version ≡ is.edition = o.file ∙ own.1.version in
+      let value : IsFitValue home g.n i d.version v = subst (λ (k : ℕ). IsFitValue home g.n i k v) (sym file) own in
+      let step = start_is home g.n i d.version v d fits.several value (lies_fit.reads d o.calm.face) in
+      let several = off_several v o in
+      let f = openings_find d q v g.made several o made in
+      let h = is_mended_of v d q several o in
       let of = recovered_saved v d in
       let chain = c_resuming.each lying r mid in
-      let known = known_right home g.n i xs ys step.known in
-      let here : At r mid = record { face = f.on.calm.face; good = subst IsGood (sym of) value.0; stock = recovered_stocked v d } in
-      let leaves = (b_resuming {P = IsBytes} {Q = IsBytes}).each g.n i r mid here known in
-      let goes = known_goes IsBytes IsBytes home g.n i ys mid r.saved (resumed v d).replica.saved (subst IsGood (sym of) value.0) chain known leaves.blocks leaves.rewrites in
+      let known = known_right home g.n i d.version xs ys step.known in
+      let here : At d.version r mid = record { face = f.on.calm.face; file = same_version xs d; good = subst IsGood (sym of) value.0; stock = recovered_stocked v d } in
+      let leaves = (b_resuming {P = IsBytes} {Q = IsBytes}).each g.n i d.version r mid here known in
+      let goes = known_goes IsBytes IsBytes home g.n i d.version ys mid r.saved (resumed v d).replica.saved (same_version xs d) (subst IsGood (sym of) value.0) chain known leaves.blocks leaves.rewrites in
       let last = once_last v d q h in
       let well = well_of home (resumed v d) mid (once_mended v d q) r.saved (of ∙ sym last) (ap (λ (x : SuperValue). x.fields.cluster) last ∙ value.1.cluster) chain goes in
       let rest : MayGo ys mid (values xs v) = subst (MayGo ys mid) (last ∙ sym (mended_value v d q h)) well.go in
@@ -217,14 +224,14 @@ module _ {home : ℕ} (w : World Lying) (g : Group) (i : ℕ) (m : world.Host Ly
   start_by v run o made works =
       let d = m.disk in
       let h = start_well v o made in
-      let known = known_right home g.n i (mended v d).script (resumed v d).script h.known in
-      let leaves = (b_resuming {P = IsBytes} {Q = IsBytes}).each g.n i (recovered v d) (after_all lying d (mended v d).script) h.here known in
+      let known = known_right home g.n i d.version (mended v d).script (resumed v d).script h.known in
+      let leaves = (b_resuming {P = IsBytes} {Q = IsBytes}).each g.n i d.version (recovered v d) (after_all lying d (mended v d).script) h.here known in
       start_acts v m.fuse run o h.finds h.well leaves (mending_blocks IsBytes IsBytes v d) (λ u e. tells_in (opening_script v d) d v u.calls u.code o.calm.face h.go (works.names u e))
 
   pub opened_as : (v : SuperValue) → IsOff m.disk q v → opened lying m.disk ≡ Some (whole v m.disk)
   unfolding opened
   opened_as v o =
-      let is : lying.opens m.disk ≡ Some v = ap (option_and_then (of_version m.disk.version)) o.value ∙ (rw (eq-eqb v.fields.version m.disk.version (sym o.file)) refl) in
+      let is : lying.opens m.disk ≡ Some v = ap (option_and_then (of_version m.disk.version)) o.value ∙ (rw (eq-eqb v.fields.version m.disk.version (sym o.file), le-leb 2 v.fields.n (off_several v o)) refl) in
       ap (option_map (λ (v : SuperValue). opening v lying (blank v) m.disk)) is ∙ ap Some (opening_is v m.disk)
 
   start_line : (r : Option Replica) → m.replica ≡ r → ((v : SuperValue) → r ≡ None → opens m.disk.face ≡ Some v → AreMade g.made v (lying.after m.disk (Mend v))) → ((k : Work) → starting_by m r ≡ Some k → WorksWell k)

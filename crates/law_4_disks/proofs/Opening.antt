@@ -17,7 +17,7 @@ use Rattle.vr_world.specs.Opening.{blank, clouded, clouded_at, clouded_part, fir
 use Rattle.vr_world.specs.Lying.{Lying, lying}
 use Rattle.vr_world.specs.Group.{AreSound, IsFoundAbove, IsUndenied, Member, begins, carried_out, ends, found, keeps_all, keeps_found, kept_at, mended, once_mended, recovered, with_kept}
 use Rattle.vr_world.proofs.Heads.{Spans, forgetting_at, forgetting_checkpoint, forgetting_spans, head_within, known_within, knows_some, part_within, remade_at, remade_spans}
-use Rattle.vr_world.proofs.Slots.{Value, least_two, value_is}
+use Rattle.vr_world.proofs.Slots.{Value, value_is}
 use Rattle.law_4_disks.specs.Beside.{AreMade, HoldsEntry, IsCalm, IsHeld, IsOff, IsOn, MayGo}
 use Rattle.vr_lie.proofs.Keeping.{opens_on}
 use Rattle.law_4_disks.specs.Laws.{OpeningsFind}
@@ -162,8 +162,8 @@ stored_there q k j s first a b e =
     let at : get_or xs i part.Nothing ≡ part_at q j = get_or-drop (k + 1 - q.first) q.parts i part.Nothing ∙ (ap (λ (i : ℕ). get_or q.parts i part.Nothing) place ∙ sym (part_within q j (omega arith))) in
     list_any-from_Any was_stored xs (i, part_at q j, less, get_or_default xs i (part_at q j) part.Nothing less ∙ at, e)
 
-pub sound : (v : SuperValue) (d : Lying) (r : Replica) (m : Member) (made : List Header) → Value v → v.fields.version ≡ 1 → Final v d r → IsCalm v.fields.mode d → IsHeld d m → AreMade made v d → m.last.fields.cluster ≡ v.fields.cluster → AreSound v (kept_at m) made r
-sound v d r m made w version f calm held are home =
+pub sound : (v : SuperValue) (d : Lying) (r : Replica) (m : Member) (made : List Header) → Value v → d.version ≡ v.fields.version → Final v d r → IsCalm v.fields.mode d → IsHeld d m → AreMade made v d → m.last.fields.cluster ≡ v.fields.cluster → AreSound v (kept_at m) made r
+sound v d r m made w file f calm held are home =
     let commit = w.commit in
     let head = w.head in
     let window = w.window in
@@ -185,8 +185,8 @@ sound v d r m made w version f calm held are home =
           λ n. clouded_not (stored_above q k) (Of v k (slot_at k lying d)) stored (sym (found_above v d r w f k a (omega arith)) ∙ n);
       counted = λ k h a b e c.
           let less : k % 64 < 64 = omega arith in
-          let there : HoldsEntry v.fields.cluster h (held_at d.held (k % 64)) = subst (λ (n : ℕ). HoldsEntry n h (held_at d.held (k % 64))) home (held.each (k % 64) h less e) in
-          let one = undenied v k d h w version calm.face (calm.stand.each (k % 64) less) there c in
+          let there : HoldsEntry d.version v.fields.cluster h (held_at d.held (k % 64)) = subst (λ (n : ℕ). HoldsEntry d.version n h (held_at d.held (k % 64))) home (held.each (k % 64) h less e) in
+          let one = undenied v k d h w file calm.face (calm.stand.each (k % 64) less) there c in
           elim (cases_lt v.fields.head k) [
             | inl up ↦ subst IsUndenied (sym (found_above v d r w f k up b)) (undenied_clouded (stored_above q k) (Of v k (slot_at k lying d)) one)
             | inr low ↦ subst IsUndenied (sym (found_named v d r w f k a low)) one
@@ -210,18 +210,18 @@ found_here v d r w f k h a b e =
       | inr low ↦ sym (found_named v d r w f k a low) ∙ e
     ]
 
-with_kept_held : (d : Lying) (m : Member) (h : Header) → IsHeld d m → HoldsEntry m.last.fields.cluster h (held_at d.held (slot_of h)) → IsHeld d (with_kept h.op (Some h) m)
+with_kept_held : (d : Lying) (m : Member) (h : Header) → IsHeld d m → HoldsEntry d.version m.last.fields.cluster h (held_at d.held (slot_of h)) → IsHeld d (with_kept h.op (Some h) m)
 with_kept_held d m h i y =
     let at = slot_of h in
     let q : Member = with_kept h.op (Some h) m in
     let less : at < length m.kept = let n = i.count in let l = slot_less h in omega (arith, n, l) in
-    written_held d d m q at (length-set m.kept at (Some h) ∙ i.count) refl (λ slot b c. set_other m.kept at (Some h) slot c) (λ slot b c. refl)
-    (λ g e. let one : h ≡ g = let both : Some h ≡ Some g = sym (get_or-set_same m.kept at (Some h) None less) ∙ e in cc in subst (λ (g : Header). HoldsEntry m.last.fields.cluster g (held_at d.held at)) one y) i
+    written_held d d m q at refl (length-set m.kept at (Some h) ∙ i.count) refl (λ slot b c. set_other m.kept at (Some h) slot c) (λ slot b c. refl)
+    (λ g e. let one : h ≡ g = let both : Some h ≡ Some g = sym (get_or-set_same m.kept at (Some h) None less) ∙ e in cc in subst (λ (g : Header). HoldsEntry d.version m.last.fields.cluster g (held_at d.held at)) one y) i
 
-on_kept : (d : Lying) (m : Member) (h : Header) → IsOn d m → HoldsEntry m.last.fields.cluster h (held_at d.held (slot_of h)) → IsOn d (with_kept h.op (Some h) m)
-on_kept d m h o y = record { calm = o.calm; held = with_kept_held d m h o.held y; value = o.value; file = o.file; version = o.version; under = o.under }
+on_kept : (d : Lying) (m : Member) (h : Header) → IsOn d m → HoldsEntry d.version m.last.fields.cluster h (held_at d.held (slot_of h)) → IsOn d (with_kept h.op (Some h) m)
+on_kept d m h o y = record { calm = o.calm; held = with_kept_held d m h o.held y; value = o.value; file = o.file; under = o.under }
 
-on_found : (d : Lying) (m : Member) (p : Part) → IsOn d m → ((h : Header) → p ≡ part.Here h → HoldsEntry m.last.fields.cluster h (held_at d.held (slot_of h))) → IsOn d (keeps_found p m)
+on_found : (d : Lying) (m : Member) (p : Part) → IsOn d m → ((h : Header) → p ≡ part.Here h → HoldsEntry d.version m.last.fields.cluster h (held_at d.held (slot_of h))) → IsOn d (keeps_found p m)
 on_found d m (part.Here h) o y = on_kept d m h o (y h refl)
 on_found d m (part.Lost h) o y = o
 on_found d m (part.Wanted h) o y = o
@@ -236,11 +236,11 @@ kept_last (part.Wanted h) m = refl
 kept_last part.Unknown m = refl
 kept_last part.Nothing m = refl
 
-on_all : (home : ℕ) (d : Lying) (ps : List Part) (m : Member) → home ≡ m.last.fields.cluster → IsOn d m → ((i : ℕ) (h : Header) → get_or ps i part.Nothing ≡ part.Here h → HoldsEntry home h (held_at d.held (slot_of h))) → IsOn d (keeps_all ps m)
+on_all : (home : ℕ) (d : Lying) (ps : List Part) (m : Member) → home ≡ m.last.fields.cluster → IsOn d m → ((i : ℕ) (h : Header) → get_or ps i part.Nothing ≡ part.Here h → HoldsEntry d.version home h (held_at d.held (slot_of h))) → IsOn d (keeps_all ps m)
 unfolding keeps_all
 on_all home d [] m own o y = o
 on_all home d (p ∷ ps) m own o y =
-    on_all home d ps (keeps_found p m) (own ∙ ap (λ (v : SuperValue). v.fields.cluster) (sym (kept_last p m))) (on_found d m p o (λ h e. subst (λ (n : ℕ). HoldsEntry n h (held_at d.held (slot_of h))) own (y 0 h e))) (λ i h e. y (suc i) h e)
+    on_all home d ps (keeps_found p m) (own ∙ ap (λ (v : SuperValue). v.fields.cluster) (sym (kept_last p m))) (on_found d m p o (λ h e. subst (λ (n : ℕ). HoldsEntry d.version n h (held_at d.held (slot_of h))) own (y 0 h e))) (λ i h e. y (suc i) h e)
 
 found_spans : (v : SuperValue) (d : Lying) (r : Replica) (w : Value v) (f : Final v d r) → Spans r
 found_spans v d r w f = subst Spans (sym f.is) (forgetting_spans (clouded v f.before) (clouded_spans v f.before (spans_of v d (v.fields.checkpoint + 64) f.before w f.parted)))
@@ -278,19 +278,19 @@ once_mended_on v d m w h =
     let of = found_here v (behind v d) r w f k g (omega arith) high is in
     let op = of_here_op v k (slot_at k lying (behind v d)) g of in
     let slot : k % 64 ≡ slot_of g = ap (λ (k : ℕ). k % 64) (sym op) in
-    subst (λ (s : ℕ). HoldsEntry v.fields.cluster g (held_at x.held s)) slot (h.stood.holds k g (omega arith) high of))
+    subst (λ (s : ℕ). HoldsEntry x.version v.fields.cluster g (held_at x.held s)) slot (h.stood.holds k g (omega arith) high of))
 
 pub openings_find : OpeningsFind
-openings_find d m v made o are =
+openings_find d m v made several o are =
     let good = ((opens_on d.face o.calm.face).value v o.value).1 in
-    let w = value_is v good (least_two v good o.version) in
+    let w = value_is v good several in
     let h = is_mended v d m w good o in
     let one = stood_first v d m good o in
     record {
       go = h.go;
       on = once_mended_on v d m w h;
-      sound = sound v (behind v d) (recovered v d) (ends (Mend v) (begins (Mend v) m)) made w o.version h.final one.on.calm one.on.held are refl;
+      sound = sound v (behind v d) (recovered v d) (ends (Mend v) (begins (Mend v) m)) made w o.file h.final one.on.calm one.on.held are refl;
     }
 
-pub is_mended_of : (v : SuperValue) (d : Lying) (m : Member) → IsOff d m v → IsMended v d m
-is_mended_of v d m o = let good = ((opens_on d.face o.calm.face).value v o.value).1 in is_mended v d m (value_is v good (least_two v good o.version)) good o
+pub is_mended_of : (v : SuperValue) (d : Lying) (m : Member) → 2 ≤ v.fields.n → IsOff d m v → IsMended v d m
+is_mended_of v d m several o = let good = ((opens_on d.face o.calm.face).value v o.value).1 in is_mended v d m (value_is v good several) good o

@@ -17,6 +17,7 @@ use Rattle.vr_rings.specs.Calls.{again_calls, header_calls, new_calls, prepare_c
 use Rattle.vr_lie.specs.Held.{Stands, entry_of_both, entry_read, header_sector, held_cut, is_prepare}
 use Rattle.vr_rings.specs.Laws.{AgainLeaves, HeaderLeaves, LastsIn, NewLeaves, TellsPrepare, TellsUpTo}
 use Rattle.vr_lie.specs.Slots.{IsWhole, Takes, header_reading, padded, prepare_bytes, prepare_reading, sector_of, slot_of, whole_in}
+use Rattle.vr_lie.proofs.Keeping.{opens_on}
 use Rattle.vr_lie.proofs.Leaving.{again_leaves, header_leaves, new_leaves}
 use Rattle.vr_lie.proofs.Standing.{calls_stand, prepare_other}
 use Rattle.vr_lie.proofs.Spelling.{header_sector_is, whole_again}
@@ -75,7 +76,7 @@ reads_entry ver g e w h p =
     let whole : is_prepare b ≡ true = ap is_some (whole_again e w) in
     ap (λ h. entry_of_both h (prepare_reading ver g (slot_of e.header))) h ∙ (ap (entry_of_both (Some (sector_of e.header))) p ∙ (rw (header, whole) refl))
 
-rewritten : (e : Whole) (d : Lying) (m : Member) → IsOn d m → AllByRecursion IsCall (header_calls e.header) → whole_in d.version d.face (slot_of e.header) ≡ Some e → e.header.cluster ≡ m.last.fields.cluster → e.header.version ≤ 1 → IsOn (after_calls d (header_calls e.header)) (ends (Rewrite e.header) (begins (Rewrite e.header) m))
+rewritten : (e : Whole) (d : Lying) (m : Member) → IsOn d m → AllByRecursion IsCall (header_calls e.header) → whole_in d.version d.face (slot_of e.header) ≡ Some e → e.header.cluster ≡ m.last.fields.cluster → e.header.version ≤ d.version → IsOn (after_calls d (header_calls e.header)) (ends (Rewrite e.header) (begins (Rewrite e.header) m))
 rewritten e d m o k r own few =
     let h = e.header in
     let slot = slot_of h in
@@ -88,10 +89,13 @@ rewritten e d m o k r own few =
 
 -- ---- carried out
 
-taken : (d : Lying) (m : Member) (e : Whole) → IsOn d m → e.header.version ≤ 1 → Takes d.version e
+-- the superblock's value is good, so its version is one of the two
+taken : (d : Lying) (m : Member) (e : Whole) → IsOn d m → e.header.version ≤ d.version → Takes d.version e
 taken d m e o few =
-    let one : d.version ≡ 1 = o.file ∙ o.version in
-    record { most = omega (arith, one); taken = omega (arith, one, few) }
+    let good = ((opens_on d.face o.calm.face).value m.last o.value).1 in
+    let most = good.numbers.version.1 in
+    let file = o.file in
+    record { most = omega (arith, most, file); taken = few }
 
 pub stay : EffectsStay
 stay (effect.Write true e) d m o c =

@@ -71,15 +71,15 @@ pub record Stood (v : SuperValue) (d : Lying) (n : ℕ) (g : Lying) (m : Member)
   pub on : IsOn g m
   pub last : m.last ≡ v
   pub left : (k : ℕ) → n < k → k ≤ v.fields.checkpoint + 64 → slot_at k lying g ≡ slot_at k lying d
-  pub holds : (k : ℕ) (h : Header) → v.fields.checkpoint < k → k ≤ n → Of v k (slot_at k lying d) ≡ part.Here h → HoldsEntry v.fields.cluster h (held_at g.held (k % 64))
+  pub holds : (k : ℕ) (h : Header) → v.fields.checkpoint < k → k ≤ n → Of v k (slot_at k lying d) ≡ part.Here h → HoldsEntry g.version v.fields.cluster h (held_at g.held (k % 64))
 
--- what may be an op's is of version 1
-stood_few : (v : SuperValue) (d : Lying) (n : ℕ) (g : Lying) (m : Member) (k : ℕ) (h : Header) → Stood v d n g m → may_be v k h ≡ true → h.version ≤ 1
+-- what may be an op's is of a version that the file takes
+stood_few : (v : SuperValue) (d : Lying) (n : ℕ) (g : Lying) (m : Member) (k : ℕ) (h : Header) → Stood v d n g m → may_be v k h ≡ true → h.version ≤ g.version
 stood_few v d n g m k h s e =
     let most = version_of v k h e in
     let same = ap (λ (x : SuperValue). x.fields.version) s.last in
-    let one = s.on.version in
-    omega (arith, most, same, one)
+    let file = s.on.file in
+    omega (arith, most, same, file)
 
 -- what a word leaves
 pub record Went (R : Replica → Type 0) (v : SuperValue) (d : Lying) (n : ℕ) (w : Word Lying) (q : Replica) (g : Lying) (m : Member) : Type 0 where
@@ -145,19 +145,19 @@ unknown_here : (h : Header) → part.Unknown ≢ part.Here h
 unknown_here h e = cc
 
 -- nothing is written for the op
-stood_still : (v : SuperValue) (d : Lying) (n : ℕ) (g : Lying) (m : Member) → Stood v d n g m → ((h : Header) → Of v (n + 1) (slot_at (n + 1) lying d) ≡ part.Here h → HoldsEntry v.fields.cluster h (held_at g.held ((n + 1) % 64))) → Stood v d (n + 1) g m
+stood_still : (v : SuperValue) (d : Lying) (n : ℕ) (g : Lying) (m : Member) → Stood v d n g m → ((h : Header) → Of v (n + 1) (slot_at (n + 1) lying d) ≡ part.Here h → HoldsEntry g.version v.fields.cluster h (held_at g.held ((n + 1) % 64))) → Stood v d (n + 1) g m
 stood_still v d n g m s own = record {
   on = s.on;
   last = s.last;
   left = λ k a b. s.left k (omega arith) b;
   holds = λ k h a b e. elim (cases_eq k (n + 1)) [
-    | inl same ↦ subst (λ (k : ℕ). HoldsEntry v.fields.cluster h (held_at g.held (k % 64))) (sym same) (own h (subst (λ (k : ℕ). Of v k (slot_at k lying d) ≡ part.Here h) same e))
+    | inl same ↦ subst (λ (k : ℕ). HoldsEntry g.version v.fields.cluster h (held_at g.held (k % 64))) (sym same) (own h (subst (λ (k : ℕ). Of v k (slot_at k lying d) ≡ part.Here h) same e))
     | inr other ↦ s.holds k h a (omega arith) e
   ];
 }
 
 -- where both sectors read as the entry the slot holds it
-here_holds : (k home : ℕ) (g : Lying) (m : Member) (e : Whole) (x : Slot) → IsOn g m → x ≡ slot_at k lying g → x.entry ≡ Some e → x.header ≡ Some e.header → e.header.op ≡ k → e.header.cluster ≡ home → e.header.version ≤ 1 → HoldsEntry home e.header (held_at g.held (k % 64))
+here_holds : (k home : ℕ) (g : Lying) (m : Member) (e : Whole) (x : Slot) → IsOn g m → x ≡ slot_at k lying g → x.entry ≡ Some e → x.header ≡ Some e.header → e.header.op ≡ k → e.header.cluster ≡ home → e.header.version ≤ g.version → HoldsEntry g.version home e.header (held_at g.held (k % 64))
 here_holds k home g m e x o is entry head at own few =
     let slot : slot_of e.header ≡ k % 64 = ap (λ (k : ℕ). k % 64) at in
     let less : k % 64 < 64 = omega arith in
@@ -184,12 +184,12 @@ stood_written v d n g m e low high s at of may =
       holds = λ k g0 a b z. elim (cases_eq k (n + 1)) [
         | inl same ↦
             let one : h ≡ g0 = let both : part.Here h ≡ part.Here g0 = sym of ∙ subst (λ (k : ℕ). Of v k (slot_at k lying d) ≡ part.Here g0) same z in cc in
-            let y : HoldsEntry v.fields.cluster h (held_at x.held (slot_of h)) = subst (λ (u : SuperValue). HoldsEntry u.fields.cluster h (held_at x.held (slot_of h))) s.last (on.held.each (slot_of h) h (slot_less h) there) in
-            subst (λ (s : ℕ). HoldsEntry v.fields.cluster g0 (held_at x.held s)) (slot ∙ ap (λ (k : ℕ). k % 64) (sym same)) (subst (λ (h0 : Header). HoldsEntry v.fields.cluster h0 (held_at x.held (slot_of h))) one y)
+            let y : HoldsEntry x.version v.fields.cluster h (held_at x.held (slot_of h)) = subst (λ (u : SuperValue). HoldsEntry x.version u.fields.cluster h (held_at x.held (slot_of h))) s.last (on.held.each (slot_of h) h (slot_less h) there) in
+            subst (λ (s : ℕ). HoldsEntry x.version v.fields.cluster g0 (held_at x.held s)) (slot ∙ ap (λ (k : ℕ). k % 64) (sym same)) (subst (λ (h0 : Header). HoldsEntry x.version v.fields.cluster h0 (held_at x.held (slot_of h))) one y)
         | inr other ↦
             let apart : slot_of h ≢ k % 64 = λ c. other_slot v.fields.checkpoint k (n + 1) a (omega arith) (omega arith) (sym c ∙ slot) in
             let same = others_after (header_calls h) g (slot_of h) s.on.calm (λ slot l c. header_apart g.version h slot l c) (k % 64) (omega arith) apart in
-            subst (HoldsEntry v.fields.cluster g0) (sym same) (s.holds k g0 a (omega arith) z)
+            subst (HoldsEntry g.version v.fields.cluster g0) (sym same) (s.holds k g0 a (omega arith) z)
       ];
     }
 
@@ -199,7 +199,7 @@ unfolding quiet after_all carried_out
 went_quiet v d n q g m p s = record { found = p; stood = s; go = tt }
 
 went_rewrite : (v : SuperValue) (d : Lying) (n : ℕ) (q : Replica) (g : Lying) (m : Member) (e : Whole) → v.fields.checkpoint ≤ n → n < v.fields.checkpoint + 64 → Parted v d n q → Stood v d n g m → e.header.op ≡ n + 1
-    → Of v (n + 1) (slot_at (n + 1) lying d) ≡ part.Here e.header → whole_in g.version g.face (slot_of e.header) ≡ Some e → e.header.cluster ≡ v.fields.cluster → e.header.version ≤ 1 → Went (Parted v d n) v d (n + 1) (rewrite (Some e.header)) q g m
+    → Of v (n + 1) (slot_at (n + 1) lying d) ≡ part.Here e.header → whole_in g.version g.face (slot_of e.header) ≡ Some e → e.header.cluster ≡ v.fields.cluster → e.header.version ≤ g.version → Went (Parted v d n) v d (n + 1) (rewrite (Some e.header)) q g m
 unfolding does after_all carried_out
 went_rewrite v d n q g m e low high p s at of reads own few =
     let is = (read_whole g.version g.face (slot_of e.header) e s.on.calm.face (slot_less e.header) reads).whole in
@@ -213,13 +213,13 @@ went_mend v d n q g m x low high p s is =
     let M : Verdict → Type 0 = λ t. Went (Parted v d n) v d (n + 1) (mend_slot x t) q g m in
     let same : x ≡ slot_at k lying d = is ∙ s.left k (omega arith) (omega arith) in
     let back : Of v k (slot_at k lying d) ≡ Of v k x = ap (Of v k) (sym same) in
-    let still : ((h : Header) → Of v k x ≡ part.Here h → HoldsEntry v.fields.cluster h (held_at g.held (k % 64))) → Went (Parted v d n) v d (n + 1) quiet q g m = λ own. went_quiet v d n q g m p (stood_still v d n g m s (λ h e. own h (sym back ∙ e))) in
+    let still : ((h : Header) → Of v k x ≡ part.Here h → HoldsEntry g.version v.fields.cluster h (held_at g.held (k % 64))) → Went (Parted v d n) v d (n + 1) quiet q g m = λ own. went_quiet v d n q g m p (stood_still v d n g m s (λ h e. own h (sym back ∙ e))) in
     let is_part : (t : Verdict) → slot_verdict v k x ≡ t → Of v k x ≡ part_by v k x t = λ t e. ap (part_by v k x) e in
     elim (case_of v k x) [
       | here e c ↦ subst M (sym c.verdict) (still (λ h z.
           let of = is_part verdict.Here c.verdict ∙ here_is v k x e c.entry in
           let one : e.header ≡ h = let both : part.Here e.header ≡ part.Here h = sym of ∙ z in cc in
-          subst (λ (h : Header). HoldsEntry v.fields.cluster h (held_at g.held (k % 64))) one (here_holds k v.fields.cluster g m e x s.on is c.entry c.header (right_of v k e.header c.fits).0 (group_of v k e.header c.fits) (stood_few v d n g m k e.header s c.fits))))
+          subst (λ (h : Header). HoldsEntry g.version v.fields.cluster h (held_at g.held (k % 64))) one (here_holds k v.fields.cluster g m e x s.on is c.entry c.header (right_of v k e.header c.fits).0 (group_of v k e.header c.fits) (stood_few v d n g m k e.header s c.fits))))
       | rewritten e c ↦
           let at = (right_of v k e.header c.fits).0 in
           let slot : slot_of e.header ≡ k % 64 = ap (λ (k : ℕ). k % 64) at in

@@ -14,9 +14,9 @@ use Rattle.vr_world.specs.Steps.{Effect, Write, Rewrite, Save, Mend, Checkpoint,
 use Rattle.vr_world.specs.Sectors.{calls_by, script_calls}
 use Rattle.vr_world.specs.Lying.{Lying, after_calls, cut_calls, lying}
 use Rattle.vr_world.specs.Group.{Member, begins, carried_out, cut_after, ends}
-use Rattle.law_4_disks.specs.Beside.{HoldsEntry, IsCutAt, IsOff, MayGo, begun_before, value_after}
+use Rattle.law_4_disks.specs.Beside.{IsCutAt, IsOff, MayGo, begun_before, value_after}
 use Rattle.law_4_disks.specs.Laws.{OpeningsCut, OpeningsStay, ScriptsCut, ScriptsStay}
-use Rattle.law_4_disks.proofs.Effects.{at_slot, mend_cut, mend_opens}
+use Rattle.law_4_disks.proofs.Effects.{at_slot, holds_as, mend_cut, mend_opens}
 use Rattle.law_4_disks.proofs.Playing.{stay, stopped}
 
 pub value_is : (e : Effect) (m : Member) → (ends e (begins e m)).last ≡ value_after e m.last
@@ -57,10 +57,9 @@ same_off d x m v s o = record {
           subst (λ (n : ℕ). Stands n v.fields.mode x.face slot (held_at x.held slot)) (sym s.version) face;
     };
   };
-  held = record { count = o.held.count; each = λ slot h l e. subst (HoldsEntry m.last.fields.cluster h) (sym (s.held slot l)) (o.held.each slot h l e) };
+  held = record { count = o.held.count; each = λ slot h l e. holds_as h (sym (s.held slot l)) (sym s.version) refl (o.held.each slot h l e) };
   value = ap opens s.face ∙ o.value;
   file = s.version ∙ o.file;
-  version = o.version;
   may = o.may;
   group = o.group;
 }

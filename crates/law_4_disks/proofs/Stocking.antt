@@ -1,5 +1,5 @@
 -- What writes of blocks words make, and what a replica keeps of which its checkpoints are written.
-use Rattle.std.proofs.Common.{◌≡◌, refl, sym, subst, ℕ, zero, suc, Bool, true, false, cond, List, [], ◌∷◌, ◌++◌, map, Option, Some, None, Ok}
+use Rattle.std.proofs.Common.{◌≡◌, refl, sym, ◌∙◌, subst, ℕ, zero, suc, Bool, true, false, cond, List, [], ◌∷◌, ◌++◌, map, Option, Some, None, Ok}
 use Rattle.std.specs.Prelude.{◌%◌}
 use Rattle.std.specs.Option.{option_and_then}
 use Rattle.std.proofs.Common.{arith}
@@ -36,6 +36,7 @@ use Rattle.vr_world.specs.Steps.{Effect, Write, Rewrite, Save, Mend, Checkpoint,
 use Rattle.vr_world.specs.Words.{Log, save, enter, entered, write, stored, accept, entry_of, lost, or_lost, with_entry, with_entry_at, with_checkpoint, make_checkpoint, checkpoints, checkpoint_at, checkpoint_of, apply_entry, apply_next, apply, applied, advanced, advance, learn, taken, take, prepare_again, begin_view, try_log, stated, decided, obey_choice, try, speak, resend, ask_peer, ask_for, ask, with_state, loaded_state, loads, load, jump, jumped, usable}
 use Rattle.vr_world.specs.Lying.{Lying, lying}
 use Rattle.vr_world.proofs.Wording.{usable_is}
+use Rattle.vr_world.proofs.FitLies.{same_version}
 use Rattle.vr_world.proofs.FitGroups.{Known, known_first, known_left, known_rest, known_right}
 use Rattle.law_4_disks.specs.Chains.{Chain, GoesWell, Rewrites}
 use Rattle.law_4_disks.specs.Stocks.{IsGiven, IsGivenOutput, IsNamed, IsStocked, WritesBlocks}
@@ -46,9 +47,10 @@ use Rattle.law_4_disks.proofs.Found.{read_whole}
 use Rattle.law_4_disks.proofs.Chaining.{Chained, c_apply_entry, c_by, c_change, c_checkpoint, c_naming, c_or_lost, c_quiet, c_reading, c_save, c_says, c_then, c_write, loads_saved, with_checkpoint_saved}
 use Rattle.law_4_disks.proofs.Going.{known_goes}
 
--- a running replica on its disk
-pub record At (r : Replica) (d : Lying) : Type 0 where
+-- a running replica on its disk, whose file is of this version
+pub record At (ed : ℕ) (r : Replica) (d : Lying) : Type 0 where
   pub face : IsFace d.face
+  pub file : d.version ≡ ed
   pub good : IsGood r.saved
   pub stock : IsStocked r
 
@@ -59,7 +61,7 @@ pub record Leaves (P Q : List ℕ → Type 0) (home : ℕ) (w : Word Lying) (r :
 
 pub record Stocking (P Q : List ℕ → Type 0) (home : ℕ) (w : Word Lying) : Type 0 where
   pub chained : Chained w
-  pub each : (n i : ℕ) (r : Replica) (d : Lying) → At r d → Known home n i (w lying r d).script → Leaves P Q home w r d
+  pub each : (n i ed : ℕ) (r : Replica) (d : Lying) → At ed r d → Known home n i ed (w lying r d).script → Leaves P Q home w r d
 
 -- what a change leaves of it
 pub record Kept (q r : Replica) : Type 0 where
@@ -87,15 +89,15 @@ unfolding after_all
 goes_face home [] d g f = f
 goes_face home (e ∷ es) d g f = goes_face home es (lying.after d e) g.2 (face_after_all _ d.face f g.1)
 
-chain_good : {home : ℕ} (n i : ℕ) (es : List Effect) (v u : SuperValue) → IsGood v → Chain v es u → Known home n i es → IsGood u
-chain_good {home} n i [] v u g c k = subst IsGood c g
-chain_good {home} n i (Write again e ∷ es) v u g c k = chain_good {home = home} n i es v u g c (known_rest home n i (Write again e) es k)
-chain_good {home} n i (Rewrite h ∷ es) v u g c k = chain_good {home = home} n i es v u g c (known_rest home n i (Rewrite h) es k)
-chain_good {home} n i (Save old new ∷ es) v u g c k = chain_good {home = home} n i es new u (known_first home n i (Save old new) es k).1 c.2 (known_rest home n i (Save old new) es k)
-chain_good {home} n i (Mend x ∷ es) v u g c k = chain_good {home = home} n i es v u g c.1 (known_rest home n i (Mend x) es k)
-chain_good {home} n i (Checkpoint t x o p ∷ es) v u g c k = chain_good {home = home} n i es v u g c (known_rest home n i (Checkpoint t x o p) es k)
-chain_good {home} n i (PutBlock m x ∷ es) v u g c k = chain_good {home = home} n i es v u g c (known_rest home n i (PutBlock m x) es k)
-chain_good {home} n i (Say o ∷ es) v u g c k = chain_good {home = home} n i es v u g c (known_rest home n i (Say o) es k)
+chain_good : {home : ℕ} (n i ed : ℕ) (es : List Effect) (v u : SuperValue) → IsGood v → Chain v es u → Known home n i ed es → IsGood u
+chain_good {home} n i ed [] v u g c k = subst IsGood c g
+chain_good {home} n i ed (Write again e ∷ es) v u g c k = chain_good {home = home} n i ed es v u g c (known_rest home n i ed (Write again e) es k)
+chain_good {home} n i ed (Rewrite h ∷ es) v u g c k = chain_good {home = home} n i ed es v u g c (known_rest home n i ed (Rewrite h) es k)
+chain_good {home} n i ed (Save old new ∷ es) v u g c k = chain_good {home = home} n i ed es new u (known_first home n i ed (Save old new) es k).1 c.2 (known_rest home n i ed (Save old new) es k)
+chain_good {home} n i ed (Mend x ∷ es) v u g c k = chain_good {home = home} n i ed es v u g c.1 (known_rest home n i ed (Mend x) es k)
+chain_good {home} n i ed (Checkpoint t x o p ∷ es) v u g c k = chain_good {home = home} n i ed es v u g c (known_rest home n i ed (Checkpoint t x o p) es k)
+chain_good {home} n i ed (PutBlock m x ∷ es) v u g c k = chain_good {home = home} n i ed es v u g c (known_rest home n i ed (PutBlock m x) es k)
+chain_good {home} n i ed (Say o ∷ es) v u g c k = chain_good {home = home} n i ed es v u g c (known_rest home n i ed (Say o) es k)
 
 blocks_both : (P Q : List ℕ → Type 0) (xs ys : List Effect) → AllByRecursion (WritesBlocks P Q) xs → AllByRecursion (WritesBlocks P Q) ys → AllByRecursion (WritesBlocks P Q) (xs ++ ys)
 blocks_both P Q [] ys a b = b
@@ -145,12 +147,12 @@ reply_given : (P : List ℕ → Type 0) (e : Whole) (r : Replica) → AllByRecur
 reply_given P e r = elim (leads r) as (λ t. AllByRecursion (IsGivenOutput P) (cond t (replies (asker_of e) (kind_of (applying.applied r.state e).reply) r) [])) [ true ↦ (tt, tt) | false ↦ tt ]
 
 -- what a word leaves is a running replica on its disk
-pub at_next : {home : ℕ} (P Q : List ℕ → Type 0) (v : Word Lying) (n i : ℕ) (r : Replica) (d : Lying) → Chained v → At r d → Known home n i (v lying r d).script → Leaves P Q home v r d → At (v lying r d).replica (after_all lying d (v lying r d).script)
-at_next {home} P Q v n i r d chained at known one =
+pub at_next : {home : ℕ} (P Q : List ℕ → Type 0) (v : Word Lying) (n i ed : ℕ) (r : Replica) (d : Lying) → Chained v → At ed r d → Known home n i ed (v lying r d).script → Leaves P Q home v r d → At ed (v lying r d).replica (after_all lying d (v lying r d).script)
+at_next {home} P Q v n i ed r d chained at known one =
     let a = v lying r d in
     let chain = chained.each lying r d in
-    let goes = known_goes P Q home n i a.script d r.saved a.replica.saved at.good chain known one.blocks one.rewrites in
-    record { face = goes_face home a.script d goes at.face; good = chain_good {home = home} n i a.script r.saved a.replica.saved at.good chain known; stock = one.stock }
+    let goes = known_goes P Q home n i ed a.script d r.saved a.replica.saved at.file at.good chain known one.blocks one.rewrites in
+    record { face = goes_face home a.script d goes at.face; file = same_version a.script d ∙ at.file; good = chain_good {home = home} n i ed a.script r.saved a.replica.saved at.good chain known; stock = one.stock }
 
 -- and what two leave
 pub leaves_both : {home : ℕ} (P Q : List ℕ → Type 0) (v w : Word Lying) (r : Replica) (d : Lying) → Leaves P Q home v r d → Leaves P Q home w (v lying r d).replica (after_all lying d (v lying r d).script) → Leaves P Q home (v ⨾ w) r d
@@ -167,43 +169,43 @@ module _ {P Q : List ℕ → Type 0} {home : ℕ} where
   unfolding ◌⨾◌
   b_then v w h k = record {
     chained = c_then v w h.chained k.chained;
-    each = λ n i r d at known.
+    each = λ n i ed r d at known.
         let a = v lying r d in
         let mid : Lying = after_all lying d a.script in
         let b = w lying a.replica mid in
-        let left = known_left home n i a.script b.script known in
-        let one = h.each n i r d at left in
-        leaves_both P Q v w r d one (k.each n i a.replica mid (at_next P Q v n i r d h.chained at left one) (known_right home n i a.script b.script known));
+        let left = known_left home n i ed a.script b.script known in
+        let one = h.each n i ed r d at left in
+        leaves_both P Q v w r d one (k.each n i ed a.replica mid (at_next P Q v n i ed r d h.chained at left one) (known_right home n i ed a.script b.script known));
   }
 
   pub b_quiet : Stocking P Q home quiet
   unfolding quiet
-  b_quiet = record { chained = c_quiet; each = λ n i r d a k. record { blocks = tt; rewrites = tt; stock = a.stock } }
+  b_quiet = record { chained = c_quiet; each = λ n i ed r d a k. record { blocks = tt; rewrites = tt; stock = a.stock } }
 
   pub b_change : (g : Replica → Replica) → ((r : Replica) → Kept (g r) r) → Stocking P Q home (change g)
   unfolding change
-  b_change g h = record { chained = c_change g (λ r. (h r).saved); each = λ n i r d a k. record { blocks = tt; rewrites = tt; stock = moved (g r) r (h r) a.stock } }
+  b_change g h = record { chained = c_change g (λ r. (h r).saved); each = λ n i ed r d a k. record { blocks = tt; rewrites = tt; stock = moved (g r) r (h r) a.stock } }
 
   pub b_says : (os : Replica → List Output) → ((r : Replica) → AllByRecursion (IsGivenOutput P) (os r)) → Stocking P Q home (says os)
   unfolding says
-  b_says os h = record { chained = c_says os; each = λ n i r d a k. record { blocks = said_blocks P Q (os r) (h r); rewrites = said_rewrites home (os r) d; stock = a.stock } }
+  b_says os h = record { chained = c_says os; each = λ n i ed r d a k. record { blocks = said_blocks P Q (os r) (h r); rewrites = said_rewrites home (os r) d; stock = a.stock } }
 
   pub b_by : (w : Replica → Word Lying) → ((r : Replica) → Stocking P Q home (w r)) → Stocking P Q home (by w)
   unfolding by
-  b_by w h = record { chained = c_by w (λ r. (h r).chained); each = λ n i r d a k. let x = (h r).each n i r d a k in record { blocks = x.blocks; rewrites = x.rewrites; stock = x.stock } }
+  b_by w h = record { chained = c_by w (λ r. (h r).chained); each = λ n i ed r d a k. let x = (h r).each n i ed r d a k in record { blocks = x.blocks; rewrites = x.rewrites; stock = x.stock } }
 
   -- of a replica that is stocked
   pub b_at : (w : Replica → Word Lying) → ((r : Replica) → Chained (w r)) → ((r : Replica) → IsStocked r → Stocking P Q home (w r)) → Stocking P Q home (by w)
   unfolding by
-  b_at w c h = record { chained = c_by w c; each = λ n i r d a k. let x = (h r a.stock).each n i r d a k in record { blocks = x.blocks; rewrites = x.rewrites; stock = x.stock } }
+  b_at w c h = record { chained = c_by w c; each = λ n i ed r d a k. let x = (h r a.stock).each n i ed r d a k in record { blocks = x.blocks; rewrites = x.rewrites; stock = x.stock } }
 
   pub b_naming : (w : (List ℕ → List ℕ) → Word Lying) → ((hash : List ℕ → List ℕ) → Stocking P Q home (w hash)) → Stocking P Q home (naming w)
   unfolding naming
-  b_naming w h = record { chained = c_naming w (λ x. (h x).chained); each = λ n i r d a k. let x = (h lying.hash).each n i r d a k in record { blocks = x.blocks; rewrites = x.rewrites; stock = x.stock } }
+  b_naming w h = record { chained = c_naming w (λ x. (h x).chained); each = λ n i ed r d a k. let x = (h lying.hash).each n i ed r d a k in record { blocks = x.blocks; rewrites = x.rewrites; stock = x.stock } }
 
   pub b_reading : {X : Type 0} (g : Setting Lying → Lying → X) (w : X → Word Lying) → ((x : X) → Chained (w x)) → ((d : Lying) → IsFace d.face → Stocking P Q home (w (g lying d))) → Stocking P Q home (reading g w)
   unfolding reading
-  b_reading g w c h = record { chained = c_reading g w c; each = λ n i r d a k. let x = (h d a.face).each n i r d a k in record { blocks = x.blocks; rewrites = x.rewrites; stock = x.stock } }
+  b_reading g w c h = record { chained = c_reading g w c; each = λ n i ed r d a k. let x = (h d a.face).each n i ed r d a k in record { blocks = x.blocks; rewrites = x.rewrites; stock = x.stock } }
 
   pub b_if : (b : Bool) (v w : Word Lying) → Stocking P Q home v → Stocking P Q home w → Stocking P Q home (cond b v w)
   b_if true v w h k = h
@@ -227,11 +229,11 @@ module _ {P Q : List ℕ → Type 0} {home : ℕ} where
 
   pub b_save : Stocking P Q home save
   unfolding save does change ◌⨾◌
-  b_save = record { chained = c_save; each = λ n i r d a k. record { blocks = (tt, tt); rewrites = (tt, tt); stock = record { sessions = a.stock.sessions; machine = a.stock.machine; old_sessions = a.stock.old_sessions; old_keys = a.stock.old_keys } } }
+  b_save = record { chained = c_save; each = λ n i ed r d a k. record { blocks = (tt, tt); rewrites = (tt, tt); stock = record { sessions = a.stock.sessions; machine = a.stock.machine; old_sessions = a.stock.old_sessions; old_keys = a.stock.old_keys } } }
 
   pub b_write : (e : Whole) → Stocking P Q home (write e)
   unfolding write does change ◌⨾◌ forgetting with_part
-  b_write e = record { chained = c_write e; each = λ n i r d a k. record { blocks = (tt, tt); rewrites = (tt, tt); stock = moved (stored e r) r (record { saved = refl; state = refl; table = refl }) a.stock } }
+  b_write e = record { chained = c_write e; each = λ n i ed r d a k. record { blocks = (tt, tt); rewrites = (tt, tt); stock = moved (stored e r) r (record { saved = refl; state = refl; table = refl }) a.stock } }
 
   pub b_accept : (e : Whole) → Stocking P Q home (accept e)
   unfolding accept
@@ -255,13 +257,13 @@ module _ {P Q : List ℕ → Type 0} {home : ℕ} where
 
   b_checkpoints : Stocking P Q home (does checkpoints)
   unfolding does
-  b_checkpoints = record { chained = c_checkpoint; each = λ n i r d a k. record { blocks = ((save_state_are r.cluster (texts_of r.state) r.applied r.table (texted r a.stock), record { state = r.state; are = refl; sessions = a.stock.sessions; machine = a.stock.machine; old_sessions = a.stock.old_sessions; old_keys = a.stock.old_keys }), tt); rewrites = (tt, tt); stock = a.stock } }
+  b_checkpoints = record { chained = c_checkpoint; each = λ n i ed r d a k. record { blocks = ((save_state_are r.cluster (texts_of r.state) r.applied r.table (texted r a.stock), record { state = r.state; are = refl; sessions = a.stock.sessions; machine = a.stock.machine; old_sessions = a.stock.old_sessions; old_keys = a.stock.old_keys }), tt); rewrites = (tt, tt); stock = a.stock } }
 
   b_moved : (r : Replica) (d : Lying) → IsStocked r → Stocking P Q home (change (with_checkpoint (checkpoint_of r lying d)))
   unfolding change with_checkpoint
   b_moved r d s =
       let t = table_named r.cluster (texts_of r.state) r.applied r.table (texted r s) in
-      record { chained = c_change _ (λ r. refl); each = λ n i q d a k. record { blocks = tt; rewrites = tt; stock = record { sessions = a.stock.sessions; machine = a.stock.machine; old_sessions = t.sessions; old_keys = t.keys } } }
+      record { chained = c_change _ (λ r. refl); each = λ n i ed q d a k. record { blocks = tt; rewrites = tt; stock = record { sessions = a.stock.sessions; machine = a.stock.machine; old_sessions = t.sessions; old_keys = t.keys } } }
 
   b_checkpoint : Stocking P Q home make_checkpoint
   unfolding make_checkpoint
@@ -272,7 +274,7 @@ module _ {P Q : List ℕ → Type 0} {home : ℕ} where
   unfolding change
   b_applied e w = record {
     chained = c_change _ (λ r. refl);
-    each = λ n i r d a k.
+    each = λ n i ed r d a k.
         let s = state_kept r.state e (record { sessions = a.stock.sessions; machine = a.stock.machine }) w in
         record { blocks = tt; rewrites = tt; stock = record { sessions = s.sessions; machine = s.machine; old_sessions = a.stock.old_sessions; old_keys = a.stock.old_keys } };
   }
@@ -292,7 +294,7 @@ module _ {P Q : List ℕ → Type 0} {home : ℕ} where
 
   b_loads : (r : Replica) (d : Lying) → IsFace d.face → Stocking P Q home (change (loads r.root (lying.loaded d r.root)))
   unfolding change
-  b_loads r d f = record { chained = c_change _ (loads_saved r.root (lying.loaded d r.root)); each = λ n i q x a k. record { blocks = tt; rewrites = tt; stock = loads_stocked r.root d f (lying.loaded d r.root) refl q a.stock } }
+  b_loads r d f = record { chained = c_change _ (loads_saved r.root (lying.loaded d r.root)); each = λ n i ed q x a k. record { blocks = tt; rewrites = tt; stock = loads_stocked r.root d f (lying.loaded d r.root) refl q a.stock } }
 
   pub b_load : Stocking P Q home load
   unfolding load

@@ -190,7 +190,7 @@ module _ {P Q : List ℕ → Type 0} {home : ℕ} where
 
   b_put : (name : Name) (block : List ℕ) → AreCalls (put_calls name.address block) → Q block → Stocking P Q home (does (λ r. PutBlock name block))
   unfolding does
-  b_put name block are q = record { chained = c_put name block; each = λ n i r d a k. record { blocks = ((are, q), tt); rewrites = (tt, tt); stock = a.stock } }
+  b_put name block are q = record { chained = c_put name block; each = λ n i ed r d a k. record { blocks = ((are, q), tt); rewrites = (tt, tt); stock = a.stock } }
 
   r_put_block : (name : Name) (block : List ℕ) → AreCalls (put_calls name.address block) → Q block → Stocking P Q home (rules.put_block name block)
   unfolding rules.put_block
@@ -214,16 +214,16 @@ module _ {P Q : List ℕ → Type 0} {home : ℕ} where
 
   -- a tick comes to a sound replica of the group
   r_idles : (w : Word Lying) → Sounded P Q home w → Sounded P Q home (change rules.idler ⨾ w)
-  r_idles w h = v_then (change rules.idler) w (b_change rules.idler (λ r. record { saved = refl; state = refl; table = refl })) keeps_idler (owned_change rules.idler (λ r. record { cluster = refl; n = refl; index = refl; saved = refl })) h
+  r_idles w h = v_then (change rules.idler) w (b_change rules.idler (λ r. record { saved = refl; state = refl; table = refl })) keeps_idler (λ ed. owned_change rules.idler (λ r. record { cluster = refl; n = refl; index = refl; saved = refl })) h
 
   r_tells : (message : Replica → Frame) (w : Word Lying) → ((r : Replica) → IsGiven P (message r)) → Sounded P Q home w → Sounded P Q home (says (send_to_all message) ⨾ w)
-  r_tells message w g h = v_then (says (send_to_all message)) w (b_says _ (λ r. all_given P message r (g r))) (keeps_says _) (owned_says _) h
+  r_tells message w g h = v_then (says (send_to_all message)) w (b_says _ (λ r. all_given P message r (g r))) (keeps_says _) (λ ed. owned_says _) h
 
   r_tick : (rule : Rule) → Sounded P Q home (rules.obey_tick rule)
   r_tick TickedPrimary =
-      r_tells commit_message _ (λ r. tt) (v_then _ _ (b_by _ (λ r. b_when _ _ (b_again (r.commit + 1)))) (keeps_by _ (λ r. keeps_when _ _ (keeps_prepare_again (r.commit + 1)))) (owned_by _ (λ r. owned_when _ _ (owned_again (r.commit + 1)))) v_looks)
+      r_tells commit_message _ (λ r. tt) (v_then _ _ (b_by _ (λ r. b_when _ _ (b_again (r.commit + 1)))) (keeps_by _ (λ r. keeps_when _ _ (keeps_prepare_again (r.commit + 1)))) (λ ed. owned_by _ (λ r. owned_when _ _ (owned_again (r.commit + 1)))) v_looks)
   r_tick TickedBackup = r_idles _ (v_by _ (λ r. v_if _ _ _ (v_of _ r_next_view) v_looks))
-  r_tick TickedChanging = r_idles _ (v_by _ (λ r. v_if _ _ _ (v_of _ r_next_view) (r_tells start_view_change _ (λ r. tt) (v_then _ _ b_speak keeps_speak owned_speak v_looks))))
+  r_tick TickedChanging = r_idles _ (v_by _ (λ r. v_if _ _ _ (v_of _ r_next_view) (r_tells start_view_change _ (λ r. tt) (v_then _ _ b_speak keeps_speak (λ ed. owned_speak) v_looks))))
   r_tick _ = v_of quiet b_quiet
 
   r_on_request : (q : RequestFields) → Stocking P Q home (rules.on_request q)
@@ -279,35 +279,35 @@ module _ {P Q : List ℕ → Type 0} {home : ℕ} where
 abbrev pub ReadsOn : Lying → List ℕ → Type 0
 ReadsOn d b = (name : Name) × (lying.block d name ≡ Some b)
 
-module _ {Q : List ℕ → Type 0} {home : ℕ} (n i : ℕ) (r : Replica) (d : Lying) (at : At r d) (sound : IsSound r) (is : IsAt home n i 1 r) where
-  get_leaves : (g : GetBlock) → IsKnown home n i (rules.on_message (frame.GetBlock g) lying r d).script → Leaves (ReadsOn d) Q home (rules.on_message (frame.GetBlock g)) r d
+module _ {Q : List ℕ → Type 0} {home : ℕ} (n i ed : ℕ) (r : Replica) (d : Lying) (at : At ed r d) (sound : IsSound r) (is : IsAt home n i ed r) where
+  get_leaves : (g : GetBlock) → IsKnown home n i ed (rules.on_message (frame.GetBlock g) lying r d).script → Leaves (ReadsOn d) Q home (rules.on_message (frame.GetBlock g)) r d
   unfolding rules.on_get_block reading by
   get_leaves g known =
       let name = rules.asked_block g in
       let o = lying.block d name in
-      let x = (r_get_block {P = ReadsOn d} {Q = Q} g o (first_of (get_block_table (is_some o) g r)) (λ b e. (name, e))).each n i r d at known in
+      let x = (r_get_block {P = ReadsOn d} {Q = Q} g o (first_of (get_block_table (is_some o) g r)) (λ b e. (name, e))).each n i ed r d at known in
       record { blocks = x.blocks; rewrites = x.rewrites; stock = x.stock }
 
-  when_leaves : (t : Bool) (w : Word Lying) → IsKnown home n i (when t w lying r d).script → (IsKnown home n i (w lying r d).script → Leaves (ReadsOn d) Q home w r d) → Leaves (ReadsOn d) Q home (when t w) r d
+  when_leaves : (t : Bool) (w : Word Lying) → IsKnown home n i ed (when t w lying r d).script → (IsKnown home n i ed (w lying r d).script → Leaves (ReadsOn d) Q home w r d) → Leaves (ReadsOn d) Q home (when t w) r d
   when_leaves true w known h = let x = h known in record { blocks = x.blocks; rewrites = x.rewrites; stock = x.stock }
-  when_leaves false w known h = let x = (b_quiet {P = ReadsOn d} {Q = Q}).each n i r d at known in record { blocks = x.blocks; rewrites = x.rewrites; stock = x.stock }
+  when_leaves false w known h = let x = (b_quiet {P = ReadsOn d} {Q = Q}).each n i ed r d at known in record { blocks = x.blocks; rewrites = x.rewrites; stock = x.stock }
 
-  pub gives_read : (e : Event) → IsGivenEvent IsBytes e → IsGivenEvent Q e → IsKnown home n i (rules.react e lying r d).script → Leaves (ReadsOn d) Q home (rules.react e) r d
+  pub gives_read : (e : Event) → IsGivenEvent IsBytes e → IsGivenEvent Q e → IsKnown home n i ed (rules.react e lying r d).script → Leaves (ReadsOn d) Q home (rules.react e) r d
   unfolding rules.react by
   gives_read (event.Deliver (frame.GetBlock g)) are given known = let x = when_leaves _ (rules.on_message (frame.GetBlock g)) known (get_leaves g) in record { blocks = x.blocks; rewrites = x.rewrites; stock = x.stock }
-  gives_read (event.Deliver (frame.Request q)) are given known = (v_react {P = ReadsOn d} {Q = Q} (event.Deliver (frame.Request q)) are given tt).each n i r d at sound is known
-  gives_read (event.Deliver (frame.Reply a)) are given known = (v_react {P = ReadsOn d} {Q = Q} (event.Deliver (frame.Reply a)) are given tt).each n i r d at sound is known
-  gives_read (event.Deliver (frame.Prepare p)) are given known = (v_react {P = ReadsOn d} {Q = Q} (event.Deliver (frame.Prepare p)) are given tt).each n i r d at sound is known
-  gives_read (event.Deliver (frame.PrepareOk a)) are given known = (v_react {P = ReadsOn d} {Q = Q} (event.Deliver (frame.PrepareOk a)) are given tt).each n i r d at sound is known
-  gives_read (event.Deliver (frame.Commit m)) are given known = (v_react {P = ReadsOn d} {Q = Q} (event.Deliver (frame.Commit m)) are given tt).each n i r d at sound is known
-  gives_read (event.Deliver (frame.StartViewChange m)) are given known = (v_react {P = ReadsOn d} {Q = Q} (event.Deliver (frame.StartViewChange m)) are given tt).each n i r d at sound is known
-  gives_read (event.Deliver (frame.DoViewChange m)) are given known = (v_react {P = ReadsOn d} {Q = Q} (event.Deliver (frame.DoViewChange m)) are given tt).each n i r d at sound is known
-  gives_read (event.Deliver (frame.StartView v)) are given known = (v_react {P = ReadsOn d} {Q = Q} (event.Deliver (frame.StartView v)) are given tt).each n i r d at sound is known
-  gives_read (event.Deliver (frame.GetSync g)) are given known = (v_react {P = ReadsOn d} {Q = Q} (event.Deliver (frame.GetSync g)) are given tt).each n i r d at sound is known
-  gives_read (event.Deliver (frame.SyncView v)) are given known = (v_react {P = ReadsOn d} {Q = Q} (event.Deliver (frame.SyncView v)) are given tt).each n i r d at sound is known
-  gives_read (event.Deliver (frame.GetView g)) are given known = (v_react {P = ReadsOn d} {Q = Q} (event.Deliver (frame.GetView g)) are given tt).each n i r d at sound is known
-  gives_read (event.Deliver (frame.GetPrepare g)) are given known = (v_react {P = ReadsOn d} {Q = Q} (event.Deliver (frame.GetPrepare g)) are given tt).each n i r d at sound is known
-  gives_read (event.Deliver (frame.GivePrepare g)) are given known = (v_react {P = ReadsOn d} {Q = Q} (event.Deliver (frame.GivePrepare g)) are given tt).each n i r d at sound is known
-  gives_read (event.Deliver (frame.GiveBlock g)) are given known = (v_react {P = ReadsOn d} {Q = Q} (event.Deliver (frame.GiveBlock g)) are given tt).each n i r d at sound is known
-  gives_read (event.Request q) are given known = (v_react {P = ReadsOn d} {Q = Q} (event.Request q) are given tt).each n i r d at sound is known
-  gives_read event.Tick are given known = (v_react {P = ReadsOn d} {Q = Q} event.Tick are given tt).each n i r d at sound is known
+  gives_read (event.Deliver (frame.Request q)) are given known = (v_react {P = ReadsOn d} {Q = Q} (event.Deliver (frame.Request q)) are given tt).each n i ed r d at sound is known
+  gives_read (event.Deliver (frame.Reply a)) are given known = (v_react {P = ReadsOn d} {Q = Q} (event.Deliver (frame.Reply a)) are given tt).each n i ed r d at sound is known
+  gives_read (event.Deliver (frame.Prepare p)) are given known = (v_react {P = ReadsOn d} {Q = Q} (event.Deliver (frame.Prepare p)) are given tt).each n i ed r d at sound is known
+  gives_read (event.Deliver (frame.PrepareOk a)) are given known = (v_react {P = ReadsOn d} {Q = Q} (event.Deliver (frame.PrepareOk a)) are given tt).each n i ed r d at sound is known
+  gives_read (event.Deliver (frame.Commit m)) are given known = (v_react {P = ReadsOn d} {Q = Q} (event.Deliver (frame.Commit m)) are given tt).each n i ed r d at sound is known
+  gives_read (event.Deliver (frame.StartViewChange m)) are given known = (v_react {P = ReadsOn d} {Q = Q} (event.Deliver (frame.StartViewChange m)) are given tt).each n i ed r d at sound is known
+  gives_read (event.Deliver (frame.DoViewChange m)) are given known = (v_react {P = ReadsOn d} {Q = Q} (event.Deliver (frame.DoViewChange m)) are given tt).each n i ed r d at sound is known
+  gives_read (event.Deliver (frame.StartView v)) are given known = (v_react {P = ReadsOn d} {Q = Q} (event.Deliver (frame.StartView v)) are given tt).each n i ed r d at sound is known
+  gives_read (event.Deliver (frame.GetSync g)) are given known = (v_react {P = ReadsOn d} {Q = Q} (event.Deliver (frame.GetSync g)) are given tt).each n i ed r d at sound is known
+  gives_read (event.Deliver (frame.SyncView v)) are given known = (v_react {P = ReadsOn d} {Q = Q} (event.Deliver (frame.SyncView v)) are given tt).each n i ed r d at sound is known
+  gives_read (event.Deliver (frame.GetView g)) are given known = (v_react {P = ReadsOn d} {Q = Q} (event.Deliver (frame.GetView g)) are given tt).each n i ed r d at sound is known
+  gives_read (event.Deliver (frame.GetPrepare g)) are given known = (v_react {P = ReadsOn d} {Q = Q} (event.Deliver (frame.GetPrepare g)) are given tt).each n i ed r d at sound is known
+  gives_read (event.Deliver (frame.GivePrepare g)) are given known = (v_react {P = ReadsOn d} {Q = Q} (event.Deliver (frame.GivePrepare g)) are given tt).each n i ed r d at sound is known
+  gives_read (event.Deliver (frame.GiveBlock g)) are given known = (v_react {P = ReadsOn d} {Q = Q} (event.Deliver (frame.GiveBlock g)) are given tt).each n i ed r d at sound is known
+  gives_read (event.Request q) are given known = (v_react {P = ReadsOn d} {Q = Q} (event.Request q) are given tt).each n i ed r d at sound is known
+  gives_read event.Tick are given known = (v_react {P = ReadsOn d} {Q = Q} event.Tick are given tt).each n i ed r d at sound is known

@@ -165,12 +165,12 @@ undenied_by ver v k f e (Some g) h w s t r =
     ] refl
 
 -- what the slot holds, where it counts beside the value, isn't denied
-pub undenied : (v : SuperValue) (k : ℕ) (d : Lying) (h : Header) → Value v → v.fields.version ≡ 1 → IsFace d.face → Stands d.version v.fields.mode d.face (k % 64) (held_at d.held (k % 64)) → HoldsEntry v.fields.cluster h (held_at d.held (k % 64)) → Counts v k h
+pub undenied : (v : SuperValue) (k : ℕ) (d : Lying) (h : Header) → Value v → d.version ≡ v.fields.version → IsFace d.face → Stands d.version v.fields.mode d.face (k % 64) (held_at d.held (k % 64)) → HoldsEntry d.version v.fields.cluster h (held_at d.held (k % 64)) → Counts v k h
     → IsUndenied (Of v k (slot_at k lying d))
-undenied v k d h w one f s y c =
+undenied v k d h w file f s y c =
     let e = y.entry in
     let less = y.version in
-    let few : e.header.version ≤ v.fields.version = subst (λ (h : Header). h.version ≤ v.fields.version) (sym y.header) (omega (arith, less, one)) in
+    let few : e.header.version ≤ v.fields.version = subst (λ (h : Header). h.version ≤ v.fields.version) (sym y.header) (omega (arith, less, file)) in
     let back : h ≡ e.header = sym y.header in
     let own = ap (λ (h : Header). h.cluster) y.header ∙ y.group in
     undenied_by d.version v k d.face e (header_in d.face (k % 64)) f y.whole (subst (Stands d.version v.fields.mode d.face (k % 64)) y.there s) (fits v k e w y.whole few own (subst (Counts v k) back c)) refl

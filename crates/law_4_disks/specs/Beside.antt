@@ -22,13 +22,13 @@ use Rattle.vr_world.specs.Group.{AreSound, Member, MayOpen, cut_after, kept_at, 
 
 -- ---- the relation
 
--- a slot holds an entry of this header, of a group, and of version 1
-pub record HoldsEntry (cluster : ℕ) (h : Header) (held : Option (List ℕ)) : Type 0 where
+-- a slot holds an entry of this header, of a version that the file takes, and of a group
+pub record HoldsEntry (edition cluster : ℕ) (h : Header) (held : Option (List ℕ)) : Type 0 where
   pub entry : Whole
   pub whole : IsWhole entry
   pub header : entry.header ≡ h
   pub group : h.cluster ≡ cluster
-  pub version : h.version ≤ 1
+  pub version : h.version ≤ edition
   pub there : held ≡ Some (prepare_bytes entry)
 
 -- a disk of a file of this mode, between calls that end with a sync: nothing waits, and the premise of each slot stands
@@ -37,10 +37,10 @@ pub record IsCalm (mode : Mode) (d : Lying) : Type 0 where
   pub rests : d.face.waiting ≡ []
   pub stand : AllStand d.version mode d.face d.held
 
--- what the member keeps of a slot is an entry of its group that the slot holds
+-- what the member keeps of a slot is an entry of its group that the slot holds, and that the file takes
 pub record IsHeld (d : Lying) (m : Member) : Type 0 where
   pub count : length m.kept ≡ 64
-  pub each : (slot : ℕ) (h : Header) → slot < 64 → slice_index_or m.kept slot None ≡ Some h → HoldsEntry m.last.fields.cluster h (held_at d.held slot)
+  pub each : (slot : ℕ) (h : Header) → slot < 64 → slice_index_or m.kept slot None ≡ Some h → HoldsEntry d.version m.last.fields.cluster h (held_at d.held slot)
 
 -- a member in the midst of a script, and one that runs: the superblock opens as the value that was last written or mended, which is of the file's version
 pub record IsOn (d : Lying) (m : Member) : Type 0 where
@@ -48,7 +48,6 @@ pub record IsOn (d : Lying) (m : Member) : Type 0 where
   pub held : IsHeld d m
   pub value : opens d.face ≡ Some m.last
   pub file : d.version ≡ m.last.fields.version
-  pub version : m.last.fields.version ≡ 1
   pub under : m.under ≡ None
 
 -- one that is stopped: it opens as that value, or as the one whose write was cut, which is of the same group
@@ -57,7 +56,6 @@ pub record IsOff (d : Lying) (m : Member) (v : SuperValue) : Type 0 where
   pub held : IsHeld d m
   pub value : opens d.face ≡ Some v
   pub file : d.version ≡ v.fields.version
-  pub version : v.fields.version ≡ 1
   pub may : MayOpen m v
   pub group : v.fields.cluster ≡ m.last.fields.cluster
 
@@ -92,11 +90,11 @@ TellsIn (e ∷ es) d j code =
 
 -- ---- what an effect of a script is
 
--- entries and values have the forms of their kinds, and are of the group that the superblock has, and entries of version 1; a header is written
--- where the entry of it is read; what is saved follows what the superblock has, in a file of its kind
+-- entries and values have the forms of their kinds, and are of the group that the superblock has, and entries of a version that the file takes; a
+-- header is written where the entry of it is read; what is saved follows what the superblock has, in a file of its kind
 abbrev pub IsFit : Effect → Lying → SuperValue → Type 0
-IsFit (Write again e) d v = IsWhole e × (e.header.cluster ≡ v.fields.cluster) × (e.header.version ≤ 1)
-IsFit (Rewrite h) d v = (e : Whole) × (whole_in d.version d.face (slot_of h) ≡ Some e) × (e.header ≡ h) × (e.header.cluster ≡ v.fields.cluster) × (e.header.version ≤ 1)
+IsFit (Write again e) d v = IsWhole e × (e.header.cluster ≡ v.fields.cluster) × (e.header.version ≤ d.version)
+IsFit (Rewrite h) d v = (e : Whole) × (whole_in d.version d.face (slot_of h) ≡ Some e) × (e.header ≡ h) × (e.header.cluster ≡ v.fields.cluster) × (e.header.version ≤ d.version)
 IsFit (Save old new) d v = (old ≡ v) × (file_kind new.fields ≡ file_kind old.fields) × IsGood new × (new.fields.cluster ≡ old.fields.cluster)
 IsFit (Mend x) d v = x ≡ v
 IsFit (Checkpoint cluster texts op old) d v = ⊤

@@ -34,9 +34,9 @@ StepsChain F = (s : Setting F) (f : F) (r : Replica) (e : Event) → Chain r.sav
 abbrev pub OpeningsChain : Type 0 → Type 0
 OpeningsChain F = (s : Setting F) (f : F) (r : Replica) → Chain r.saved (resuming s r f).script (resuming s r f).replica.saved
 
--- on this disk the header of an entry of the group, of version 1, is written where that entry is read
+-- on this disk the header of an entry of the group, which the file takes, is written where that entry is read
 abbrev pub IsRewritten : ℕ → Effect → Lying → Type 0
-IsRewritten cluster (Rewrite h) d = (e : Whole) × (whole_in d.version d.face (slot_of h) ≡ Some e) × (e.header ≡ h) × (e.header.cluster ≡ cluster) × (e.header.version ≤ 1)
+IsRewritten cluster (Rewrite h) d = (e : Whole) × (whole_in d.version d.face (slot_of h) ≡ Some e) × (e.header ≡ h) × (e.header.cluster ≡ cluster) × (e.header.version ≤ d.version)
 IsRewritten cluster _ d = ⊤
 
 -- each that a script writes, on the disk that the effects before it have left
@@ -44,9 +44,9 @@ abbrev pub Rewrites : ℕ → List Effect → Lying → Type 0
 Rewrites cluster [] d = ⊤
 Rewrites cluster (e ∷ es) d = IsRewritten cluster e d × Rewrites cluster es (lying.after d e)
 
--- an entry of that group, of version 1, and a value of it have their forms
+-- an entry of that group, which the file takes, and a value of it have their forms
 abbrev pub IsFormed : ℕ → Effect → Lying → Type 0
-IsFormed cluster (Write again e) d = IsWhole e × (e.header.cluster ≡ cluster) × (e.header.version ≤ 1)
+IsFormed cluster (Write again e) d = IsWhole e × (e.header.cluster ≡ cluster) × (e.header.version ≤ d.version)
 IsFormed cluster (Rewrite h) d = IsRewritten cluster (Rewrite h) d
 IsFormed cluster (Save old new) d = IsGood new × (new.fields.cluster ≡ cluster)
 IsFormed cluster _ d = ⊤

@@ -1,6 +1,7 @@
 -- What stands of each effect.
 use Rattle.std.specs.Prelude.{ℕ, ◌^◌, ◌≤◌, ◌<◌, ◌≡◌, List, ◌∷◌, length}
 use Rattle.vr_base.specs.declared.kind.Kind.{Kind}
+use Rattle.vr_world.specs.Opening.{AreKinds}
 use Rattle.vr_header.specs.declared.header.Header.{Header}
 use Rattle.vr_lie.specs.Copies.{SuperValue}
 use Rattle.vr_world.specs.Steps.{Effect, Mend, after_all}
@@ -43,11 +44,11 @@ OpeningsCut =
     (es : List Effect) (d : Lying) (m : Member) (v : SuperValue) (j code : ℕ) → IsOff d m v → MayGo (Mend v ∷ es) d v → j < length (script_calls d.version (Mend v ∷ es) d.face) → TellsIn (Mend v ∷ es) d j code
     → IsCutAt (Mend v ∷ es) d.face j (cut_calls j code d (script_calls d.version (Mend v ∷ es) d.face)) m
 
--- ---- what an opening finds, from a stopped member
+-- ---- what an opening finds, from a stopped member of a group of at least two
 
 abbrev pub OpeningsFind : Type 0
 OpeningsFind =
-    (d : Lying) (m : Member) (v : SuperValue) (made : List Header) → IsOff d m v → AreMade made v (lying.after d (Mend v)) → Finds d m v made
+    (d : Lying) (m : Member) (v : SuperValue) (made : List Header) → 2 ≤ v.fields.n → IsOff d m v → AreMade made v (lying.after d (Mend v)) → Finds d m v made
 
 -- ---- a line of a schedule is a move of the group, or none
 
@@ -62,7 +63,7 @@ pub record Begin (kinds : ℕ → Kind) (cluster n : ℕ) : Type 0 where
   pub stock : IsStockedGroup (fresh_group kinds cluster n)
 
 abbrev pub WorldsBegin : Type 0
-WorldsBegin = (kinds : ℕ → Kind) (cluster n : ℕ) → cluster < 2 ^ 64 → 2 ≤ n → n ≤ 6 → Begin kinds cluster n
+WorldsBegin = (kinds : ℕ → Kind) (cluster n : ℕ) → AreKinds kinds n → cluster < 2 ^ 64 → 2 ≤ n → n ≤ 6 → Begin kinds cluster n
 
 -- the world that a schedule begins is one of them
 abbrev pub SchedulesBegin : Type 0

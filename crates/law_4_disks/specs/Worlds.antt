@@ -22,6 +22,7 @@ use Rattle.vr_world.specs.Lying.{Lying, hazards, lying}
 use Rattle.vr_world.specs.World.{World, Host, Happening, Happened, Begins, Asks, Arrives, Ticks, Stops, Starts, Fuses, Lies}
 use Rattle.vr_world.specs.Fit.{IsAsked}
 use Rattle.vr_world.specs.Group.{Crashes, Cuts, Group, Member, Move, Played, Recovers, RecoversCut, Run, Steps, made_in}
+use Rattle.vr_world.specs.Files.{IsOfFile}
 use Rattle.vr_world.specs.GroupFit.{IsFitGroup, IsFitMove}
 use Rattle.vr_world.specs.Safe.{disks_of, run_outputs}
 use Rattle.law_4_disks.specs.Beside.{AreMade, IsOff, IsOn, begun_before}
@@ -78,12 +79,13 @@ IsOfBytes (Crashes at) = ⊤
 IsOfBytes (Recovers at value disk) = IsFace disk.face
 IsOfBytes (RecoversCut at value disk effects) = IsFace disk.face
 
--- what happened is a run of the group, whose moves read what the program has, from disks of bytes
+-- what happened is a run of the group, whose moves read what the program has, from disks of bytes, with the members' files
 pub record IsMatched (g : Group) (h : Happened Lying) : Type 0 where
   pub run : List Played
   pub is : Run g run
   pub reads : All (λ (p : Played). IsFitMove p.move) run
   pub bytes : All (λ (p : Played). IsOfBytes p.move) run
+  pub files : All (λ (p : Played). IsOfFile p.before p.move) run
   pub beside : AreBeside h.world (left g run)
   pub said : Said h.outputs (run_outputs run)
 

@@ -11,6 +11,7 @@ use Rattle.vr_disk.specs.Regions.{block_place, header_place, prepare_place, prep
 use Rattle.vr_disk.specs.Sectors.{together}
 use Rattle.vr_disk.specs.Stops.{Spares}
 use Rattle.vr_disk.proofs.Frames.{frame_all}
+use Rattle.vr_disk.proofs.Places.{behind_headers, counted}
 use Rattle.vr_disk.proofs.Together.{after_all_append, length_after_all, spares_append, together_bytes}
 use Rattle.vr_header.specs.declared.header.Header.{Header}
 use Rattle.vr_header.specs.Made.{Whole}
@@ -33,6 +34,7 @@ use Rattle.law_3_outputs.specs.Safe as safe
 use Rattle.law_3_outputs.specs.Safe.{IsRead}
 use Rattle.law_3_outputs.proofs.FitDisks.{grid_behind, save_spares}
 use Rattle.law_3_outputs.proofs.SlotCalls.{together_past}
+use Rattle.law_4_disks.proofs.Calls.{format_is, prepares_fit}
 use Rattle.law_5_seals.specs.Seals.{HasCell, HasSectors, Puts}
 use Rattle.law_5_seals.proofs.Contents.{has_after_all, has_at}
 use Rattle.law_5_seals.proofs.Turning.{no_fault}
@@ -58,9 +60,9 @@ zeros_put : (n i : ℕ) → i + n ≤ sectors → AllByRecursion (Puts IsZero) (
 zeros_put zero i l = tt
 zeros_put (suc n) i l = ((omega (arith, l), refl), zeros_put n (i + 1) (omega (arith, l)))
 
-heads_spare : (n i k : ℕ) → i + n ≤ 64 → 144 ≤ k → AllByRecursion (Spares k) (map (λ slot. Write (header_place slot) (sector_of (reserved_header 0 slot))) (range_with_len i n))
-heads_spare zero i k l m = tt
-heads_spare (suc n) i k l m = (λ e. omega (arith, e, l, m), heads_spare n (i + 1) k (omega (arith, l)) m)
+heads_spare : (v n i k : ℕ) → i + n ≤ 64 → 144 ≤ k → AllByRecursion (Spares k) (map (λ slot. Write (header_place slot) (sector_of (reserved_header v 0 slot))) (range_with_len i n))
+heads_spare v zero i k l m = tt
+heads_spare v (suc n) i k l m = (λ e. omega (arith, e, l, m), heads_spare v n (i + 1) k (omega (arith, l)) m)
 
 -- so many sectors
 abbrev zeros : ℕ → List ℕ
@@ -85,18 +87,20 @@ module _ (kind : Kind) (n i : ℕ) where
   abbrev pub fresh_face : Face
   fresh_face = after_all zero_face (format_calls kind 0 n i)
 
+  abbrev v : ℕ
+  v = kind.version
+
   abbrev later : List Call
-  later = reserved_headers 0 ++ Sync ∷ save_from 0 4 (copy_bytes (first_value kind 0 n i))
+  later = reserved_headers v 0 ++ Sync ∷ save_from 0 4 (copy_bytes (first_value kind 0 n i))
 
   later_spares : (k : ℕ) → 144 ≤ k → AllByRecursion (Spares k) later
-  later_spares k l = spares_append k (reserved_headers 0) (Sync ∷ save_from 0 4 (copy_bytes (first_value kind 0 n i))) (heads_spare 64 0 k (omega arith) l) (tt, save_spares 4 0 k (copy_bytes (first_value kind 0 n i)) (omega arith) (omega (arith, l)))
+  later_spares k l = spares_append k (reserved_headers v 0) (Sync ∷ save_from 0 4 (copy_bytes (first_value kind 0 n i))) (heads_spare v 64 0 k (omega arith) l) (tt, save_spares 4 0 k (copy_bytes (first_value kind 0 n i)) (omega arith) (omega (arith, l)))
 
   zero_at : (k : ℕ) (b : List ℕ) → 144 ≤ k → k < sectors → reads fresh_face k ≡ Some b → IsZero b
-  unfolding format_calls
   zero_at k b l m e =
-      let g = after_all zero_face zero_prepares in
-      let same : cell fresh_face k ≡ cell g k = ap (λ (h : Face). cell h k) (after_all_append zero_prepares later zero_face) ∙ frame_all later g k (later_spares k l) in
-      (has_at IsZero g k (has_after_all IsZero zero_prepares zero_face zero_has (zeros_put 256 144 (omega arith))) m).reads b (ap (λ (c : Cell). c.reads) (sym same) ∙ e)
+      let g = after_all zero_face (zero_prepares v) in
+      let same : cell fresh_face k ≡ cell g k = ap (λ (h : Face). cell h k) (ap (after_all zero_face) (format_is kind 0 n i) ∙ after_all_append (zero_prepares v) later zero_face) ∙ frame_all later g k (later_spares k l) in
+      (has_at IsZero g k (has_after_all IsZero (zero_prepares v) zero_face zero_has (zeros_put (64 * prepare_sectors v) (prepare_place v 0) (prepares_fit v))) m).reads b (ap (λ (c : Cell). c.reads) (sym same) ∙ e)
 
   count : length fresh_face.cells ≡ sectors
   count = length_after_all (format_calls kind 0 n i) zero_face ∙ length-replicate sectors zero_cell
@@ -111,29 +115,36 @@ module _ (kind : Kind) (n i : ℕ) where
 
   -- ---- no entry, and no block
 
-  no_reading : IsFace fresh_face → (slot : ℕ) (e : Whole) (o : Option (List ℕ)) → together (prepare_place 1 slot) (prepare_sectors 1) fresh_face ≡ o → option_and_then whole_of (option_map (padded 1) o) ≡ Some e → ⊥
+  no_reading : IsFace fresh_face → (slot : ℕ) (e : Whole) (o : Option (List ℕ)) → together (prepare_place v slot) (prepare_sectors v) fresh_face ≡ o → option_and_then whole_of (option_map (padded v) o) ≡ Some e → ⊥
   no_reading face slot e None r w = absurd cc
   no_reading face slot e (Some b) r w =
       let n = count in
-      elim (cases_lt (prepare_place 1 slot + 3) sectors) [
-        | inr past ↦ (let none : None ≡ Some b = sym (together_past 3 (prepare_place 1 slot) fresh_face (omega (arith, n, past))) ∙ r in absurd cc)
+      let m = prepare_sectors v in
+      let few = counted v in
+      let more : m ≡ suc (m - 1) = omega (arith, few.0) in
+      elim (cases_lt (prepare_place v slot + (m - 1)) sectors) [
+        | inr past ↦
+            let gone = together_past (m - 1) (prepare_place v slot) fresh_face (omega (arith, n, past)) in
+            let none : None ≡ Some b = sym gone ∙ (ap (λ (k : ℕ). together (prepare_place v slot) k fresh_face) (sym more) ∙ r) in
+            absurd cc
         | inl within ↦
-            let k = 4096 - 512 * prepare_sectors 1 in
-            let behind : List ℕ = replicate k 0 in
-            let z = all_zero 4 (prepare_place 1 slot) b (omega arith) (omega (arith, within)) r in
-            let is : padded 1 b ≡ zero_sector ++ (zeros 3 ++ behind) = ap (padded 1) z ∙ append_assoc zero_sector (zeros 3) behind in
-            let size = ap length z ∙ length-zeros 4 in
-            let all = length-append b behind in
+            let behind = behind_headers v slot in
+            let k = 4096 - 512 * m in
+            let after : List ℕ = replicate k 0 in
+            let z = all_zero m (prepare_place v slot) b behind (omega (arith, within, few.0)) r in
+            let is : padded v b ≡ zero_sector ++ (zeros (m - 1) ++ after) = ap (padded v) (z ∙ ap zeros more) ∙ append_assoc zero_sector (zeros (m - 1)) after in
+            let size = ap length z ∙ length-zeros m in
+            let all = length-append b after in
             let rest = length-replicate {A = ℕ} k 0 in
-            let are = IsBytes-append b behind (together_bytes 4 (prepare_place 1 slot) fresh_face face (omega (arith, within)) b r) (IsBytes-zeros k) in
-            let found = one_spelling.entry_found (padded 1 b) e are (omega (arith, size, all, rest)) w in
-            let spells : Spells e.header (padded 1 b) = ap (take 128) found.0 ∙ prepare_spells e found.1.header in
-            no_header (padded 1 b) (zeros 3 ++ behind) e.header is (decoded_again e.header (padded 1 b) found.1.header spells)
+            let are = IsBytes-append b after (together_bytes m (prepare_place v slot) fresh_face face (omega (arith, within, few.0)) b r) (IsBytes-zeros k) in
+            let found = one_spelling.entry_found (padded v b) e are (omega (arith, size, all, rest, few.1)) w in
+            let spells : Spells e.header (padded v b) = ap (take 128) found.0 ∙ prepare_spells e found.1.header in
+            no_header (padded v b) (zeros (m - 1) ++ after) e.header is (decoded_again e.header (padded v b) found.1.header spells)
       ]
 
-  no_entry : IsFace fresh_face → (slot : ℕ) (e : Whole) → whole_in 1 fresh_face slot ≡ Some e → ⊥
+  no_entry : IsFace fresh_face → (slot : ℕ) (e : Whole) → whole_in v fresh_face slot ≡ Some e → ⊥
   unfolding whole_in
-  no_entry face slot e w = no_reading face slot e (together (prepare_place 1 slot) (prepare_sectors 1) fresh_face) refl w
+  no_entry face slot e w = no_reading face slot e (together (prepare_place v slot) (prepare_sectors v) fresh_face) refl w
 
   no_block : (name : Name) (c : Content) → named_at fresh_face name ≡ Some c → ⊥
   unfolding block_reading

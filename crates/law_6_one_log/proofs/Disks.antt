@@ -31,7 +31,7 @@ use Rattle.law_3_outputs.specs.Safe as safe
 use Rattle.law_3_outputs.specs.Safe.{IsWritten}
 use Rattle.law_3_outputs.specs.Steps.{Effect, Write, Rewrite, Save, Mend, Checkpoint, PutBlock, Say}
 use Rattle.law_3_outputs.proofs.FitDisks.{grid_behind, header_spares, mend_spares, save_spares}
-use Rattle.law_3_outputs.proofs.FitVersions.{prepare_spares, slot_below}
+use Rattle.law_3_outputs.proofs.FitDisks.{prepare_spares, slot_below}
 use Rattle.law_3_outputs.proofs.SlotCalls.{together_past}
 use Rattle.law_6_one_log.specs.Hashed.{IsHashedBlock, ReadsHashed}
 

@@ -26,7 +26,7 @@ use Rattle.law_3_outputs.specs.Bridge.{Bridges, Chained, Follows, FollowsFresh}
 use Rattle.law_3_outputs.proofs.Waking.{fresh_runs_so}
 use Rattle.law_3_outputs.specs.Followed.{IsCarried, IsChoiceLine, IsFitRun, IsFollowed, IsFrom, IsSo}
 use Rattle.law_3_outputs.proofs.Carrying.{every_of}
-use Rattle.law_3_outputs.proofs.Fitting.{fit_at, move_of}
+use Rattle.law_3_outputs.proofs.Fitting.{file_at, fit_at, move_of}
 use Rattle.law_3_outputs.proofs.Machine.{number_is}
 use Rattle.law_3_outputs.proofs.Placing.{placed_at}
 use Rattle.law_3_outputs.proofs.Sets.{get_in, in_contains}
@@ -109,7 +109,7 @@ module _ (cluster n : ℕ) (run : List Played) (fit : IsFitRun cluster n run) (u
         sent = x.sent;
         chosen = x.chosen;
         said = every_of (IsSo cluster u run (at t) (at (suc t)) p) p.moved.outputs (λ o j.
-            so cluster u run (at t) (at (suc t)) p (reached_at u first t run follows bridges.reached) (from_so cluster p.before p.move p.moved f.0.0 placed moves) (line_hashed run cluster p.before p.move p.moved there f.0.0 f.1 moves)
+            so cluster u run (at t) (at (suc t)) p (reached_at u first t run follows bridges.reached) (from_so cluster p.before p.move p.moved f.0.0 placed moves) (line_hashed run cluster p.before p.move p.moved there f.0.0 f.1 (file_at cluster n run fit t p is) moves)
             (choice_so u (at (suc t)).chosen p.before p.move p.moved size mine f.1 moves x.choices) o j (every_in (IsTrue u (at t).sent (at (suc t)).sent) p.moved.outputs o j told));
         only = λ m h. elim (x.only m h) [ inl old ↦ inl old | inr new ↦ elim new [ inl said ↦ inr said | inr own ↦ elim own [ inl early ↦ let alone = early.alone in absurd (omega arith) | inr late ↦ let alone = late.alone in absurd (omega arith) ] ] ];
         made = x.made;
@@ -132,7 +132,7 @@ module _ (cluster n : ℕ) (run : List Played) (fit : IsFitRun cluster n run) (u
 pub follows_it : (cluster n : ℕ) (run : List Played) → IsFitRun cluster n run → FollowsIt cluster n run
 unfolding followed
 follows_it cluster n run fit =
-    let y : FollowsFresh fit.kinds cluster n run = fresh_runs_so fit.kinds cluster n run fit.number fit.few fit.many fit.moves fit.of_run in
+    let y : FollowsFresh fit.kinds cluster n run = fresh_runs_so fit.kinds cluster n run fit.are_kinds fit.number fit.few fit.many fit.moves fit.of_run in
     record {
       setup = y.setup;
       followed = followed cluster n run fit y.setup y.cluster_is y.first y.bridges y.follows y.size_is y.hash_is y.fits y.none_sent y.none_made;

@@ -1,30 +1,31 @@
 -- A group that begins: on its disks nothing reads as the header of an entry.
 use Rattle.vr_base.specs.declared.kind.Kind.{Kind}
-use Rattle.std.proofs.Common.{ℕ, zero, suc, ◌+◌, ◌^◌, ◌≤◌, ◌<◌, ◌≡◌, ◌⊎◌, inl, inr, arith, refl, sym, ap, ◌∙◌, subst, true, false, List, [], ◌∷◌, ◌++◌, length, map, get_or, Some}
+use Rattle.std.proofs.Common.{ℕ, zero, suc, ◌+◌, ◌*◌, ◌^◌, ◌≤◌, ◌<◌, ◌≡◌, ◌⊎◌, inl, inr, arith, refl, sym, ap, ◌∙◌, subst, true, false, List, [], ◌∷◌, ◌++◌, length, map, get_or, Some}
 use Rattle.std.specs.List.{range_with_len}
 use Rattle.std.proofs.lemmas.List.{get_or-replicate, length-replicate}
 use Rattle.std.proofs.lemmas.List.FromFn.{get_or-map-range_with_len, length-map-range_with_len}
 use Rattle.std.proofs.lemmas.List.Elements.{All-nil}
 use Rattle.std.proofs.lemmas.Option.{slice_get_within, slice_get-get_or}
-use Rattle.vr_disk.specs.DiskState.{Write, Sync}
-use Rattle.vr_disk.specs.Regions.{header_place, sectors}
+use Rattle.vr_disk.specs.DiskState.{Call, Write, Sync}
+use Rattle.vr_disk.specs.Regions.{header_place, prepare_place, prepare_sectors, sectors}
 use Rattle.vr_header.specs.Made.{is_entry_header}
 use Rattle.vr_lie.specs.Copies.{copy_bytes}
 use Rattle.vr_lie.specs.Calls.{save_from}
 use Rattle.vr_lie.specs.Slots.{sector_of}
-use Rattle.law_3_outputs.specs.Opening.{first_value}
+use Rattle.law_3_outputs.specs.Opening.{AreKinds, IsKind, first_value}
 use Rattle.law_3_outputs.specs.Lying.{Lying, hazards, zero_cell, zero_face}
 use Rattle.law_3_outputs.specs.Formatting.{format_calls, reserved_header, reserved_headers, zero_prepares, zero_sector}
 use Rattle.law_3_outputs.specs.World as world
 use Rattle.law_3_outputs.specs.World.{World, happen}
 use Rattle.law_3_outputs.specs.Group.{Group, Played, Run, fresh_group}
+use Rattle.law_3_outputs.specs.Files.{IsOfFile}
 use Rattle.law_3_outputs.specs.GroupFit.{IsFitMove}
 use Rattle.law_3_outputs.specs.Safe as safe
 use Rattle.vr_header.specs.Names.{root_header}
 use Rattle.law_3_outputs.proofs.FitFresh.{fresh_fits}
 use Rattle.law_3_outputs.proofs.FitGroups.{fresh_group_fits}
 use Rattle.law_1_machine.specs.Basics.{In}
-use Rattle.law_4_disks.proofs.Calls.{copy_are, reserved_is, sector_content, zero_content}
+use Rattle.law_4_disks.proofs.Calls.{copy_are, format_is, prepares_fit, reserved_is, sector_content, zero_content}
 use Rattle.law_4_disks.proofs.Fresh.{fresh_beside, group_stocked, none_made, schedules_begin, some_world}
 use Rattle.law_5_seals.specs.Seals.{HasCell, HasSectors, IsSealed}
 use Rattle.law_5_seals.proofs.Contents.{has_after_all}
@@ -65,62 +66,78 @@ zeros_sealed : (n i : ℕ) → i + n ≤ sectors → AreSealed [] (map (λ k. Wr
 zeros_sealed zero i l = tt
 zeros_sealed (suc n) i l = ((omega (arith, l), zero_sealed), zeros_sealed n (i + 1) (omega (arith, l)))
 
-reserved_none : (home slot : ℕ) → is_entry_header (reserved_header home slot) ≡ true → In (reserved_header home slot) []
-reserved_none home slot e = let bad : false ≡ true = e in absurd cc
+reserved_none : (ver home slot : ℕ) → is_entry_header (reserved_header ver home slot) ≡ true → In (reserved_header ver home slot) []
+reserved_none ver home slot e = let bad : false ≡ true = e in absurd cc
 
-reserved_sealed : (home n i : ℕ) → home < 2 ^ 64 → i + n ≤ 64 → AreSealed [] (map (λ slot. Write (header_place slot) (sector_of (reserved_header home slot))) (range_with_len i n))
-reserved_sealed home zero i room l = tt
-reserved_sealed home (suc n) i room l =
-    let is = reserved_is home i room (omega (arith, l)) in
-    ((omega (arith, l), header_sealed [] (reserved_header home i) is (sector_content (reserved_header home i) is) (λ e _. reserved_none home i e)), reserved_sealed home n (i + 1) room (omega (arith, l)))
+reserved_sealed : (ver home n i : ℕ) → (1 ≤ ver) × (ver ≤ 2) → home < 2 ^ 64 → i + n ≤ 64 → AreSealed [] (map (λ slot. Write (header_place slot) (sector_of (reserved_header ver home slot))) (range_with_len i n))
+reserved_sealed ver home zero i k room l = tt
+reserved_sealed ver home (suc n) i k room l =
+    let is = reserved_is ver home i k room (omega (arith, l)) in
+    ((omega (arith, l), header_sealed [] (reserved_header ver home i) is (sector_content (reserved_header ver home i) is) (λ e _. reserved_none ver home i e)), reserved_sealed ver home n (i + 1) k room (omega (arith, l)))
 
-format_sealed : (kind : Kind) (home n i : ℕ) → home < 2 ^ 64 → 2 ≤ n → n ≤ 6 → i < n → AreSealed [] (format_calls kind home n i)
-unfolding format_calls
-format_sealed kind home n i room a b l =
+format_sealed : (kind : Kind) (home n i : ℕ) → IsKind kind → home < 2 ^ 64 → 2 ≤ n → n ≤ 6 → i < n → AreSealed [] (format_calls kind home n i)
+format_sealed kind home n i k room a b l =
     let v = first_value kind home n i in
-    let good = (fresh_fits kind home n i room a b l).value in
-    seals_append [] zero_prepares (reserved_headers home ++ Sync ∷ save_from 0 4 (copy_bytes v)) (zeros_sealed 256 144 (omega arith))
-    (seals_append [] (reserved_headers home) (Sync ∷ save_from 0 4 (copy_bytes v)) (reserved_sealed home 64 0 room (omega arith)) (tt, saves_sealed [] v good (copy_are v good) tt 4 0 (omega arith)))
+    let ver = kind.version in
+    let good = (fresh_fits kind home n i k room a b l).value in
+    let last : List Call = Sync ∷ save_from 0 4 (copy_bytes v) in
+    subst (AreSealed []) (sym (format_is kind home n i))
+    (seals_append [] (zero_prepares ver) (reserved_headers ver home ++ last) (zeros_sealed (64 * prepare_sectors ver) (prepare_place ver 0) (prepares_fit ver))
+    (seals_append [] (reserved_headers ver home) last (reserved_sealed ver home 64 0 k room (omega arith)) (tt, saves_sealed [] v good (copy_are v good) tt 4 0 (omega arith))))
 
 -- ---- the world
 
-fresh_sealed : (kinds : ℕ → Kind) (home n : ℕ) → home < 2 ^ 64 → 2 ≤ n → n ≤ 6 → IsSealedWorld (first_world kinds home n) []
+fresh_sealed : (kinds : ℕ → Kind) (home n : ℕ) → AreKinds kinds n → home < 2 ^ 64 → 2 ≤ n → n ≤ 6 → IsSealedWorld (first_world kinds home n) []
 unfolding first_world
-fresh_sealed kinds home n room a b = record {
+fresh_sealed kinds home n k room a b = record {
   disks = λ i m e.
       let f : ℕ → world.Host Lying = first_host kinds home n in
       let size = length-map-range_with_len f 0 n in
       let within = slice_get_within (map f (range_with_len 0 n)) i m e in
       let l : i < n = omega (arith, size, within) in
       let is : m ≡ f i = some_world m (f i) (sym e ∙ (slice_get-get_or (map f (range_with_len 0 n)) i m within ∙ ap Some (get_or-map-range_with_len f 0 n i i m l (omega arith)))) in
-      subst (λ (m : world.Host Lying). HasSectors (IsSealed []) m.disk.face) (sym is) (has_after_all (IsSealed []) (format_calls (kinds i) home n i) zero_face zero_face_sealed (format_sealed (kinds i) home n i room a b l));
+      subst (λ (m : world.Host Lying). HasSectors (IsSealed []) m.disk.face) (sym is) (has_after_all (IsSealed []) (format_calls (kinds i) home n i) zero_face zero_face_sealed (format_sealed (kinds i) home n i (k i l) room a b l));
   sent = λ number s e. absurd cc;
 }
 
 -- a group that was just made: no move led there, and nothing was made in the machine
-fresh_led : (kinds : ℕ → Kind) (home n : ℕ) → home < 2 ^ 64 → 2 ≤ n → n ≤ 6 → IsLed home (fresh_group kinds home n)
-fresh_led kinds home n room a b = record { n = n; run = []; fit = record { number = room; few = a; many = b; moves = All-nil (λ (p : Played). IsFitMove p.move); kinds = kinds; of_run = Run.ended (fresh_group kinds home n) }; is = refl }
+fresh_led : (kinds : ℕ → Kind) (home n : ℕ) → AreKinds kinds n → home < 2 ^ 64 → 2 ≤ n → n ≤ 6 → IsLed home (fresh_group kinds home n)
+fresh_led kinds home n k room a b = record {
+  n = n;
+  run = [];
+  fit = record {
+    number = room;
+    few = a;
+    many = b;
+    moves = All-nil (λ (p : Played). IsFitMove p.move);
+    files = All-nil (λ (p : Played). IsOfFile p.before p.move);
+    kinds = kinds;
+    are_kinds = k;
+    of_run = Run.ended (fresh_group kinds home n);
+  };
+  is = refl;
+}
 
 pub worlds_begin_unforged : WorldsBeginUnforged
 unfolding fresh_led
-worlds_begin_unforged kinds home n room a b =
-    let c = bridged_fresh kinds home n room a b in
+worlds_begin_unforged kinds home n k room a b =
+    let c = bridged_fresh kinds home n k room a b in
     let none = c.1 in (
       record {
-        beside = fresh_beside kinds home n room a b;
-        fit = fresh_group_fits kinds home n room a b;
+        beside = fresh_beside kinds home n k room a b;
+        fit = fresh_group_fits kinds home n k room a b;
         stock = group_stocked kinds home n;
         bridged = c.0;
-        sealed = subst (IsSealedWorld (first_world kinds home n)) (sym (none_made kinds home n)) (fresh_sealed kinds home n room a b);
-        past = fresh_led kinds home n room a b;
+        sealed = subst (IsSealedWorld (first_world kinds home n)) (sym (none_made kinds home n)) (fresh_sealed kinds home n k room a b);
+        past = fresh_led kinds home n k room a b;
         few = omega (arith, none);
       },
       refl,
     )
 
 pub worlds_are_runs : WorldsAreRuns
-worlds_are_runs kinds home n xs number a b few lines never =
-    let u = worlds_begin_unforged kinds home n number a b in
+worlds_are_runs kinds home n xs k number a b few lines never =
+    let u = worlds_begin_unforged kinds home n k number a b in
     let w = first_world kinds home n in
     let into : (bytes : List ℕ) → safe.IsHashed u.0.past.run (root_header home) bytes ⊎ IsHashedOf home w xs bytes → IsHashedOf home w xs bytes =
     λ bytes h. elim h [ inl old ↦ none_hashed home xs w bytes (subst (λ (run : List Played). safe.IsHashed run (root_header home) bytes) u.1 old) | inr new ↦ new ] in
@@ -132,9 +149,9 @@ worlds_are_runs kinds home n xs number a b few lines never =
 
 pub schedules_are_runs : SchedulesAreRuns
 unfolding happen
-schedules_are_runs kind n xs a b few may =
+schedules_are_runs kind n xs k a b few may =
     let first : Group = fresh_group (λ i. kind) 0 n in
     let all : World Lying → Type 0 = λ w. (m : IsMatched first (happen hazards w xs)) × NoCollision (λ bytes. safe.IsHashed m.run (root_header 0) bytes) in
     let is = schedules_begin kind n in
-    let m = worlds_are_runs (λ i. kind) 0 n xs (omega arith) a b few may.lines (subst (λ (w : World Lying). NoCollision (IsHashedOf 0 w xs)) is may.names) in
+    let m = worlds_are_runs (λ i. kind) 0 n xs (λ i l. k) (omega arith) a b few may.lines (subst (λ (w : World Lying). NoCollision (IsHashedOf 0 w xs)) is may.names) in
     subst all (sym is) (m.0, m.1)

@@ -33,9 +33,9 @@ use Rattle.law_3_outputs.proofs.SlotCalls.{IsTaken, read_or_written}
 use Rattle.law_6_one_log.proofs.Disks.{Begun}
 use Rattle.law_6_one_log.proofs.Walk.{AllMay, May, MaySay}
 
-taken_front : (xs ys : List Effect) → All IsTaken (xs ++ ys) → All IsTaken xs
-taken_front [] ys h = All-nil IsTaken
-taken_front (x ∷ xs) ys h = All-cons IsTaken x xs (All-head IsTaken x (xs ++ ys) h) (taken_front xs ys (All-tail IsTaken x (xs ++ ys) h))
+pub taken_front : (v : ℕ) (xs ys : List Effect) → All (IsTaken v) (xs ++ ys) → All (IsTaken v) xs
+taken_front v [] ys h = All-nil (IsTaken v)
+taken_front v (x ∷ xs) ys h = All-cons (IsTaken v) x xs (All-head (IsTaken v) x (xs ++ ys) h) (taken_front v xs ys (All-tail (IsTaken v) x (xs ++ ys) h))
 
 -- the outputs after some
 ordered_back : (i m : ℕ) (a b : List Output) → AreInOrder i m (a ++ b) → AreInOrder i (m + lines i a) b
@@ -60,7 +60,7 @@ module _ (cluster n : ℕ) (u : Setup) (run : List Played) (x : IsFollowed clust
       let place : b.number - 1 ≡ m = omega arith in
       (subst (λ k. slice_get log k ≡ Some e) place (w.at ∙ ap Some same), record { entry = record { header = read.form; body = read.good.body }; header = read.good.header }, op)
 
-  module _ (t : ℕ) (l : t ≤ length run) (i : ℕ) (d : Lying) (xs : List Effect) (taken : All IsTaken xs) (begun : (e : Effect) → In e xs → Begun H e)
+  module _ (t : ℕ) (l : t ≤ length run) (i : ℕ) (d : Lying) (xs : List Effect) (taken : All (IsTaken d.version) xs) (begun : (e : Effect) → In e xs → Begun H e)
       (entries : (slot : ℕ) (e : Whole) → slot < 64 → lying.entry d slot ≡ Some e → H (operation_bytes e.operation)) where
     abbrev Facts : Committed → Type 0
     Facts c = IsBackedLine u (x.group t).sent c.entry.header × IsWellRead c.entry
@@ -68,7 +68,7 @@ module _ (cluster n : ℕ) (u : Setup) (run : List Played) (x : IsFollowed clust
     -- an entry that reads after some of the effects
     entry_hashed : (done rest : List Effect) → done ++ rest ≡ xs → (slot : ℕ) (e : Whole) → slot < 64 → lying.entry (after_all lying d done) slot ≡ Some e → H (operation_bytes e.operation)
     entry_hashed done rest are slot e within reads =
-        elim (read_or_written done d (taken_front done rest (subst (All IsTaken) (sym are) taken)) slot e within reads) [
+        elim (read_or_written done d (taken_front d.version done rest (subst (All (IsTaken d.version)) (sym are) taken)) slot e within reads) [
           | inl old ↦ entries slot e within old
           | inr w ↦ begun (Write w.0 e) (subst (In (Write w.0 e)) are (in_left done rest (Write w.0 e) w.1)) _ (safe.IsWritten.operation w.0 e)
         ]
@@ -103,7 +103,7 @@ module _ (cluster n : ℕ) (u : Setup) (run : List Played) (x : IsFollowed clust
         let later = all_may rest (done ++ e ∷ []) (append_assoc done (e ∷ []) rest ∙ are) (m + lines i (output_of e)) (ordered_back i m (output_of e) (outputs rest) order) (λ c j. facts c (in_right (output_of e) (outputs rest) (output.Commit c) j)) in
         (effect_may done rest e are m order facts, subst (λ f. AllMay H cluster log i (m + lines i (output_of e)) f rest) (after_both lying d done (e ∷ [])) later)
 
-  pub lines_may : (t : ℕ) → t ≤ length run → (i m : ℕ) (d : Lying) (xs : List Effect) → All IsTaken xs → AreInOrder i m (outputs xs)
+  pub lines_may : (t : ℕ) → t ≤ length run → (i m : ℕ) (d : Lying) (xs : List Effect) → All (IsTaken d.version) xs → AreInOrder i m (outputs xs)
       → ((c : Committed) → In (output.Commit c) (outputs xs) → IsBackedLine u (x.group t).sent c.entry.header × IsWellRead c.entry)
       → ((e : Effect) → In e xs → Begun H e) → ((slot : ℕ) (e : Whole) → slot < 64 → lying.entry d slot ≡ Some e → H (operation_bytes e.operation)) → AllMay H cluster log i m d xs
   unfolding after_all

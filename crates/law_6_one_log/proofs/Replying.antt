@@ -12,6 +12,7 @@ use Rattle.law_3_outputs.specs.Deciding.{is_wanted}
 use Rattle.law_3_outputs.specs.Fit.{ReadsWell}
 use Rattle.law_3_outputs.specs.Group as group
 use Rattle.law_3_outputs.specs.Group.{Arrival, Group, Member, Move, Moved, Moves, Opens, Played, Recovers, Runs, Steps, fresh_group, recovered, stepped}
+use Rattle.law_3_outputs.specs.Files.{IsOfFile}
 use Rattle.law_3_outputs.specs.GroupFit.{IsFitMove}
 use Rattle.law_3_outputs.specs.Lying.{Lying, lying}
 use Rattle.law_3_outputs.specs.Replica.{Replica}
@@ -23,7 +24,7 @@ use Rattle.law_3_outputs.specs.Bridge.{Bridges}
 use Rattle.law_3_outputs.specs.Answering.{HasState, PutsWell}
 use Rattle.law_3_outputs.specs.Followed.{IsFollowed}
 use Rattle.law_3_outputs.specs.Replied.{IsLogOf, has_loaded}
-use Rattle.law_3_outputs.proofs.Fitting.{fit_at, move_of}
+use Rattle.law_3_outputs.proofs.Fitting.{file_at, fit_at, move_of}
 use Rattle.law_3_outputs.proofs.Resuming.{on_disk}
 use Rattle.law_6_one_log.specs.ReplyLaws.{RunsReply}
 use Rattle.law_6_one_log.proofs.Opening.{loads_value, puts_state}
@@ -79,9 +80,10 @@ module _ (cluster n : ℕ) (u : Setup) (run : List Played) (x : IsFollowed clust
       let moves = move_of (fresh_group x.fit.kinds cluster n) run x.fit.of_run t p is in
       let face : Contains (disks_of p.move) d = subst (λ (z : Move). Contains (disks_of z) d) (sym step) (0, omega arith, refl) in
       let fit : ReadsWell lying d = subst IsFitMove step (fit_at cluster n run x.fit t p is).1 in
+      let file : d.version ≡ v.fields.version = subst (IsOfFile p.before) step (file_at cluster n run x.fit t p is) in
       let o = recovers_so p.before p.move p.moved moves at v d step in
       let stands = stand_at cluster n u run x bridges never log is_log t p is at o.0 o.1.member in
-      (loads_value (λ bytes. IsHashed run (root_header cluster) bytes) never cluster log (recovered v d) (on_disk v d) (found_waits cluster n u run x bridges never log is_log t p is at o.0 v d o.1 face fit stands)).state
+      (loads_value (λ bytes. IsHashed run (root_header cluster) bytes) never cluster log (recovered v d) (on_disk v d) (found_waits cluster n u run x bridges never log is_log t p is at o.0 v d o.1 face fit file stands)).state
 
 pub runs_reply : RunsReply
 runs_reply cluster n u run x bridges = record {

@@ -20,7 +20,8 @@ use Rattle.law_3_outputs.specs.Commitment.{is_line_of}
 use Rattle.law_3_outputs.specs.Fit.{ReadsWell}
 use Rattle.law_3_outputs.specs.Group as group
 use Rattle.law_3_outputs.specs.Group.{Arrival, Group, IsArrival, Member, Move, Moved, Moves, Opens, Played, Run, Runs, carried_out, cut_after, cut_in_two, ended, found, fresh_group, fresh_member, goes, keeps_all, mended, once_mended, opening_script, recovered, resumed, stepped}
-use Rattle.law_3_outputs.specs.GroupFit.{IsFitArrival, IsFitGroup, IsFitReplica, IsFitValue}
+use Rattle.law_3_outputs.specs.Files.{IsFileAt}
+use Rattle.law_3_outputs.specs.GroupFit.{IsFitArrival, IsFitGroup, IsFitMember, IsFitReplica, IsFitValue}
 use Rattle.law_3_outputs.specs.Laws.{IsEvent}
 use Rattle.law_3_outputs.specs.Lying.{Lying, lying}
 use Rattle.law_3_outputs.specs.Opening.{blank, fresh, mending}
@@ -31,8 +32,8 @@ use Rattle.law_3_outputs.specs.Safe as safe
 use Rattle.law_3_outputs.specs.Safe.{IsHashed, disks_of, read, wrote}
 use Rattle.law_3_outputs.specs.Steps.{Effect, Write, Rewrite, Save, Mend, Checkpoint, PutBlock, Say, Step, by, outputs, quiet, says}
 use Rattle.law_3_outputs.specs.Outputs.{messages}
-use Rattle.law_3_outputs.proofs.FitLies.{lies_fit}
-use Rattle.law_3_outputs.proofs.FitGroups.{fresh_at, start_is, step_is}
+use Rattle.law_3_outputs.proofs.FitLies.{lies_fit, same_version}
+use Rattle.law_3_outputs.proofs.FitGroups.{fresh_at, good_value, start_is, step_is}
 use Rattle.law_3_outputs.proofs.SendsScripts.{outputs_append}
 use Rattle.law_1_machine.specs.Basics.{In}
 use Rattle.law_3_outputs.specs.Chains.{Every, IsBackedLine, Setup}
@@ -47,13 +48,12 @@ use Rattle.law_3_outputs.specs.Answering.{one_if}
 use Rattle.law_3_outputs.specs.Followed.{IsFollowed}
 use Rattle.law_3_outputs.specs.Ordered.{AreInOrder}
 use Rattle.law_3_outputs.specs.Replied.{IsLogOf}
-use Rattle.law_3_outputs.proofs.Fitting.{arrives, fit_at, good_value, move_of, several_in}
+use Rattle.law_3_outputs.proofs.Fitting.{IsOpening, arrives, file_at, fit_at, move_of, opening_of, several_in}
 use Rattle.law_3_outputs.proofs.Ordering.{come_in_order}
 use Rattle.law_3_outputs.proofs.Reading.{opening_reads, reads_good}
 use Rattle.law_3_outputs.proofs.Resuming.{on_disk, resumed_order, said_right}
 use Rattle.law_3_outputs.proofs.Sets.{every_at, get_in, in_contains, in_left, in_right}
-use Rattle.law_3_outputs.proofs.Slots.{least_two}
-use Rattle.law_3_outputs.proofs.SlotCalls.{IsTaken, known_taken, read_or_written}
+use Rattle.law_3_outputs.proofs.SlotCalls.{IsTaken, member_taken, read_or_written}
 use Rattle.law_3_outputs.proofs.Traces.{every_in}
 use Rattle.law_6_one_log.specs.Hashed.{ReadsHashed}
 use Rattle.law_6_one_log.proofs.Disks.{Begun}
@@ -218,18 +218,21 @@ module _ (cluster n : ℕ) (u : Setup) (run : List Played) (x : IsFollowed clust
     -- ---- a step
 
     module _ (at : ℕ) (arrival : Arrival) (e : Event) (d : Lying) (m : Member) (r : Replica) (runs : Runs p.before at m r) (came : IsArrival p.before at arrival e) (face : Contains (disks_of p.move) d)
-        (fit : IsFitArrival arrival × ReadsWell lying d) (told : AllTold p.before) where
+        (fit : IsFitArrival arrival × ReadsWell lying d) (file : IsFileAt p.before at d) (told : AllTold p.before) where
       abbrev es : List Effect
       es = (stepped e r d).script
 
-      own : IsFitReplica r × IsAt cluster p.before.n at 1 r
-      own = (fit_group.members at m runs.member).running r runs.running
+      acting : IsFitMember cluster p.before.n at m
+      acting = fit_group.members at m runs.member
+
+      own : IsFitReplica r × IsAt cluster p.before.n at acting.edition r
+      own = acting.running r runs.running
 
       event : IsEvent e
       event = arrives cluster p.before at arrival e fit_group fit.0 came
 
-      step_taken : All IsTaken es
-      step_taken = known_taken cluster p.before.n at es (step_is cluster p.before.n at r e d own.0 own.1 event fit.1).known
+      step_taken : All (IsTaken d.version) es
+      step_taken = member_taken cluster p.before.n at acting.edition m.last d es acting.last (file m runs.member) (step_is cluster p.before.n at acting.edition r e d own.0 own.1 event fit.1).known
 
       step_told : (c : Committed) → In (output.Commit c) (outputs es) → IsBackedLine u (x.group t).sent c.entry.header
       step_told c j =
@@ -242,7 +245,7 @@ module _ (cluster n : ℕ) (u : Setup) (run : List Played) (x : IsFollowed clust
       step_may xs ys are has =
           let said : outputs es ≡ outputs xs ++ outputs ys = ap outputs (sym are) ∙ outputs_append xs ys in
           let order = (come_in_order lying r d e lies_fit.names own.0.sound event).ordered in
-          lines_may cluster n u run x never log is_log t within r.index r.applied d xs (all_front IsTaken xs ys (subst (All IsTaken) (sym are) step_taken)) (ordered_front r.index r.applied (outputs xs) (outputs ys) (subst (AreInOrder r.index r.applied) said order))
+          lines_may cluster n u run x never log is_log t within r.index r.applied d xs (all_front (IsTaken d.version) xs ys (subst (All (IsTaken d.version)) (sym are) step_taken)) (ordered_front r.index r.applied (outputs xs) (outputs ys) (subst (AreInOrder r.index r.applied) said order))
           (λ c j. let i = subst (λ (os : List Output). In (output.Commit c) os) (sym said) (in_left (outputs xs) (outputs ys) (output.Commit c) j) in
           (step_told c i, reads_good lying d r e lies_fit.program lies_fit.roots fit.1 own.0.sound own.0.savable own.0.blocks event c i))
           (λ z i. begun_in z (has z i)) (entries_in d face)
@@ -292,15 +295,21 @@ module _ (cluster n : ℕ) (u : Setup) (run : List Played) (x : IsFollowed clust
 
     -- ---- an opening
 
-    module _ (at : ℕ) (m : Member) (v : SuperValue) (d : Lying) (wakes : Opens p.before at m v d) (face : Contains (disks_of p.move) d) (fit : ReadsWell lying d) (h : MemberStands m) where
+    module _ (at : ℕ) (m : Member) (v : SuperValue) (d : Lying) (wakes : Opens p.before at m v d) (face : Contains (disks_of p.move) d) (fit : ReadsWell lying d) (file : d.version ≡ v.fields.version) (h : MemberStands m) where
       abbrev xs : List Effect
       xs = (mended v d).script
 
       abbrev ys : List Effect
       ys = (resumed v d).script
 
-      value : IsFitValue cluster p.before.n at v
-      value = good_value cluster p.before.n at m v (fit_group.members at m wakes.member) wakes.value
+      waking : IsFitMember cluster p.before.n at m
+      waking = fit_group.members at m wakes.member
+
+      value : IsFitValue cluster p.before.n at waking.edition v
+      value = good_value cluster p.before.n at m v waking wakes.value
+
+      good : IsOpening v
+      good = opening_of cluster p.before at m v fit_group wakes.member wakes.value
 
       pub value_rooted : IsRooted H cluster log v
       value_rooted = elim wakes.value [ inl e ↦ subst (IsRooted H cluster log) e h.values.last | inr e ↦ h.values.under v e ]
@@ -317,8 +326,8 @@ module _ (cluster n : ℕ) (u : Setup) (run : List Played) (x : IsFollowed clust
       mends_borne : Every (IsBorne H cluster log) xs
       mends_borne = borne_all H cluster log (blank v).index (blank v).applied d xs mends.bears mends_may
 
-      script_taken : All IsTaken (xs ++ ys)
-      script_taken = known_taken cluster p.before.n at (xs ++ ys) (start_is cluster p.before.n at v d value fit).known
+      script_taken : All (IsTaken d.version) (xs ++ ys)
+      script_taken = member_taken cluster p.before.n at waking.edition v d (xs ++ ys) value file (start_is cluster p.before.n at waking.edition v d fit_group.several value fit).known
 
       told_rest : (c : Committed) → In (output.Commit c) (outputs ys) → IsBackedLine u (x.group t).sent c.entry.header
       told_rest c j =
@@ -331,13 +340,14 @@ module _ (cluster n : ℕ) (u : Setup) (run : List Played) (x : IsFollowed clust
       rest_may first fs gs are has =
           let q : Replica = recovered v d in
           let said : outputs ys ≡ outputs fs ++ outputs gs = ap outputs (sym are) ∙ outputs_append fs gs in
-          let order = (resumed_order v d value.0 (least_two v value.0 value.1.version) fit).ordered in
-          let taken = all_back IsTaken xs ys script_taken in
-          lines_may cluster n u run x never log is_log t within q.index q.applied (on_disk v d) fs (all_front IsTaken fs gs (subst (All IsTaken) (sym are) taken)) (ordered_front q.index q.applied (outputs fs) (outputs gs) (subst (AreInOrder q.index q.applied) said order))
+          let order = (resumed_order v d good.0 good.1 fit).ordered in
+          let ver = (on_disk v d).version in
+          let taken : All (IsTaken ver) ys = subst (λ (k : ℕ). All (IsTaken k) ys) (sym (same_version xs d)) (all_back (IsTaken d.version) xs ys script_taken) in
+          lines_may cluster n u run x never log is_log t within q.index q.applied (on_disk v d) fs (all_front (IsTaken ver) fs gs (subst (All (IsTaken ver)) (sym are) taken)) (ordered_front q.index q.applied (outputs fs) (outputs gs) (subst (AreInOrder q.index q.applied) said order))
           (λ c j. let i = subst (λ (os : List Output). In (output.Commit c) os) (sym said) (in_left (outputs fs) (outputs gs) (output.Commit c) j) in
-          (told_rest c i, opening_reads cluster p.before.n at v d value fit c (said_right xs ys (output.Commit c) i)))
+          (told_rest c i, opening_reads v d good fit c (said_right xs ys (output.Commit c) i)))
           (λ z i. begun_in z (has z i))
-          (λ slot e l q. elim (read_or_written xs d (all_front IsTaken xs ys script_taken) slot e l q) [
+          (λ slot e l q. elim (read_or_written xs d (all_front (IsTaken d.version) xs ys script_taken) slot e l q) [
             | inl old ↦ entries_in d face slot e l old
             | inr w ↦ begun_in (Write w.0 e) (first (Write w.0 e) w.1) _ (safe.IsWritten.operation w.0 e)
           ])
@@ -410,39 +420,39 @@ module _ (cluster n : ℕ) (u : Setup) (run : List Played) (x : IsFollowed clust
   moved_stand t g _ _ is (group.steps at arrival e d m r runs came) told all =
       let p : Played = record { before = g; move = group.Steps at arrival e d; moved = group.finished g at m (stepped e r d) } in
       let fit = (fit_at cluster n run x.fit t p is).1 in
-      set_stands g at (record (carried_out (stepped e r d).script m) { replica = Some (stepped e r d).replica }) _ refl all (step_stands t p is at arrival e d m r runs came (0, omega arith, refl) fit told (all at m runs.member) (λ z i. i))
+      set_stands g at (record (carried_out (stepped e r d).script m) { replica = Some (stepped e r d).replica }) _ refl all (step_stands t p is at arrival e d m r runs came (0, omega arith, refl) fit (file_at cluster n run x.fit t p is) told (all at m runs.member) (λ z i. i))
   moved_stand t g _ _ is (group.cuts at arrival e d k m r runs came) told all =
       let p : Played = record { before = g; move = group.Cuts at arrival e d k; moved = group.cut_short g at m (stepped e r d) k } in
       let fit = (fit_at cluster n run x.fit t p is).1 in
       let same : suc k ≡ k + 1 = omega arith in
       let has : (z : Effect) → In z (take (suc k) (stepped e r d).script) → In z p.moved.script = λ z i. subst (λ j. In z (take j (stepped e r d).script)) same i in
-      set_stands g at (record (cut_after k (stepped e r d).script m) { replica = None }) _ refl all (stopped_stands (cut_after k (stepped e r d).script m) (step_cut t p is at arrival e d m r runs came (0, omega arith, refl) fit told (all at m runs.member) k has))
+      set_stands g at (record (cut_after k (stepped e r d).script m) { replica = None }) _ refl all (stopped_stands (cut_after k (stepped e r d).script m) (step_cut t p is at arrival e d m r runs came (0, omega arith, refl) fit (file_at cluster n run x.fit t p is) told (all at m runs.member) k has))
   moved_stand t g _ _ is (group.crashes at m there) told all = set_stands g at (record m { replica = None }) _ refl all (stopped_stands m (all at m there).values)
   moved_stand t g _ _ is (group.recovers at v d m wakes) told all =
       let p : Played = record { before = g; move = group.Recovers at v d; moved = group.started g at m v d } in
       let fit = (fit_at cluster n run x.fit t p is).1 in
-      set_stands g at (record (carried_out (resumed v d).script (once_mended v d m)) { replica = Some (resumed v d).replica }) _ refl all (opened_stands t p is at m v d wakes (0, omega arith, refl) fit (all at m wakes.member) (λ z i. i))
+      set_stands g at (record (carried_out (resumed v d).script (once_mended v d m)) { replica = Some (resumed v d).replica }) _ refl all (opened_stands t p is at m v d wakes (0, omega arith, refl) fit (file_at cluster n run x.fit t p is) (all at m wakes.member) (λ z i. i))
   moved_stand t g _ _ is (group.recovers_cut at v d k m wakes) told all =
       let p : Played = record { before = g; move = group.RecoversCut at v d k; moved = group.start_cut g at m v d k } in
       let fit = (fit_at cluster n run x.fit t p is).1 in
       set_stands g at (record (cut_in_two (mended v d).script (resumed v d).script (keeps_all (found v d)) k m) { replica = None }) _ refl all
-      (stopped_stands (cut_in_two (mended v d).script (resumed v d).script (keeps_all (found v d)) k m) (opened_cut t p is at m v d wakes (0, omega arith, refl) fit (all at m wakes.member) k (λ z i. i)))
+      (stopped_stands (cut_in_two (mended v d).script (resumed v d).script (keeps_all (found v d)) k m) (opened_cut t p is at m v d wakes (0, omega arith, refl) fit (file_at cluster n run x.fit t p is) (all at m wakes.member) k (λ z i. i)))
 
   -- what a move writes, as far as it got
   moved_borne : (t : ℕ) (g : Group) (move : Move) (moved : Moved) → slice_get run t ≡ Some (record { before = g; move = move; moved = moved }) → Moves g move moved → AllTold g → AllStand g → Every (IsBorne H cluster log) moved.script
   moved_borne t g _ _ is (group.steps at arrival e d m r runs came) told all =
       let p : Played = record { before = g; move = group.Steps at arrival e d; moved = group.finished g at m (stepped e r d) } in
-      all_borne t p is at arrival e d m r runs came (0, omega arith, refl) (fit_at cluster n run x.fit t p is).1 told (all at m runs.member) (λ z i. i)
+      all_borne t p is at arrival e d m r runs came (0, omega arith, refl) (fit_at cluster n run x.fit t p is).1 (file_at cluster n run x.fit t p is) told (all at m runs.member) (λ z i. i)
   moved_borne t g _ _ is (group.cuts at arrival e d k m r runs came) told all =
       let p : Played = record { before = g; move = group.Cuts at arrival e d k; moved = group.cut_short g at m (stepped e r d) k } in
-      front_borne t p is at arrival e d m r runs came (0, omega arith, refl) (fit_at cluster n run x.fit t p is).1 told (all at m runs.member) (k + 1) (λ z i. i)
+      front_borne t p is at arrival e d m r runs came (0, omega arith, refl) (fit_at cluster n run x.fit t p is).1 (file_at cluster n run x.fit t p is) told (all at m runs.member) (k + 1) (λ z i. i)
   moved_borne t g _ _ is (group.crashes at m there) told all = tt
   moved_borne t g _ _ is (group.recovers at v d m wakes) told all =
       let p : Played = record { before = g; move = group.Recovers at v d; moved = group.started g at m v d } in
-      opened_borne t p is at m v d wakes (0, omega arith, refl) (fit_at cluster n run x.fit t p is).1 (all at m wakes.member) (λ z i. i)
+      opened_borne t p is at m v d wakes (0, omega arith, refl) (fit_at cluster n run x.fit t p is).1 (file_at cluster n run x.fit t p is) (all at m wakes.member) (λ z i. i)
   moved_borne t g _ _ is (group.recovers_cut at v d k m wakes) told all =
       let p : Played = record { before = g; move = group.RecoversCut at v d k; moved = group.start_cut g at m v d k } in
-      cut_borne t p is at m v d wakes (0, omega arith, refl) (fit_at cluster n run x.fit t p is).1 (all at m wakes.member) k (λ z i. i)
+      cut_borne t p is at m v d wakes (0, omega arith, refl) (fit_at cluster n run x.fit t p is).1 (file_at cluster n run x.fit t p is) (all at m wakes.member) k (λ z i. i)
 
   -- what it puts out is of what it writes
   moved_outputs : (g : Group) (move : Move) (moved : Moved) → Moves g move moved → Every (IsBorne H cluster log) moved.script → Every (IsTrueOutput H cluster log) moved.outputs

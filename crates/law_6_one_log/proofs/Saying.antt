@@ -4,7 +4,7 @@ use Rattle.std.proofs.Common.{ℕ, ◌≡◌, ◌∙◌, inl, inr, refl, sym, ap
 use Rattle.std.specs.Prelude.{All, Contains, ◌<◌, slice_get}
 use Rattle.std.specs.Option.{option_map_or}
 use Rattle.std.proofs.lemmas.List.{append_assoc}
-use Rattle.std.proofs.lemmas.List.Elements.{All-nil, All-cons, All-head, All-tail, All-contains}
+use Rattle.std.proofs.lemmas.List.Elements.{All-contains}
 use Rattle.vr_header.specs.declared.header.Header.{Header}
 use Rattle.vr_header.specs.Bodies.{operation_bytes}
 use Rattle.vr_header.specs.Made.{Whole}
@@ -16,6 +16,7 @@ use Rattle.vr_msg.specs.declared.output.Output.TheVariants as output
 use Rattle.vr_msg.specs.declared.output.Sent.{Sent}
 use Rattle.law_3_outputs.specs.Group.{Member, Group, Move, Moved, Moves, Played, mended, opening_script, resumed, stepped}
 use Rattle.law_3_outputs.specs.Group as group
+use Rattle.law_3_outputs.specs.Files.{IsOfFile}
 use Rattle.law_3_outputs.specs.GroupFit.{IsFitGroup, IsFitMove}
 use Rattle.law_3_outputs.specs.Laws.{Answers, IsPresent, IsPresentOutput}
 use Rattle.law_3_outputs.specs.Lying.{Lying, lying}
@@ -25,7 +26,7 @@ use Rattle.law_3_outputs.specs.Safe.{IsHashed, actor, disks_of}
 use Rattle.law_3_outputs.specs.Safe as safe
 use Rattle.law_3_outputs.specs.Steps.{Effect, Step, Write, after_all, outputs}
 use Rattle.law_3_outputs.proofs.FitLies.{lies_fit}
-use Rattle.law_3_outputs.proofs.FitGroups.{start_is, step_is}
+use Rattle.law_3_outputs.proofs.FitGroups.{good_value, start_is, step_is}
 use Rattle.law_3_outputs.proofs.SendsScripts.{outputs_append}
 use Rattle.law_1_machine.specs.Basics.{In}
 use Rattle.law_1_machine.specs.Members.{Choice}
@@ -34,16 +35,16 @@ use Rattle.law_3_outputs.proofs.Scripts.{after_append}
 use Rattle.law_3_outputs.specs.Bridge.{ChoosesWell}
 use Rattle.law_3_outputs.specs.Followed.{IsChoiceLine, IsFrom}
 use Rattle.law_3_outputs.proofs.Carrying.{choice_line, from_is}
-use Rattle.law_3_outputs.proofs.Fitting.{arrives, good_value}
+use Rattle.law_3_outputs.proofs.Fitting.{arrives, opening_of}
 use Rattle.law_3_outputs.proofs.Ordering.{come_in_order}
 use Rattle.law_3_outputs.proofs.Orders.{IsOther}
 use Rattle.law_3_outputs.proofs.Picking.{chosen_by}
 use Rattle.law_3_outputs.proofs.Placing.{ArePlaced, opening_present, step_present}
 use Rattle.law_3_outputs.proofs.Resuming.{quiet_mending, resumed_order}
 use Rattle.law_3_outputs.proofs.Sets.{in_contains, in_left}
-use Rattle.law_3_outputs.proofs.Slots.{least_two}
-use Rattle.law_3_outputs.proofs.SlotCalls.{IsTaken, known_taken, read_or_written}
+use Rattle.law_3_outputs.proofs.SlotCalls.{IsTaken, member_taken, read_or_written}
 use Rattle.law_3_outputs.proofs.Traces.{every_in, in_either}
+use Rattle.law_6_one_log.proofs.Lines.{taken_front}
 use Rattle.law_6_one_log.proofs.Silence.{chooses_nothing}
 
 -- ---- messages
@@ -58,21 +59,17 @@ from_so c g _ _ fit placed (group.steps at a e d m r runs i) s j = sent_from (An
 from_so c g _ _ fit placed (group.cuts at a e d k m r runs i) s j = absurd j
 from_so c g _ _ fit placed (group.crashes at m there) s j = absurd j
 from_so c g _ _ fit placed (group.recovers at v d m o) s j =
-    sent_from (λ to view. ⊥) (blank v) (record { replica = (resumed v d).replica; script = opening_script v d }) s (opening_present c g.n at m v d o.value (fit.members at m o.member)) j
+    sent_from (λ to view. ⊥) (blank v) (record { replica = (resumed v d).replica; script = opening_script v d }) s (opening_present v d (opening_of c g at m v fit o.member o.value)) j
 from_so c g _ _ fit placed (group.recovers_cut at v d k m o) s j = absurd j
 
 -- ---- commit lines
-
-taken_front : (xs ys : List Effect) → All IsTaken (xs ++ ys) → All IsTaken xs
-taken_front [] ys h = All-nil IsTaken
-taken_front (x ∷ xs) ys h = All-cons IsTaken x xs (All-head IsTaken x (xs ++ ys) h) (taken_front xs ys (All-tail IsTaken x (xs ++ ys) h))
 
 one_disk : (d : Lying) → Contains (d ∷ []) d
 one_disk d = in_contains (d ∷ []) d (inl refl)
 
 module _ (run : List Played) (c : ℕ) (p : Played) (there : Contains run p) where
   -- an entry that reads after the first effects of a move was read by it, or written in it
-  read_hashed : (d : Lying) (first rest : List Effect) (slot : ℕ) (e : Whole) → Contains (disks_of p.move) d → first ++ rest ≡ p.moved.script → All IsTaken first → slot < 64 → lying.entry (after_all lying d first) slot ≡ Some e
+  read_hashed : (d : Lying) (first rest : List Effect) (slot : ℕ) (e : Whole) → Contains (disks_of p.move) d → first ++ rest ≡ p.moved.script → All (IsTaken d.version) first → slot < 64 → lying.entry (after_all lying d first) slot ≡ Some e
       → IsHashed run (root_header c) (operation_bytes e.operation)
   read_hashed d first rest slot e face are taken within reads =
       elim (read_or_written first d taken slot e within reads) [
@@ -82,31 +79,34 @@ module _ (run : List Played) (c : ℕ) (p : Played) (there : Contains run p) whe
             safe.wrote p (Write new.0 e) (operation_bytes e.operation) there (in_contains p.moved.script (Write new.0 e) among) (safe.IsWritten.operation new.0 e)
       ]
 
-pub line_hashed : (run : List Played) (c : ℕ) (g : Group) (move : Move) (moved : Moved) → Contains run (record { before = g; move = move; moved = moved }) → IsFitGroup c g → IsFitMove move → Moves g move moved
+pub line_hashed : (run : List Played) (c : ℕ) (g : Group) (move : Move) (moved : Moved) → Contains run (record { before = g; move = move; moved = moved }) → IsFitGroup c g → IsFitMove move → IsOfFile g move → Moves g move moved
     → (l : Committed) → In (output.Commit l) moved.outputs → IsHashed run (root_header c) (operation_bytes l.entry.operation)
-line_hashed run c g _ _ there fit h (group.steps at a e d m r runs i) l j =
-    let f = (fit.members at m runs.member).running r runs.running in
+line_hashed run c g _ _ there fit h file (group.steps at a e d m r runs i) l j =
+    let is = fit.members at m runs.member in
+    let f = is.running r runs.running in
     let x = stepped e r d in
     let came = arrives c g at a e fit h.0 i in
-    let taken = known_taken c g.n at (stepped e r d).script (step_is c g.n at r e d f.0 f.1 came h.1).known in
+    let taken = member_taken c g.n at is.edition m.last d x.script is.last (file m runs.member) (step_is c g.n at is.edition r e d f.0 f.1 came h.1).known in
     let o = (come_in_order lying r d e lies_fit.names f.0.sound came).read l j in
-    read_hashed run c (record { before = g; move = group.Steps at a e d; moved = group.finished g at m x }) there d o.first o.rest o.slot l.entry (one_disk d) o.are (taken_front o.first o.rest (subst (All IsTaken) (sym o.are) taken)) o.within o.reads
-line_hashed run c g _ _ there fit h (group.cuts at a e d k m r runs i) l j = absurd j
-line_hashed run c g _ _ there fit h (group.crashes at m o) l j = absurd j
-line_hashed run c g _ _ there fit h (group.recovers at v d m o) l j =
+    read_hashed run c (record { before = g; move = group.Steps at a e d; moved = group.finished g at m x }) there d o.first o.rest o.slot l.entry (one_disk d) o.are (taken_front d.version o.first o.rest (subst (All (IsTaken d.version)) (sym o.are) taken)) o.within o.reads
+line_hashed run c g _ _ there fit h file (group.cuts at a e d k m r runs i) l j = absurd j
+line_hashed run c g _ _ there fit h file (group.crashes at m o) l j = absurd j
+line_hashed run c g _ _ there fit h file (group.recovers at v d m o) l j =
     let xs = (mended v d).script in
     let ys = (resumed v d).script in
-    let value = good_value c g.n at m v (fit.members at m o.member) o.value in
-    let taken = known_taken c g.n at (opening_script v d) (start_is c g.n at v d value h).known in
+    let is = fit.members at m o.member in
+    let value = good_value c g.n at m v is o.value in
+    let opens = opening_of c g at m v fit o.member o.value in
+    let taken = member_taken c g.n at is.edition v d (opening_script v d) value file (start_is c g.n at is.edition v d fit.several value h).known in
     elim (in_either (outputs xs) (outputs ys) (output.Commit l) (subst (λ (os : List Output). In (output.Commit l) os) (outputs_append xs ys) j)) [
       | inl a ↦ absurd (every_in IsOther (outputs xs) (output.Commit l) a ((quiet_mending v).every lying (blank v) d).said)
       | inr b ↦
-          let q = (resumed_order v d value.0 (least_two v value.0 value.1.version) h).read l b in
+          let q = (resumed_order v d opens.0 opens.1 h).read l b in
           let parts : (xs ++ q.first) ++ q.rest ≡ opening_script v d = append_assoc xs q.first q.rest ∙ ap (λ (zs : List Effect). xs ++ zs) q.are in
           read_hashed run c (record { before = g; move = group.Recovers at v d; moved = group.started g at m v d }) there d (xs ++ q.first) q.rest q.slot l.entry (one_disk d) parts
-          (taken_front (xs ++ q.first) q.rest (subst (All IsTaken) (sym parts) taken)) q.within (ap (λ (z : Lying). lying.entry z q.slot) (after_append lying d xs q.first) ∙ q.reads)
+          (taken_front d.version (xs ++ q.first) q.rest (subst (All (IsTaken d.version)) (sym parts) taken)) q.within (ap (λ (z : Lying). lying.entry z q.slot) (after_append lying d xs q.first) ∙ q.reads)
     ]
-line_hashed run c g _ _ there fit h (group.recovers_cut at v d k m o) l j = absurd j
+line_hashed run c g _ _ there fit h file (group.recovers_cut at v d k m o) l j = absurd j
 
 -- ---- choose lines
 

@@ -7,6 +7,7 @@ use Rattle.std.proofs.lemmas.List.Elements.{All-append, All-head, All-nil, All-t
 use Rattle.vr_header.specs.Names.{root_header}
 use Rattle.vr_header.specs.NoCollision.{NoCollision}
 use Rattle.vr_msg.specs.declared.output.Output.{Output}
+use Rattle.law_3_outputs.specs.Files.{IsOfFile}
 use Rattle.law_3_outputs.specs.GroupFit.{IsFitGroup, IsFitMove}
 use Rattle.law_3_outputs.proofs.FitGroups.{groups_fit}
 use Rattle.law_3_outputs.specs.Lying.{Lying, hazards}
@@ -63,8 +64,8 @@ one_at_most : (es : List Effect) (ds : List Lying) (run : List Played) → IsOne
 one_at_most es ds _ (unmoved still) = omega arith
 one_at_most es ds _ (moved_once p script disks) = omega arith
 
-led_on : {home : ℕ} (g : Group) (past : IsLed home g) (run : List Played) → Run g run → All (λ (p : Played). IsFitMove p.move) run → IsLed home (left g run)
-led_on {home} g past run is well =
+led_on : {home : ℕ} (g : Group) (past : IsLed home g) (run : List Played) → Run g run → All (λ (p : Played). IsFitMove p.move) run → All (λ (p : Played). IsOfFile p.before p.move) run → IsLed home (left g run)
+led_on {home} g past run is well files =
     let first : Group = fresh_group past.fit.kinds home past.n in
     let f = past.fit in
     record {
@@ -75,7 +76,9 @@ led_on {home} g past run is well =
         few = f.few;
         many = f.many;
         moves = All-append (λ (p : Played). IsFitMove p.move) past.run run f.moves well;
+        files = All-append (λ (p : Played). IsOfFile p.before p.move) past.run run f.files files;
         kinds = f.kinds;
+        are_kinds = f.are_kinds;
         of_run = run_both first past.run run f.of_run (subst (λ (h : Group). Run h run) (sym past.is) is);
       };
       is = left_both first past.run run ∙ ap (λ (h : Group). left h run) past.is;
@@ -97,7 +100,7 @@ module _ {home : ℕ} (w : World Lying) (g : Group) (x : Happening) (u : IsUnfor
         (record { line = may.line; names = λ a b p q same. may.names a b (inr (inl p)) (inr (inl q)) same; unforged = line_unforged w g u.beside u.fit u.stock u.bridged low u.sealed x })
 
     led : IsLed home (left g moves.matched.run)
-    led = led_on g u.past moves.matched.run moves.matched.is moves.matched.reads
+    led = led_on g u.past moves.matched.run moves.matched.is moves.matched.reads moves.matched.files
 
     -- so a checkpoint that it writes is of sessions that come of entries
     comes : AllByRecursion ComesOfEntries (begun_in w x)
@@ -153,7 +156,7 @@ rest_may home w g x xs u run one may =
 
 pub happenings_are_runs : HappeningsAreRuns
 unfolding happen run_outputs
-happenings_are_runs home [] w g u may = (record { run = []; is = Run.ended g; reads = All-nil (λ (p : Played). IsFitMove p.move); bytes = All-nil (λ (p : Played). IsOfBytes p.move); beside = u.beside; said = none }, none_hashed home [] w, record { unforged = u; led = sym (append-nil u.past.run) }, omega arith)
+happenings_are_runs home [] w g u may = (record { run = []; is = Run.ended g; reads = All-nil (λ (p : Played). IsFitMove p.move); bytes = All-nil (λ (p : Played). IsOfBytes p.move); files = All-nil (λ (p : Played). IsOfFile p.before p.move); beside = u.beside; said = none }, none_hashed home [] w, record { unforged = u; led = sym (append-nil u.past.run) }, omega arith)
 happenings_are_runs home (x ∷ xs) w g u may =
     let by = lines_stay_unforged home w g x u (first_may home u.past.run w x xs may) in
     let one = by.0.matched in
@@ -171,6 +174,7 @@ happenings_are_runs home (x ∷ xs) w g u may =
         is = run_both g one.run rest.run one.is rest.is;
         reads = All-append (λ (p : Played). IsFitMove p.move) one.run rest.run one.reads rest.reads;
         bytes = All-append (λ (p : Played). IsOfBytes p.move) one.run rest.run one.bytes rest.bytes;
+        files = All-append (λ (p : Played). IsOfFile p.before p.move) one.run rest.run one.files rest.files;
         beside = subst (AreBeside (happen hazards h.world xs).world) (sym (left_both g one.run rest.run)) rest.beside;
         said = subst (Said (h.outputs ++ (happen hazards h.world xs).outputs)) (sym (outputs_both one.run rest.run)) (said_both h.outputs (run_outputs one.run) (happen hazards h.world xs).outputs (run_outputs rest.run) one.said rest.said);
       },

@@ -18,6 +18,7 @@ use Rattle.vr_ckpt.proofs.Once.{each_once}
 use Rattle.law_3_outputs.specs.Commitment as said
 use Rattle.law_3_outputs.specs.Commitment.{AreCommitted, HasSent, IsBackedMessage, IsCommitted, IsLine, Vouches}
 use Rattle.law_3_outputs.specs.Group.{Played, fresh_group}
+use Rattle.law_3_outputs.specs.Opening.{AreKinds, IsKind}
 use Rattle.law_3_outputs.specs.Lying.{Lying}
 use Rattle.law_3_outputs.specs.Safe.{IsHashed, IsJustified, KeepsEntry, Safe, before, run_outputs}
 use Rattle.law_3_outputs.specs.World.{Happened}
@@ -197,10 +198,10 @@ place_of run ws all number o e not =
 once : (log : List Whole) → IsOnceInSession log
 once log before between later d e is client request first second = each_once before between d e client request first second
 
-pub keeps_log : (kinds : ℕ → Kind) (home n : ℕ) → home < 2 ^ 64 → 2 ≤ n → n ≤ 6 → ((run : List Played) → IsFitRun home n run → HasOneLog home n run) → (h : Happened Lying) (m : IsMatched (fresh_group kinds home n) h) → NoCollision (IsHashed m.run (root_header home))
+pub keeps_log : (kinds : ℕ → Kind) (home n : ℕ) → AreKinds kinds n → home < 2 ^ 64 → 2 ≤ n → n ≤ 6 → ((run : List Played) → IsFitRun home n run → HasOneLog home n run) → (h : Happened Lying) (m : IsMatched (fresh_group kinds home n) h) → NoCollision (IsHashed m.run (root_header home))
     → KeepsLog kinds home n h
-keeps_log kinds home n number few many one h m never =
-    let fit : IsFitRun home n m.run = record { number = number; few = few; many = many; moves = m.reads; kinds = kinds; of_run = m.is } in
+keeps_log kinds home n k number few many one h m never =
+    let fit : IsFitRun home n m.run = record { number = number; few = few; many = many; moves = m.reads; files = m.files; kinds = kinds; are_kinds = k; of_run = m.is } in
     let o = one m.run fit in
     let s = o.safe in
     let gs = run_outputs m.run in
@@ -221,6 +222,6 @@ keeps_log kinds home n number few many one h m never =
     }
 
 -- of the group that a schedule begins
-pub keeps : (kind : Kind) (n : ℕ) → 2 ≤ n → n ≤ 6 → ((run : List Played) → IsFitRun 0 n run → HasOneLog 0 n run) → (h : Happened Lying) (m : IsMatched (fresh_group (λ i. kind) 0 n) h) → NoCollision (IsHashed m.run (root_header 0))
+pub keeps : (kind : Kind) (n : ℕ) → IsKind kind → 2 ≤ n → n ≤ 6 → ((run : List Played) → IsFitRun 0 n run → HasOneLog 0 n run) → (h : Happened Lying) (m : IsMatched (fresh_group (λ i. kind) 0 n) h) → NoCollision (IsHashed m.run (root_header 0))
     → KeepsOneLog kind n h
-keeps kind n few many one h m never = keeps_log (λ i. kind) 0 n (omega arith) few many one h m never
+keeps kind n k few many one h m never = keeps_log (λ i. kind) 0 n (λ i l. k) (omega arith) few many one h m never

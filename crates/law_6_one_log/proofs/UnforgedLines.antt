@@ -30,16 +30,17 @@ use Rattle.law_3_outputs.specs.Outputs.{messages}
 use Rattle.law_3_outputs.specs.Group as group
 use Rattle.law_3_outputs.specs.Group.{Arrival, Asked, Group, IsArrival, Message, Time, made_in, mended, opening_script, resumed}
 use Rattle.law_3_outputs.specs.GroupFit.{IsFitArrival, IsFitGroup}
+use Rattle.law_3_outputs.specs.Own.{IsAt}
 use Rattle.law_3_outputs.proofs.FitLies.{lies_fit}
 use Rattle.law_3_outputs.proofs.FitGroups.{good_value, known_right}
-use Rattle.law_3_outputs.proofs.Slots.{least_two, value_is}
+use Rattle.law_3_outputs.proofs.Slots.{value_is}
 use Rattle.law_1_machine.specs.Basics.{In}
 use Rattle.law_4_disks.specs.Beside.{AreMade, IsOff, MayGo}
 use Rattle.law_4_disks.specs.Stocks.{IsGiven, IsGivenEvent, IsStockedGroup, WritesBlocks}
 use Rattle.law_4_disks.specs.Worlds.{AreBeside, IsLine, IsUnforged, Stands, begun_by, begun_in, begun_of, handling, opening_as, starting, starting_by, stepping}
 use Rattle.law_4_disks.proofs.Calls.{mend_are}
 use Rattle.law_4_disks.proofs.Lines.{get_both, other_place, outputs_given, own_place, some_member, step_well}
-use Rattle.law_4_disks.proofs.Matched.{blocks_both, mending_blocks, opened_as, opens_group, start_well, whole}
+use Rattle.law_4_disks.proofs.Matched.{blocks_both, mending_blocks, off_several, opened_as, opens_group, start_well, whole}
 use Rattle.law_4_disks.proofs.Starts.{begun_all}
 use Rattle.law_4_disks.proofs.StockingRules.{ReadsOn, b_resuming, gives_read}
 use Rattle.law_5_seals.specs.Seals.{HasSectors, IsSealed, spelled_from}
@@ -202,9 +203,9 @@ module _ (w : World Lying) (made : List Header) (s : IsSealedWorld w made) (i : 
           | false ↦ λ t. halted_sealed u bs refl seals
         ] refl
 
--- the checkpoint of a good value of version 1 is no greater than its head
-checkpoint_low : (v : SuperValue) → IsGood v → v.fields.version ≡ 1 → v.fields.checkpoint ≤ v.fields.head
-checkpoint_low v g e = let x = value_is v g (least_two v g e) in let a = x.commit in let b = x.head in omega (arith, a, b)
+-- the checkpoint of a good value, of a group of at least two, is no greater than its head
+checkpoint_low : (v : SuperValue) → IsGood v → 2 ≤ v.fields.n → v.fields.checkpoint ≤ v.fields.head
+checkpoint_low v g several = let x = value_is v g several in let a = x.commit in let b = x.head in omega (arith, a, b)
 
 -- so long a log has no op that sessions could spell
 within_room : (home op made : ℕ) → op ≤ made → made < room home → op + 64 < spelled_from home
@@ -229,12 +230,13 @@ module _ {home : ℕ} (w : World Lying) (g : Group) (b : AreBeside w g) (fits : 
       let h = step_well w g i m q b fits stock at there stands arrival e r run arrives fit are in
       let on = (stands.running r run).0 in
       let face = on.calm.face in
-      let running = (fits.members i q there).running r (stands.replica ∙ run) in
-      let gives = gives_read {Q = IsSealedBlock g.made} g.n i r d h.at running.0.sound running.1 e are given h.known in
+      let is = fits.members i q there in
+      let running = is.running r (stands.replica ∙ run) in
+      let place : IsAt home g.n i d.version r = subst (λ (k : ℕ). IsAt home g.n i k r) (sym (on.file ∙ is.last.1.version)) running.1 in
+      let gives = gives_read {Q = IsSealedBlock g.made} g.n i d.version r d h.at running.0.sound place e are given h.known in
       let saves = step_saves g bridged fits i q there d (lies_fit.reads d face) arrival e r (stands.replica ∙ run) arrives fit in
       let split = begun_some m.fuse x.script d in
       let seals = begun_sealed g.made (ReadsOn d) x.script (begun_by m.fuse x.script d) split.0 split.1 saves gives.blocks plain in
-      let is = fits.members i q there in
       let right : IsRight g.made q.last = (is.last.0, last_named g bridged i q there) in
       let said : AreGiven g.made (messages (outputs x.script)) = λ n y k. given_read g.made d y.message face disk_sealed (outputs_given (ReadsOn d) (IsSealedBlock g.made) x.script gives.blocks n y k) in
       acts_by w g.made s i m at x q.last h.well.go right face said m.fuse seals
@@ -261,7 +263,7 @@ module _ {home : ℕ} (w : World Lying) (g : Group) (b : AreBeside w g) (fits : 
       let calls = mend_are v m.disk.face x.0.0 in
       let one = effect_sealed g.made (Mend v) m.disk v (record { fit = refl; calls = calls }) tt x.0 face disk_sealed in
       let top = may_open_short g bridged i q there v o.may in
-      let window = checkpoint_low v x.0.0 (good_value home g.n i q v (fits.members i q there) o.may).1.version in
+      let window = checkpoint_low v x.0.0 (off_several w g i m q b fits stock at there stands v o) in
       found_made g.made _ (has_after_all (IsSealed g.made) cs m.disk.face disk_sealed one) v (lying.after m.disk (Mend v)).held m.disk.version (face_after_all cs m.disk.face face calls)
       (subst (λ (n : ℕ). v.fields.checkpoint + 64 < spelled_from n) (sym x.1) (within_room home v.fields.checkpoint (length bridged.machine.made) (omega (arith, top, window)) low))
 
@@ -275,7 +277,7 @@ module _ {home : ℕ} (w : World Lying) (g : Group) (b : AreBeside w g) (fits : 
       let face = o.calm.face in
       let h = start_well w g i m q b fits stock at there stands v o (off_unforged v o) in
       let none : List ℕ → Type 0 = λ b. ⊥ in
-      let later = (b_resuming {P = none} {Q = IsSealedBlock g.made}).each g.n i _ _ h.here (known_right home g.n i xs ys h.known) in
+      let later = (b_resuming {P = none} {Q = IsSealedBlock g.made}).each g.n i d.version _ _ h.here (known_right home g.n i d.version xs ys h.known) in
       let blocks : AllByRecursion (WritesBlocks none (IsSealedBlock g.made)) es = blocks_both none (IsSealedBlock g.made) xs ys (mending_blocks none (IsSealedBlock g.made) v d) later.blocks in
       let saves = start_saves g bridged fits i q there d (lies_fit.reads d face) v (opens_group w g i m q b fits stock at there stands v run o h.finds) in
       let split = begun_some m.fuse es d in

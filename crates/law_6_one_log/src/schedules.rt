@@ -8,7 +8,7 @@
 //! it be fewer than 2^47 lines: there sessions could spell headers from op 2^48 on.
 ghost use Rattle.law_6_one_log.specs.ScheduleLaws.{HappeningsAreRuns, LinesStayUnforged, SchedulesAreRuns, SomeEntryMay, SomeScheduleMay, WorldsAreRuns, WorldsBeginUnforged};
 
-/// A group of 2 to 6 replicas begins with disks on which nothing is forged.
+/// A group of 2 to 6 replicas, on files of either version, begins with disks on which nothing is forged.
 pub fn worlds_begin_unforged()
     ensures { WorldsBeginUnforged }
 {}
@@ -33,7 +33,7 @@ pub fn schedules_are_runs()
     ensures { SchedulesAreRuns }
 {}
 
-/// Of some schedule all holds that is asked.
+/// Of some schedule all holds that is asked, on files of each kind.
 pub fn some_schedule_may()
     ensures { SomeScheduleMay }
 {}

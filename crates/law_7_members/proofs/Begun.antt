@@ -10,7 +10,7 @@ use Rattle.vr_header.specs.Names.{root_header}
 use Rattle.vr_header.specs.NoCollision.{NoCollision}
 use Rattle.vr_world.specs.Group.{Member, Played, fresh_group, fresh_member}
 use Rattle.vr_world.specs.Lying.{Lying, hazards, zero_face}
-use Rattle.vr_world.specs.Opening.{blank, first_value, fresh}
+use Rattle.vr_world.specs.Opening.{AreKinds, IsKind, blank, first_value, fresh}
 use Rattle.vr_world.specs.Replica.{Replica}
 use Rattle.vr_world.specs.Safe as safe
 use Rattle.vr_world.specs.World.{Happened, Happening, Host, happen}
@@ -30,8 +30,8 @@ use Rattle.law_7_members.specs.Deeds.{config_at}
 use Rattle.law_7_members.specs.Files.{Act, ActBy, AtWork, all_lines}
 use Rattle.law_7_members.specs.Whole as whole
 use Rattle.law_7_members.specs.Whole.{AreRuns, Begins, ZerosBeginTheFirst, made_on, new_host, own, unheld, world_of}
-use Rattle.law_7_members.proofs.Files.{AreFirst, scheduled}
-use Rattle.law_7_members.proofs.Keeping.{few_lines}
+use Rattle.law_7_members.proofs.Files.{AllRunOn, RunsOn, scheduled}
+use Rattle.law_7_members.proofs.Keeping.{few_lines, fresh_runs}
 use Rattle.law_7_members.proofs.Making.{IsNew, late_new, made_new, unfinished_plain}
 
 -- ---- each member is new
@@ -41,21 +41,21 @@ pub record IsNewHost (kind : Kind) (c : Config) (m : Host Lying) : Type 0 where
   pub is : m ≡ new_host kind c file
   pub new : IsNew kind c file
 
-begins_new : (kind : Kind) (c : Config) (m : Host Lying) (acts : List Act) → c.cluster < 2 ^ 64 → 2 ≤ c.n → c.n ≤ 6 → c.replica < c.n → Begins kind c m acts → IsNewHost kind c m
-begins_new kind c _ _ number few many l (whole.makes d o o' run arrivals acts told unfinished size lives) =
-    let good = (fresh_fits kind c.cluster c.n c.replica number few many l).value in
+begins_new : (kind : Kind) (c : Config) (m : Host Lying) (acts : List Act) → IsKind kind → c.cluster < 2 ^ 64 → 2 ≤ c.n → c.n ≤ 6 → c.replica < c.n → Begins kind c m acts → IsNewHost kind c m
+begins_new kind c _ _ is number few many l (whole.makes d o o' run arrivals acts told unfinished size lives) =
+    let good = (fresh_fits kind c.cluster c.n c.replica is number few many l).value in
     record { file = made_on kind c d.face; is = refl; new = made_new kind c d.face number good (unfinished_plain c number few many l d.face unfinished) }
-begins_new kind c _ _ number few many l (whole.stops_late f acts unfinished opened lives) =
-    record { file = unheld f; is = refl; new = late_new kind c f (unfinished_plain c number few many l f unfinished) opened }
-begins_new kind c _ _ number few many l whole.waits =
-    let good = (fresh_fits kind c.cluster c.n c.replica number few many l).value in
+begins_new kind c _ _ is number few many l (whole.stops_late f acts unfinished opened lives) =
+    record { file = unheld kind f; is = refl; new = late_new kind c f (unfinished_plain c number few many l f unfinished) opened }
+begins_new kind c _ _ is number few many l whole.waits =
+    let good = (fresh_fits kind c.cluster c.n c.replica is number few many l).value in
     record { file = made_on kind c zero_face; is = refl; new = made_new kind c zero_face number good (unfinished_plain c number few many l zero_face whole.zeros) }
 
 abbrev pub AreNew : (ℕ → Kind) → ℕ → ℕ → (ℕ → Host Lying) → Type 0
 AreNew kinds cluster n first = (i : ℕ) → i < n → IsNewHost (kinds i) (config_at cluster n i) (first i)
 
-pub begin_new : (kinds : ℕ → Kind) (cluster n : ℕ) (first : ℕ → Host Lying) (xs : List ActBy) → cluster < 2 ^ 64 → 2 ≤ n → n ≤ 6 → AreRuns kinds cluster n first xs → AreNew kinds cluster n first
-begin_new kinds cluster n first xs number few many r i l = begins_new (kinds i) (config_at cluster n i) (first i) (own i xs) number few many l (r.each i l)
+pub begin_new : (kinds : ℕ → Kind) (cluster n : ℕ) (first : ℕ → Host Lying) (xs : List ActBy) → AreKinds kinds n → cluster < 2 ^ 64 → 2 ≤ n → n ≤ 6 → AreRuns kinds cluster n first xs → AreNew kinds cluster n first
+begin_new kinds cluster n first xs are number few many r i l = begins_new (kinds i) (config_at cluster n i) (first i) (own i xs) (are i l) number few many l (r.each i l)
 
 -- ---- so they stand beside a group that was just made
 
@@ -108,10 +108,10 @@ module _ (kinds : ℕ → Kind) (cluster n : ℕ) (first : ℕ → Host Lying) (
     sent = λ number s e. absurd cc;
   }
 
-  module _ (number : cluster < 2 ^ 64) (few : 2 ≤ n) (many : n ≤ 6) where
+  module _ (are : AreKinds kinds n) (number : cluster < 2 ^ 64) (few : 2 ≤ n) (many : n ≤ 6) where
     begun_unforged : (u : IsUnforgedBeside cluster (world_of first n) (fresh_group kinds cluster n)) × (u.past.run ≡ [])
     begun_unforged =
-        let u = worlds_begin_unforged kinds cluster n number few many in (
+        let u = worlds_begin_unforged kinds cluster n are number few many in (
           record {
             beside = begun_beside;
             fit = u.0.fit;
@@ -136,21 +136,21 @@ module _ (kinds : ℕ → Kind) (cluster n : ℕ) (first : ℕ → Host Lying) (
         let m = happenings_are_runs cluster xs w (fresh_group kinds cluster n) u.0 (record { lines = lines; names = λ p q x y same. never p q (into p x) (into q y) same; few = omega (arith, size, short) }) in
         (m.0, λ p q x y same. never p q (m.1 p x) (m.1 q y) same)
 
-    -- and each file is of version 1
-    begun_files : AreFirst (world_of first n)
-    begun_files i m e =
+    -- and each runs on a file of its version
+    begun_run : AllRunOn (world_of first n)
+    begun_run i m e =
         let at = first_at i m e in
         let one = new i at.0 in
-        ap (λ (h : Host Lying). h.disk.version) (at.1 ∙ one.is) ∙ (one.new.on.file ∙ one.new.on.version)
+        subst (λ (h : Host Lying). RunsOn h.replica h.disk) (sym (at.1 ∙ one.is)) (fresh_runs (kinds i) cluster n i one.file one.new.on.file)
 
 pub zeros_begin_the_first : ZerosBeginTheFirst
 unfolding world_of first_world
 zeros_begin_the_first kinds cluster n = refl
 
-pub begun_keep_one_log : (kinds : ℕ → Kind) (cluster n : ℕ) (first : ℕ → Host Lying) (xs : List ActBy) (h : Happened Lying) → cluster < 2 ^ 64 → 2 ≤ n → n ≤ 6 → length xs < 2 ^ 46 → AreNew kinds cluster n first → AtWork cluster (world_of first n) xs h
+pub begun_keep_one_log : (kinds : ℕ → Kind) (cluster n : ℕ) (first : ℕ → Host Lying) (xs : List ActBy) (h : Happened Lying) → AreKinds kinds n → cluster < 2 ^ 64 → 2 ≤ n → n ≤ 6 → length xs < 2 ^ 46 → AreNew kinds cluster n first → AtWork cluster (world_of first n) xs h
     → NoCollision (IsHashedOf cluster (world_of first n) (all_lines xs)) → KeepsLog kinds cluster n h
-begun_keep_one_log kinds cluster n first xs h number few many short new work never =
+begun_keep_one_log kinds cluster n first xs h are number few many short new work never =
     let w = world_of first n in
-    let s = scheduled cluster w xs h (begun_files kinds cluster n first new number few many) work in
-    let m = begun_are_runs kinds cluster n first new number few many (all_lines xs) (few_lines cluster (length (all_lines xs)) (length xs) short s.few) s.lines never in
-    subst (KeepsLog kinds cluster n) s.is (keeps_log kinds cluster n number few many (one_log cluster n) (happen hazards w (all_lines xs)) m.0 m.1)
+    let s = scheduled cluster w xs h (begun_run kinds cluster n first new are number few many) work in
+    let m = begun_are_runs kinds cluster n first new are number few many (all_lines xs) (few_lines cluster (length (all_lines xs)) (length xs) short s.few) s.lines never in
+    subst (KeepsLog kinds cluster n) s.is (keeps_log kinds cluster n are number few many (one_log cluster n) (happen hazards w (all_lines xs)) m.0 m.1)

@@ -18,9 +18,9 @@ use Rattle.vr_super.specs.Copies.{SuperValue}
 use Rattle.vr_world.specs.Group.{Arrival, Asked, Message, Time, opening_script, resumed}
 use Rattle.vr_world.specs.Lying.{Lying, hazards, keeps_premise, lied_to, lying, unless_kept_out}
 use Rattle.vr_world.specs.Opening.{blank, opened, opening}
-use Rattle.vr_node.specs.Replica.{Replica}
+use Rattle.vr_node.specs.Replica.{Replica, version}
 use Rattle.vr_node.specs.Rules.{react}
-use Rattle.vr_node.specs.Sectors.{script_calls, sectors, sectors_by}
+use Rattle.vr_node.specs.Sectors.{script_calls, sectors_by}
 use Rattle.vr_world.specs.Steps.{Effect, Step, after_all, outputs}
 use Rattle.vr_world.specs.World as world
 use Rattle.vr_world.specs.World.{Acted, Happened, Happening, Host, World, Fuses, Lies, Starts, Stops, acts, at_member, delivered, handles, happen, happens, lied, nothing, starts, stays, stops, with_member}
@@ -32,7 +32,7 @@ use Rattle.law_4_disks.specs.Worlds.{IsLine}
 use Rattle.law_4_disks.proofs.Lines.{other_place, own_place, some_member}
 use Rattle.law_4_disks.proofs.Starts.{opening_is}
 use Rattle.vr_lying.proofs.Rules.{a_react}
-use Rattle.vr_lying.proofs.Versions.{blank_one, opens_one}
+use Rattle.vr_lying.proofs.Versions.{blank_by, opens_by}
 use Rattle.vr_lying.proofs.Words.{a_opening}
 use Rattle.vr_serve.specs.Runs.{Did}
 use Rattle.vr_node.specs.Does.{Does, LeftBy}
@@ -42,6 +42,7 @@ use Rattle.vr_node.specs.declared.node.Node.{Node}
 use Rattle.law_7_members.specs.Deeds.{config_at}
 use Rattle.law_7_members.specs.Files as files
 use Rattle.law_7_members.specs.Files.{Act, ActBy, AtWork, Becomes, Befalls, Brings, Comes, all_lines, cut_in, file_after, left_at, line_of, lines_of, on_file, puts_out}
+use Rattle.law_7_members.proofs.Values.{same_value}
 
 -- ---- lines one after the other
 
@@ -153,15 +154,15 @@ module _ (w : World Lying) (at : ℕ) (o : Option Replica) (file : Lying) (there
       two_lines w v (Fuses at made code) y _ (fuse_line w at (on_file o file) there made code) (line ∙ (at_one v at f here act _ acted ∙ cut_left made code script))
 
 -- an event is handled
-handled_told : (w : World Lying) (at : ℕ) (file : Lying) (e : Event) (d : Disk) (did : Did Node) (node : Node) → slice_get w.members at ≡ Some (on_file (Some node.replica.memory) file) → file.version ≡ 1 → d.face ≡ file.face → steps node (Some d) e did.outputs did.after did.disk
+handled_told : (w : World Lying) (at : ℕ) (file : Lying) (e : Event) (d : Disk) (did : Did Node) (node : Node) → slice_get w.members at ≡ Some (on_file (Some node.replica.memory) file) → version node.replica.memory ≡ file.version → d.face ≡ file.face → steps node (Some d) e did.outputs did.after did.disk
     → at_member w at (handles hazards e) ≡ left_at w at (Some did.after.replica.memory) (file_after file node.replica.memory e) did.outputs
-handled_told w at file e d did node there one tells does =
+handled_told w at file e d did node there own tells does =
     let r = node.replica.memory in
-    let left : LeftBy 1 (react e sectors r d.face) did.after.replica.memory d did.disk [] did.outputs (Ok tt) =
-    subst (λ n. LeftBy n (react e (sectors_by n) r d.face) did.after.replica.memory d did.disk [] did.outputs (Ok tt)) does.0 (does.1.told d refl) in
+    let left : LeftBy file.version (react e (sectors_by file.version) r d.face) did.after.replica.memory d did.disk [] did.outputs (Ok tt) =
+    subst (λ n. LeftBy n (react e (sectors_by n) r d.face) did.after.replica.memory d did.disk [] did.outputs (Ok tt)) own (does.1.told d refl) in
     let y : Step = react e (sectors_by file.version) r file.face in
     let same : react e lying r file ≡ y = (a_react e).each r file in
-    let from : react e sectors r d.face ≡ y = ap (react e sectors r) tells ∙ ap (λ n. react e (sectors_by n) r file.face) (sym one) in
+    let from : react e (sectors_by file.version) r d.face ≡ y = ap (react e (sectors_by file.version) r) tells in
     let replica_is : y.replica ≡ did.after.replica.memory = sym (left.0 ∙ ap (λ (s : Step). s.replica) from) in
     let outputs_is : outputs y.script ≡ did.outputs = sym (left.1 ∙ ap (λ (s : Step). outputs s.script) from) in
     at_one w at (on_file (Some r) file) there (handles hazards e) _ refl
@@ -170,15 +171,15 @@ handled_told w at file e d did node there one tells does =
     ∙ ap (left_at w at (Some did.after.replica.memory) (after_all lying file y.script)) outputs_is))
 
 -- a member is found again
-found_told : (c : Config) (w : World Lying) (at : ℕ) (file : Lying) (v : SuperValue) (d : Disk) (after : Option Disk) (first : List Output) (r : Replica) → slice_get w.members at ≡ Some (on_file None file) → file.version ≡ 1 → d.face ≡ file.face → (sectors_by file.version).opens d.face ≡ Some v → Opens None c (Some d) after first r
+found_told : (c : Config) (w : World Lying) (at : ℕ) (file : Lying) (v : SuperValue) (d : Disk) (after : Option Disk) (first : List Output) (r : Replica) → slice_get w.members at ≡ Some (on_file None file) → d.face ≡ file.face → (sectors_by file.version).opens d.face ≡ Some v → Opens None c (Some d) after first r
     → at_member w at (starts hazards) ≡ left_at w at (Some r) (after_all lying file (opening_script v file)) first
-found_told c w at file v d after first r there one tells o opens_as =
-    let opened : sectors.opens d.face ≡ Some v = subst (λ n. (sectors_by n).opens d.face ≡ Some v) one o in
-    let is : v ≡ opens_as.value = (let e : Some v ≡ Some opens_as.value = sym opened ∙ opens_as.opens in cc) in
-    let left : LeftBy 1 (opening v sectors (blank v) d.face) r d after [] first (Ok tt) =
-    subst (λ n. LeftBy n (opening v (sectors_by n) (blank v) d.face) r d after [] first (Ok tt)) (blank_one v (opens_one d.face v opened))
+found_told c w at file v d after first r there tells o opens_as =
+    let n = file.version in
+    let is = same_value n d.face v opens_as.value o opens_as.opens in
+    let left : LeftBy n (opening v (sectors_by n) (blank v) d.face) r d after [] first (Ok tt) =
+    subst (λ n. LeftBy n (opening v (sectors_by n) (blank v) d.face) r d after [] first (Ok tt)) (blank_by n v (opens_by n d.face v o))
     ((subst (λ (u : SuperValue). Does (opening u) (blank u) r (Some d) after [] first (Ok tt)) (sym is) opens_as.step).told d refl) in
-    let same : opening v sectors (blank v) d.face ≡ whole v file = ap (opening v sectors (blank v)) tells ∙ (ap (λ n. opening v (sectors_by n) (blank v) file.face) (sym one) ∙ (sym ((a_opening v).each (blank v) file) ∙ opening_is v file)) in
+    let same : opening v (sectors_by n) (blank v) d.face ≡ whole v file = ap (opening v (sectors_by n) (blank v)) tells ∙ (sym ((a_opening v).each (blank v) file) ∙ opening_is v file) in
     let there_after = after_all lying file (opening_script v file) in
     let replica_is : (whole v file).replica ≡ r = sym (left.0 ∙ ap (λ (z : Step). z.replica) same) in
     let first_is : outputs (opening_script v file) ≡ first = sym (left.1 ∙ ap (λ (z : Step). outputs z.script) same) in
@@ -187,22 +188,26 @@ found_told c w at file v d after first r there one tells o opens_as =
 
 -- ---- what befalls a member
 
-becomes_lines : (c : Config) (w : World Lying) (at : ℕ) (act : Act) (o : Option Replica) (file : Lying) (next : Option Replica) (left : Lying) → slice_get w.members at ≡ Some (on_file o file) → file.version ≡ 1 → Brings w.sent at act → Becomes c o file act next left
+-- a replica runs on a file of its version
+abbrev pub RunsOn : Option Replica → Lying → Type 0
+RunsOn o file = (r : Replica) → o ≡ Some r → version r ≡ file.version
+
+becomes_lines : (c : Config) (w : World Lying) (at : ℕ) (act : Act) (o : Option Replica) (file : Lying) (next : Option Replica) (left : Lying) → slice_get w.members at ≡ Some (on_file o file) → RunsOn o file → Brings w.sent at act → Becomes c o file act next left
     → happen hazards w (lines_of at act) ≡ left_at w at next left (puts_out at act)
-becomes_lines c w at _ _ _ _ _ there one comes (files.handles file arrival did node d tells does) =
-    one_line w (line_of arrival at) _ (event_line w at arrival did.come.event comes ∙ handled_told w at file did.come.event d did node there one tells does)
-becomes_lines c w at _ _ _ _ _ there one comes (files.breaks file arrival e made code r within) =
+becomes_lines c w at _ _ _ _ _ there own comes (files.handles file arrival did node d tells does) =
+    one_line w (line_of arrival at) _ (event_line w at arrival did.come.event comes ∙ handled_told w at file did.come.event d did node there (own node.replica.memory refl) tells does)
+becomes_lines c w at _ _ _ _ _ there own comes (files.breaks file arrival e made code r within) =
     let y : Step = react e (sectors_by file.version) r file.face in
     let v = with_fuse w at (on_file (Some r) file) there made code in
     let f = fused w at (on_file (Some r) file) there made code in
     let same : react e lying r file ≡ y = (a_react e).each r file in
     cut_lines w at (Some r) file there made code y.script (line_of arrival at) (handles hazards e) (event_line v at arrival e comes) (ap (λ (s : Step). acts hazards at f s) same ∙ acts_cut at made code (Some r) file y within)
-becomes_lines c w at _ _ _ _ _ there one comes (files.ends file o) = one_line w (Stops at) _ (at_one w at (on_file o file) there stops _ refl)
-becomes_lines c w at _ _ _ _ _ there one comes (files.finds file d v after first r tells o opened) = one_line w (Starts at) _ (found_told c w at file v d after first r there one tells o opened)
-becomes_lines c w at _ _ _ _ _ there one comes (files.half_finds file v made code o within) =
+becomes_lines c w at _ _ _ _ _ there own comes (files.ends file o) = one_line w (Stops at) _ (at_one w at (on_file o file) there stops _ refl)
+becomes_lines c w at _ _ _ _ _ there own comes (files.finds file d v after first r tells o opened) = one_line w (Starts at) _ (found_told c w at file v d after first r there tells o opened)
+becomes_lines c w at _ _ _ _ _ there own comes (files.half_finds file v made code o within) =
     let f = fused w at (on_file None file) there made code in
     cut_lines w at None file there made code (opening_script v file) (Starts at) (starts hazards) refl (starts_as at f.fuse file v _ o (acts_cut at made code None file (whole v file) within))
-becomes_lines c w at _ _ _ _ _ there one comes (files.decays file o fault left within keeps) = one_line w (Lies at fault) _ (at_one w at (on_file o file) there (world.lies hazards fault) _ (ap (λ (x : Option Lying). lied (on_file o file) x) keeps))
+becomes_lines c w at _ _ _ _ _ there own comes (files.decays file o fault left within keeps) = one_line w (Lies at fault) _ (at_one w at (on_file o file) there (world.lies hazards fault) _ (ap (λ (x : Option Lying). lied (on_file o file) x) keeps))
 
 becomes_are_lines : (c : Config) (sent : List Sent) (at : ℕ) (act : Act) (o : Option Replica) (file : Lying) (next : Option Replica) (left : Lying) → Brings sent at act → Becomes c o file act next left
     → AllByRecursion IsLine (lines_of at act) × (length (lines_of at act) ≤ 2)
@@ -213,9 +218,9 @@ becomes_are_lines c sent at _ _ _ _ _ comes (files.finds file d v after first r 
 becomes_are_lines c sent at _ _ _ _ _ comes (files.half_finds file v made code o within) = ((tt, (tt, tt)), omega arith)
 becomes_are_lines c sent at _ _ _ _ _ comes (files.decays file o fault left within keeps) = ((within, tt), omega arith)
 
--- ---- all files are of version 1
+-- ---- replicas go on running on files of their versions
 
--- a fault changes no version
+-- a fault changes no version of a file
 lied_version : (file left : Lying) (fault : Fault) → unless_kept_out file fault ≡ Some left → left.version ≡ file.version
 unfolding unless_kept_out
 lied_version file left fault e =
@@ -225,37 +230,52 @@ lied_version file left fault e =
       | false ↦ λ e. absurd cc
     ] e
 
--- nor does anything else
-pub same_file : (c : Config) (act : Act) (o : Option Replica) (file : Lying) (next : Option Replica) (left : Lying) → Becomes c o file act next left → left.version ≡ file.version
-same_file c _ _ _ _ _ (files.handles file arrival did node d tells does) = same_version (react did.come.event (sectors_by file.version) node.replica.memory file.face).script file
-same_file c _ _ _ _ _ (files.breaks file arrival e made code r within) = refl
-same_file c _ _ _ _ _ (files.ends file o) = refl
-same_file c _ _ _ _ _ (files.finds file d v after first r tells o opened) = same_version (opening_script v file) file
-same_file c _ _ _ _ _ (files.half_finds file v made code o within) = refl
-same_file c _ _ _ _ _ (files.decays file o fault left within keeps) = lied_version file left fault keeps
+pub none_runs : (file : Lying) → RunsOn None file
+none_runs file r e = absurd cc
 
-abbrev pub AreFirst : World Lying → Type 0
-AreFirst w = (i : ℕ) (m : Host Lying) → slice_get w.members i ≡ Some m → m.disk.version ≡ 1
+pub some_runs : (q : Replica) (file : Lying) → version q ≡ file.version → RunsOn (Some q) file
+some_runs q file own r e = let same : q ≡ r = cc in subst (λ (x : Replica). version x ≡ file.version) same own
 
-first_next : (w : World Lying) (at : ℕ) (m : Host Lying) (next : Option Replica) (left : Lying) (os : List Output) → slice_get w.members at ≡ Some m → left.version ≡ 1 → AreFirst w → AreFirst (left_at w at next left os).world
-first_next w at m next left os there one first i x e =
+-- one that is opened is of the version of its file
+pub opened_runs : (c : Config) (file : Lying) (d : Disk) (v : SuperValue) (after : Option Disk) (first : List Output) (r : Replica) → (sectors_by file.version).opens d.face ≡ Some v → Opens None c (Some d) after first r → version r ≡ file.version
+opened_runs c file d v after first r o opened =
+    let of = opens_by file.version d.face v o in
+    let is = same_value file.version d.face v opened.value o opened.opens in
+    opened.step.same refl ∙ blank_by file.version opened.value (ap (λ (x : SuperValue). x.fields.version) (sym is) ∙ of)
+
+pub runs_on : (c : Config) (act : Act) (o : Option Replica) (file : Lying) (next : Option Replica) (left : Lying) → RunsOn o file → Becomes c o file act next left → RunsOn next left
+runs_on c _ _ _ _ _ own (files.handles file arrival did node d tells does) =
+    some_runs did.after.replica.memory (file_after file node.replica.memory did.come.event)
+    (does.1.same refl ∙ own node.replica.memory refl ∙ sym (same_version (react did.come.event (sectors_by file.version) node.replica.memory file.face).script file))
+runs_on c _ _ _ _ _ own (files.breaks file arrival e made code r within) = none_runs (cut_in file (react e (sectors_by file.version) r file.face).script made code)
+runs_on c _ _ _ _ _ own (files.ends file o) = none_runs file
+runs_on c _ _ _ _ _ own (files.finds file d v after first r tells o opened) =
+    some_runs r (after_all lying file (opening_script v file)) (opened_runs c file d v after first r o opened ∙ sym (same_version (opening_script v file) file))
+runs_on c _ _ _ _ _ own (files.half_finds file v made code o within) = none_runs (cut_in file (opening_script v file) made code)
+runs_on c _ _ _ _ _ own (files.decays file o fault left within keeps) = λ r e. own r e ∙ sym (lied_version file left fault keeps)
+
+abbrev pub AllRunOn : World Lying → Type 0
+AllRunOn w = (i : ℕ) (m : Host Lying) → slice_get w.members i ≡ Some m → RunsOn m.replica m.disk
+
+all_next : (w : World Lying) (at : ℕ) (m : Host Lying) (next : Option Replica) (left : Lying) (os : List Output) → slice_get w.members at ≡ Some m → RunsOn next left → AllRunOn w → AllRunOn (left_at w at next left os).world
+all_next w at m next left os there own all i x e =
     let a : Host Lying = on_file next left in
     elim (cases_eq at i) [
       | inl same ↦
           let own_is : slice_get (set w.members at a) at ≡ Some x = subst (λ (j : ℕ). slice_get (set w.members at a) j ≡ Some x) (sym same) e in
           let is : a ≡ x = some_member a x (sym (own_place w.members at m a there) ∙ own_is) in
-          ap (λ (h : Host Lying). h.disk.version) (sym is) ∙ one
-      | inr other ↦ first i x (sym (other_place w.members at i a other) ∙ e)
+          subst (λ (h : Host Lying). RunsOn h.replica h.disk) is own
+      | inr other ↦ all i x (sym (other_place w.members at i a other) ∙ e)
     ]
 
-befallen : (cluster : ℕ) (w : World Lying) (x : ActBy) (h : Happened Lying) → AreFirst w → Befalls cluster w x h → happen hazards w (lines_of x.at x.act) ≡ h
-befallen cluster w x h first b =
-    becomes_lines (config_at cluster w.n x.at) w x.at x.act b.replica b.file b.next b.left b.there (first x.at (on_file b.replica b.file) b.there) b.brings b.becomes ∙ sym b.is
+befallen : (cluster : ℕ) (w : World Lying) (x : ActBy) (h : Happened Lying) → AllRunOn w → Befalls cluster w x h → happen hazards w (lines_of x.at x.act) ≡ h
+befallen cluster w x h all b =
+    becomes_lines (config_at cluster w.n x.at) w x.at x.act b.replica b.file b.next b.left b.there (all x.at (on_file b.replica b.file) b.there) b.brings b.becomes ∙ sym b.is
 
-first_on : (cluster : ℕ) (w : World Lying) (x : ActBy) (h : Happened Lying) → AreFirst w → Befalls cluster w x h → AreFirst h.world
-first_on cluster w x h first b =
-    let one = same_file (config_at cluster w.n x.at) x.act b.replica b.file b.next b.left b.becomes ∙ first x.at (on_file b.replica b.file) b.there in
-    subst (λ (h : Happened Lying). AreFirst h.world) (sym b.is) (first_next w x.at (on_file b.replica b.file) b.next b.left (puts_out x.at x.act) b.there one first)
+all_on : (cluster : ℕ) (w : World Lying) (x : ActBy) (h : Happened Lying) → AllRunOn w → Befalls cluster w x h → AllRunOn h.world
+all_on cluster w x h all b =
+    let own = runs_on (config_at cluster w.n x.at) x.act b.replica b.file b.next b.left (all x.at (on_file b.replica b.file) b.there) b.becomes in
+    subst (λ (h : Happened Lying). AllRunOn h.world) (sym b.is) (all_next w x.at (on_file b.replica b.file) b.next b.left (puts_out x.at x.act) b.there own all)
 
 -- ---- one after the other
 
@@ -269,13 +289,13 @@ pub record Scheduled (w : World Lying) (xs : List ActBy) (h : Happened Lying) : 
   pub lines : AllByRecursion IsLine (all_lines xs)
   pub few : length (all_lines xs) ≤ 2 * length xs
 
-pub scheduled : (cluster : ℕ) (w : World Lying) (xs : List ActBy) (h : Happened Lying) → AreFirst w → AtWork cluster w xs h → Scheduled w xs h
+pub scheduled : (cluster : ℕ) (w : World Lying) (xs : List ActBy) (h : Happened Lying) → AllRunOn w → AtWork cluster w xs h → Scheduled w xs h
 unfolding happen
-scheduled cluster _ _ _ ones (files.rests v) = record { is = refl; lines = tt; few = omega arith }
-scheduled cluster _ _ _ ones (files.goes_on v x xs one rest b more) =
-    let is = befallen cluster v x one ones b in
+scheduled cluster _ _ _ all (files.rests v) = record { is = refl; lines = tt; few = omega arith }
+scheduled cluster _ _ _ all (files.goes_on v x xs one rest b more) =
+    let is = befallen cluster v x one all b in
     let l = becomes_are_lines (config_at cluster v.n x.at) v.sent x.at x.act b.replica b.file b.next b.left b.brings b.becomes in
-    let s = scheduled cluster one.world xs rest (first_on cluster v x one ones b) more in
+    let s = scheduled cluster one.world xs rest (all_on cluster v x one all b) more in
     let size = length-append (lines_of x.at x.act) (all_lines xs) in
     let first = l.1 in
     let later = s.few in

@@ -1,3 +1,4 @@
+pub mod Values
 pub mod Moving
 pub mod Deeds
 pub mod Files

@@ -14,7 +14,7 @@ use Rattle.vr_base.proofs.FieldLaws.{IsBytes-piece, get_or-piece, length-piece}
 use Rattle.vr_base.proofs.Places.{drop_both}
 use Rattle.vr_base.proofs.ZeroLaws.{are_zeros}
 use Rattle.vr_disk.specs.DiskState.{Call, Cell, Disk, Face, IsCell, IsContent, IsFace, Sync, Write, after, after_all, damaged, runs}
-use Rattle.vr_disk.specs.Regions.{header_place, sectors}
+use Rattle.vr_disk.specs.Regions.{header_place, prepare_place, prepare_sectors, sectors}
 use Rattle.vr_disk.specs.Sectors.{together, writes}
 use Rattle.vr_disk.specs.Stops.{IsCall, Stops}
 use Rattle.vr_disk.proofs.Faces.{face_after, face_after_all, face_cut}
@@ -41,10 +41,10 @@ use Rattle.vr_lie.specs.Slots.{IsWhole, header_of, header_reading, prepare_bytes
 use Rattle.vr_world.specs.Formatting.{format_calls, reserved_header, reserved_headers, zero_prepares, zero_sector}
 use Rattle.vr_world.specs.Group.{fresh_member}
 use Rattle.vr_world.specs.Lying.{Lying, zero_cell, zero_face}
-use Rattle.vr_world.specs.Opening.{first_value}
+use Rattle.vr_world.specs.Opening.{IsKind, first_value}
 use Rattle.vr_world.proofs.FitFresh.{fresh_fits}
 use Rattle.law_4_disks.specs.Beside.{IsCalm, IsOn}
-use Rattle.law_4_disks.proofs.Calls.{copy_are, format_are, reserved_is, sector_content, zero_content}
+use Rattle.law_4_disks.proofs.Calls.{copy_are, format_are, format_is, prepares_fit, reserved_is, sector_content, zero_content}
 use Rattle.law_4_disks.proofs.Effects.{at_slot, calm_after}
 use Rattle.law_4_disks.proofs.Faults.{fault_face}
 use Rattle.law_4_disks.proofs.Found.{read_whole}
@@ -77,10 +77,10 @@ plain_empty b c z = record {
 some_header : (a b : Header) → Some a ≡ Some b → a ≡ b
 some_header a b e = cc
 
-reserved_empty : (home slot : ℕ) → home < 2 ^ 64 → slot < 64 → IsEmpty (sector_of (reserved_header home slot))
-reserved_empty home slot room l =
-    let r = reserved_header home slot in
-    let is = reserved_is home slot room l in
+reserved_empty : (ver home slot : ℕ) → (1 ≤ ver) × (ver ≤ 2) → home < 2 ^ 64 → slot < 64 → IsEmpty (sector_of (reserved_header ver home slot))
+reserved_empty ver home slot k room l =
+    let r = reserved_header ver home slot in
+    let is = reserved_is ver home slot k room l in
     let content = sector_content r is in
     record {
       sealed = header_sealed [] r is content (λ e _. absurd (let bad : false ≡ true = e in cc));
@@ -195,35 +195,36 @@ put_zeros : (n i : ℕ) → i + n ≤ sectors → PutEmpty (map (λ k. Write k z
 put_zeros zero i l = tt
 put_zeros (suc n) i l = ((omega (arith, l), zero_empty), put_zeros n (i + 1) (omega (arith, l)))
 
-put_reserved : (home n i : ℕ) → home < 2 ^ 64 → i + n ≤ 64 → PutEmpty (map (λ slot. Write (header_place slot) (sector_of (reserved_header home slot))) (range_with_len i n))
-put_reserved home zero i room l = tt
-put_reserved home (suc n) i room l = ((omega (arith, l), reserved_empty home i room (omega (arith, l))), put_reserved home n (i + 1) room (omega (arith, l)))
+put_reserved : (ver home n i : ℕ) → (1 ≤ ver) × (ver ≤ 2) → home < 2 ^ 64 → i + n ≤ 64 → PutEmpty (map (λ slot. Write (header_place slot) (sector_of (reserved_header ver home slot))) (range_with_len i n))
+put_reserved ver home zero i k room l = tt
+put_reserved ver home (suc n) i k room l = ((omega (arith, l), reserved_empty ver home i k room (omega (arith, l))), put_reserved ver home n (i + 1) k room (omega (arith, l)))
 
 put_format : (kind : Kind) (home n i : ℕ) → home < 2 ^ 64 → IsGood (first_value kind home n i) → PutEmpty (format_calls kind home n i)
-unfolding format_calls
 put_format kind home n i room good =
     let b = copy_bytes (first_value kind home n i) in
-    put_both zero_prepares (reserved_headers home ++ Sync ∷ save_from 0 4 b) (put_zeros 256 144 (omega arith))
-    (put_both (reserved_headers home) (Sync ∷ save_from 0 4 b) (put_reserved home 64 0 room (omega arith)) (tt, put_saves b (copy_piece kind home n i good) 4 0 (omega arith)))
+    let v = kind.version in
+    subst PutEmpty (sym (format_is kind home n i))
+    (put_both (zero_prepares v) (reserved_headers v home ++ Sync ∷ save_from 0 4 b) (put_zeros (64 * prepare_sectors v) (prepare_place v 0) (prepares_fit v))
+    (put_both (reserved_headers v home) (Sync ∷ save_from 0 4 b) (put_reserved v home 64 0 good.numbers.version room (omega arith)) (tt, put_saves b (copy_piece kind home n i good) 4 0 (omega arith))))
 
 -- ---- where all sectors are such, no slot reads as an entry
 
-whole_there : (f : Face) (slot : ℕ) (p : List ℕ) (o : Option Whole) → whole_of p ≡ o → is_some o ≡ true → prepare_reading 1 f slot ≡ Some p → (e : Whole) × (whole_in 1 f slot ≡ Some e)
+whole_there : (v : ℕ) (f : Face) (slot : ℕ) (p : List ℕ) (o : Option Whole) → whole_of p ≡ o → is_some o ≡ true → prepare_reading v f slot ≡ Some p → (e : Whole) × (whole_in v f slot ≡ Some e)
 unfolding whole_in
-whole_there f slot p None w s r = absurd (let bad : false ≡ true = s in cc)
-whole_there f slot p (Some e) w s r = (e, ap (option_and_then whole_of) r ∙ w)
+whole_there v f slot p None w s r = absurd (let bad : false ≡ true = s in cc)
+whole_there v f slot p (Some e) w s r = (e, ap (option_and_then whole_of) r ∙ w)
 
-none_read : (f : Face) (slot : ℕ) (p : List ℕ) → slot < 64 → IsFace f → HasSectors IsEmpty f → entry_read 1 f slot ≡ Some p → ⊥
-none_read f slot p l face has e =
-    let x = both_is (header_reading f slot) (prepare_reading 1 f slot) p e in
-    let w = whole_there f slot p (whole_of p) refl (both_whole (header_reading f slot) (prepare_reading 1 f slot) p e) x.1 in
-    let r = read_whole 1 f slot w.0 face l w.1 in
+none_read : (v : ℕ) (f : Face) (slot : ℕ) (p : List ℕ) → slot < 64 → IsFace f → HasSectors IsEmpty f → entry_read v f slot ≡ Some p → ⊥
+none_read v f slot p l face has e =
+    let x = both_is (header_reading f slot) (prepare_reading v f slot) p e in
+    let w = whole_there v f slot p (whole_of p) refl (both_whole (header_reading f slot) (prepare_reading v f slot) p e) x.1 in
+    let r = read_whole v f slot w.0 face l w.1 in
     let same : p ≡ prepare_bytes w.0 = some_same p (prepare_bytes w.0) (sym x.1 ∙ r.reads) in
     let head : header_reading f slot ≡ Some (sector_of w.0.header) = x.0 ∙ ap Some (ap header_sector same ∙ header_sector_is w.0 r.whole.header) in
     ((has_at IsEmpty f (header_place slot) has (omega (arith, l))).reads (sector_of w.0.header) head).front w.0 r.whole refl
 
-none_stands : (mode : Mode) (f : Face) (slot : ℕ) → slot < 64 → IsFace f → HasSectors IsEmpty f → Stands 1 mode f slot None
-none_stands mode f slot l face has = record { seen = λ p e. absurd (none_read f slot p l face has e); holds = record { prepare = λ p h e r v d. absurd cc }; whole = λ p e. absurd cc }
+none_stands : (v : ℕ) (mode : Mode) (f : Face) (slot : ℕ) → slot < 64 → IsFace f → HasSectors IsEmpty f → Stands v mode f slot None
+none_stands v mode f slot l face has = record { seen = λ p e. absurd (none_read v f slot p l face has e); holds = record { prepare = λ p h e r v d. absurd cc }; whole = λ p e. absurd cc }
 
 -- ---- a file of zeros
 
@@ -288,19 +289,19 @@ fault_again f (fault.Misdirect i k) = refl
 -- attached again, it is the same
 again : (c : Config) (f : Face) → IsUnfinished c f → IsUnfinished c (after f Sync)
 again c _ whole.zeros = whole.zeros
-again c _ (whole.stopped kind file left u s) = whole.stopped kind file left u s
+again c _ (whole.stopped kind file left k u s) = whole.stopped kind file left k u s
 again c _ (whole.decays file x u within) = subst (IsUnfinished c) (fault_again file x) (whole.decays (after file Sync) x (again c file u) within)
 
 same_disk : (c : Config) (d : Disk) (d' : Option Disk) → IsUnfinished c d.face → d' ≡ Some d → LeavesUnfinished c d'
 same_disk c d d' u same = record { disk = d; told = same; unfinished = again c d.face u }
 
 pub makings_leave : MakingsLeaveUnfinished
-makings_leave kind c d d' status.Occupied u h = same_disk c d d' u h.is.1
-makings_leave kind c d d' status.NoMemory u h = same_disk c d d' u h.is.1
+makings_leave kind c d d' status.Occupied u h = same_disk c d d' u h.1.is.1
+makings_leave kind c d d' status.NoMemory u h = same_disk c d d' u h.1.is.1
 makings_leave kind c d d' status.DiskFault u h =
     let cs = making kind c in
-    let ran = h.is.1 in
-    record { disk = (runs cs d).disk; told = ran.0; unfinished = whole.stopped kind d.face (runs cs d).disk.face u (stops_are cs d (sym ran.1)) }
+    let ran = h.1.is.1 in
+    record { disk = (runs cs d).disk; told = ran.0; unfinished = whole.stopped kind d.face (runs cs d).disk.face h.0 u (stops_are cs d (sym ran.1)) }
 makings_leave kind c d d' status.Done u h = absurd h
 makings_leave kind c d d' status.LinkFault u h = absurd h
 makings_leave kind c d d' status.WriteFault u h = absurd h
@@ -314,30 +315,30 @@ makings_leave kind c d d' status.NoAnswer u h = absurd h
 makings_leave kind c d d' status.SpawnFault u h = absurd h
 
 module _ (c : Config) (room : c.cluster < 2 ^ 64) (a : 2 ≤ c.n) (b : c.n ≤ 6) (l : c.replica < c.n) where
-  good : (kind : Kind) → IsGood (first_value kind c.cluster c.n c.replica)
-  good kind = (fresh_fits kind c.cluster c.n c.replica room a b l).value
+  good : (kind : Kind) → IsKind kind → IsGood (first_value kind c.cluster c.n c.replica)
+  good kind is = (fresh_fits kind c.cluster c.n c.replica is room a b l).value
 
   pub unfinished_plain : (f : Face) → IsUnfinished c f → IsPlain f
   unfinished_plain _ whole.zeros = zeros_plain
-  unfinished_plain _ (whole.stopped kind file left u s) =
+  unfinished_plain _ (whole.stopped kind file left is u s) =
       let p = unfinished_plain file u in
       let cs = making kind c in
       record {
-        face = face_after left Sync (stop_face cs file left s (format_are kind c.cluster c.n c.replica room (good kind)) p.face) tt;
+        face = face_after left Sync (stop_face cs file left s (format_are kind c.cluster c.n c.replica room (good kind is)) p.face) tt;
         rests = refl;
-        empty = has_after_all IsEmpty (Sync ∷ []) left (stop_empty cs file left s (put_format kind c.cluster c.n c.replica room (good kind)) p.empty) (tt, tt);
+        empty = has_after_all IsEmpty (Sync ∷ []) left (stop_empty cs file left s (put_format kind c.cluster c.n c.replica room (good kind is)) p.empty) (tt, tt);
       }
   unfinished_plain _ (whole.decays file x u within) =
       let p = unfinished_plain file u in
       record { face = fault_face file x within p.face; rests = fault_rests file x ∙ p.rests; empty = has_fault IsEmpty turned_empty file x within p.empty }
 
--- ---- it is calm, whatever its mode
+-- ---- it is calm, whatever its kind
 
-unheld_calm : (mode : Mode) (f : Face) → IsPlain f → IsCalm mode (unheld f)
-unheld_calm mode f p = record {
+unheld_calm : (kind : Kind) (f : Face) → IsPlain f → IsCalm kind.mode (unheld kind f)
+unheld_calm kind f p = record {
   face = p.face;
   rests = p.rests;
-  stand = record { each = λ slot l. subst (Stands 1 mode f slot) (sym (at_slot (λ slot. None) slot l)) (none_stands mode f slot l p.face p.empty) };
+  stand = record { each = λ slot l. subst (Stands kind.version kind.mode f slot) (sym (at_slot (λ slot. None) slot l)) (none_stands kind.version kind.mode f slot l p.face p.empty) };
 }
 
 -- ---- four copies
@@ -398,36 +399,36 @@ pub record IsNew (kind : Kind) (c : Config) (file : Lying) : Type 0 where
 abbrev nothing_kept : Option Header
 nothing_kept = None
 
-on_new : (kind : Kind) (c : Config) (file : Lying) → file.version ≡ 1 → IsCalm kind.mode file → opens file.face ≡ Some (first_value kind c.cluster c.n c.replica) → IsOn file (fresh_member kind c.cluster c.n c.replica)
+on_new : (kind : Kind) (c : Config) (file : Lying) → file.version ≡ kind.version → IsCalm kind.mode file → opens file.face ≡ Some (first_value kind c.cluster c.n c.replica) → IsOn file (fresh_member kind c.cluster c.n c.replica)
 on_new kind c file of calm opened_so = record {
   calm = calm;
   held = record { count = length-replicate 64 (nothing_kept); each = λ slot h b e. absurd (let bad : None ≡ Some h = sym (get_or-replicate 64 slot nothing_kept None b) ∙ e in cc) };
   value = opened_so;
   file = of;
-  version = refl;
   under = refl;
 }
 
 -- one that opens as its first value
-pub late_new : (kind : Kind) (c : Config) (f : Face) → IsPlain f → opens f ≡ Some (first_value kind c.cluster c.n c.replica) → IsNew kind c (unheld f)
-late_new kind c f p o = record { on = on_new kind c (unheld f) refl (unheld_calm kind.mode f p) o; sealed = has_weaker IsEmpty (IsSealed []) f (λ b x. x.sealed) p.empty }
+pub late_new : (kind : Kind) (c : Config) (f : Face) → IsPlain f → opens f ≡ Some (first_value kind c.cluster c.n c.replica) → IsNew kind c (unheld kind f)
+late_new kind c f p o = record { on = on_new kind c (unheld kind f) refl (unheld_calm kind f p) o; sealed = has_weaker IsEmpty (IsSealed []) f (λ b x. x.sealed) p.empty }
 
 -- one that was made to the end
 pub made_new : (kind : Kind) (c : Config) (f : Face) → c.cluster < 2 ^ 64 → IsGood (first_value kind c.cluster c.n c.replica) → IsPlain f → IsNew kind c (made_on kind c f)
-unfolding format_calls
 made_new kind c f room good p =
     let v = first_value kind c.cluster c.n c.replica in
     let bytes = copy_bytes v in
     let saves = save_from 0 4 bytes in
-    let one = zero_prepares in
-    let two = reserved_headers c.cluster in
+    let one = zero_prepares kind.version in
+    let two = reserved_headers kind.version c.cluster in
     let f1 = after_all f one in
     let f2 = after_all f1 two in
     let f3 = after f2 Sync in
-    let all : after_all f (one ++ (two ++ Sync ∷ saves)) ≡ after_all f3 saves = after_all_append one (two ++ Sync ∷ saves) f ∙ after_all_append two (Sync ∷ saves) f1 in
+    let cs = making kind c in
+    let all : after_all f cs ≡ after_all f3 saves =
+    ap (after_all f) (format_is kind c.cluster c.n c.replica) ∙ (after_all_append one (two ++ Sync ∷ saves) f ∙ after_all_append two (Sync ∷ saves) f1) in
     let count : length f3.cells ≡ sectors = length_after_all two f1 ∙ (length_after_all one f ∙ p.face.count) in
     let reads_as = copies_read 4 0 bytes f3 (length-copy_bytes v good) count (omega arith) (λ c m. absurd (omega arith)) in
-    let calm = calm_after (one ++ (two ++ Sync ∷ saves)) (unheld f) (unheld_calm kind.mode f p) (format_are kind c.cluster c.n c.replica room good) (ap (λ (g : Face). g.waiting) all ∙ saves_rest 3 0 bytes f3) in
+    let calm = calm_after cs (unheld kind f) (unheld_calm kind f p) (format_are kind c.cluster c.n c.replica room good) (ap (λ (g : Face). g.waiting) all ∙ saves_rest 3 0 bytes f3) in
     record {
       on = on_new kind c (made_on kind c f) refl calm (ap opens all ∙ all_open v (after_all f3 saves) good reads_as);
       sealed = has_weaker IsEmpty (IsSealed []) (made_on kind c f).face (λ b x. x.sealed) (has_after_all IsEmpty (making kind c) f p.empty (put_format kind c.cluster c.n c.replica room good));

@@ -9,19 +9,21 @@ use Rattle.vr_msg.specs.declared.output.Output.{Output}
 use Rattle.vr_super.specs.Copies.{SuperValue}
 use Rattle.vr_world.specs.Group as group
 use Rattle.vr_world.specs.Group.{Arrival, Group, Member, Move, Moved, Moves, Played, Run, carried_out, cut_short, finished, fresh_group, once_mended, opening_script, resumed, started, stepped, with_script}
-use Rattle.vr_world.specs.GroupFit.{IsFitMove}
+use Rattle.vr_world.specs.Files.{IsFileAt, IsOfFile}
+use Rattle.vr_world.specs.GroupFit.{IsFitGroup, IsFitMove}
 use Rattle.vr_world.specs.Lying.{Lying, lying}
-use Rattle.vr_world.specs.Opening.{blank, opening}
-use Rattle.vr_node.specs.Replica.{Replica}
+use Rattle.vr_world.specs.Opening.{AreKinds, blank, opening}
+use Rattle.vr_node.specs.Replica.{Replica, version}
 use Rattle.vr_node.specs.Rules.{react}
 use Rattle.vr_world.specs.Safe.{run_outputs}
-use Rattle.vr_node.specs.Sectors.{sectors, sectors_by}
+use Rattle.vr_node.specs.Sectors.{sectors_by}
 use Rattle.vr_world.specs.Steps.{Step, outputs}
+use Rattle.vr_world.proofs.FitGroups.{fresh_group_fits, groups_fit}
 use Rattle.vr_world.proofs.FitLies.{lies_fit}
 use Rattle.law_4_disks.specs.Worlds.{IsOfBytes}
 use Rattle.law_4_disks.proofs.Starts.{opening_is}
 use Rattle.vr_lying.proofs.Rules.{a_react}
-use Rattle.vr_lying.proofs.Versions.{blank_one, opens_one}
+use Rattle.vr_lying.proofs.Versions.{blank_by}
 use Rattle.vr_lying.proofs.Words.{a_opening}
 use Rattle.vr_serve.specs.Runs.{Did}
 use Rattle.vr_node.specs.Does.{Does, LeftBy}
@@ -31,8 +33,9 @@ use Rattle.vr_node.specs.declared.node.Node.{Node}
 use Rattle.law_3_outputs.specs.Followed.{IsFitRun}
 use Rattle.law_6_one_log.proofs.Closing.{runs_safe}
 use Rattle.law_7_members.specs.Deeds as deeds
-use Rattle.law_7_members.specs.Deeds.{AtWork, By, Leads, MayBeFound, Reaches, all_put_out, after_event, after_opening, config_at, lying_on, puts_out}
+use Rattle.law_7_members.specs.Deeds.{AtWork, By, Leads, MayBeFound, Reaches, all_put_out, after_event, after_opening, config_at, opened_on, puts_out, run_on}
 use Rattle.law_7_members.specs.Laws.{IsOneRun}
+use Rattle.law_7_members.proofs.Values.{same_value}
 
 -- ---- one deed
 
@@ -41,19 +44,27 @@ record IsMove (g : Group) (x : By) (moved : Moved) : Type 0 where
   moves : Moves g move moved
   fits : IsFitMove move
   bytes : IsOfBytes move
+  file : IsOfFile g move
   said : moved.outputs ≡ puts_out x.deed
+
+-- a running member's file is of the version of its replica
+runs_file : (cluster : ℕ) (g : Group) (at : ℕ) (m : Member) (r : Replica) (d : Disk) → IsFitGroup cluster g → slice_get g.members at ≡ Some m → m.replica ≡ Some r → IsFileAt g at (run_on r d)
+runs_file cluster g at m r d h there runs q e =
+    let same : m ≡ q = (let two : Some m ≡ Some q = sym there ∙ e in cc) in
+    let k = h.members at m there in
+    let own : version r ≡ m.last.fields.version = (k.running r runs).1.saved.version ∙ sym k.last.1.version in
+    subst (λ (q : Member). version r ≡ q.last.fields.version) same own
 
 -- a step on the sectors of a disk, with what is known of replica and outputs
 one_step : (g : Group) (at : ℕ) (arrival : Arrival) (d : Disk) (did : Did Node) (m : Member) (node : Node) → slice_get g.members at ≡ Some m → m.replica ≡ Some node.replica.memory
     → Reaches g at arrival did.come.event → steps node (Some d) did.come.event did.outputs did.after did.disk
-    → Moves g (group.Steps at arrival did.come.event (lying_on d)) (after_event g at m node.replica.memory d did)
+    → Moves g (group.Steps at arrival did.come.event (run_on node.replica.memory d)) (after_event g at m node.replica.memory d did)
 one_step g at arrival d did m node there runs reaches does =
     let r : Replica = node.replica.memory in
     let e : Event = did.come.event in
-    let y : Lying = lying_on d in
-    let s : Step = react e sectors r d.face in
-    let left : LeftBy 1 s did.after.replica.memory d did.disk [] did.outputs (Ok tt) =
-    subst (λ n. LeftBy n (react e (sectors_by n) r d.face) did.after.replica.memory d did.disk [] did.outputs (Ok tt)) does.0 (does.1.told d refl) in
+    let y : Lying = run_on r d in
+    let s : Step = react e (sectors_by (version r)) r d.face in
+    let left : LeftBy (version r) s did.after.replica.memory d did.disk [] did.outputs (Ok tt) = does.1.told d refl in
     let same : react e lying r y ≡ s = (a_react e).each r y in
     let move : Move = group.Steps at arrival e y in
     let whole : Moves g move (finished g at m (stepped e r y)) = group.steps at arrival e y m r (record { member = there; running = runs }) reaches.comes in
@@ -65,14 +76,15 @@ one_step g at arrival d did m node there runs reaches does =
 -- an opening, with what is known of replica and outputs
 one_opening : (cluster : ℕ) (g : Group) (at : ℕ) (v : SuperValue) (d : Disk) (after : Option Disk) (first : List Output) (r : Replica) (m : Member) → slice_get g.members at ≡ Some m → m.replica ≡ None
     → MayBeFound g m v d → Opens None (config_at cluster g.n at) (Some d) after first r
-    → Moves g (group.Recovers at v (lying_on d)) (after_opening g at m v d first r)
+    → Moves g (group.Recovers at v (opened_on v d)) (after_opening g at m v d first r)
 one_opening cluster g at v d after first r m there stopped may opened =
-    let y : Lying = lying_on d in
-    let is : v ≡ opened.value = (let e : Some v ≡ Some opened.value = sym may.value ∙ opened.opens in cc) in
-    let left : LeftBy 1 (opening v sectors (blank v) d.face) r d after [] first (Ok tt) =
-    subst (λ n. LeftBy n (opening v (sectors_by n) (blank v) d.face) r d after [] first (Ok tt)) (blank_one v (opens_one d.face v may.value))
+    let y : Lying = opened_on v d in
+    let n = v.fields.version in
+    let is : v ≡ opened.value = same_value n d.face v opened.value may.value opened.opens in
+    let left : LeftBy n (opening v (sectors_by n) (blank v) d.face) r d after [] first (Ok tt) =
+    subst (λ n. LeftBy n (opening v (sectors_by n) (blank v) d.face) r d after [] first (Ok tt)) (blank_by n v refl)
     ((subst (λ (w : SuperValue). Does (opening w) (blank w) r (Some d) after [] first (Ok tt)) (sym is) opened.step).told d refl) in
-    let same : opening v sectors (blank v) d.face ≡ record { replica = (resumed v y).replica; script = opening_script v y } = sym ((a_opening v).each (blank v) y) ∙ opening_is v y in
+    let same : opening v (sectors_by n) (blank v) d.face ≡ record { replica = (resumed v y).replica; script = opening_script v y } = sym ((a_opening v).each (blank v) y) ∙ opening_is v y in
     let move : Move = group.Recovers at v y in
     let whole : Moves g move (started g at m v y) = group.recovers at v y m (record { member = there; stopped = stopped; value = may.may; sound = may.sound }) in
     let first_is : first ≡ outputs (opening_script v y) = left.1 ∙ ap (λ (z : Step). outputs z.script) same in
@@ -81,34 +93,38 @@ one_opening cluster g at v d after first r m there stopped may opened =
     subst (λ (os : List Output). Moves g move (with_script g at (record (carried_out (resumed v y).script (once_mended v y m)) { replica = Some (resumed v y).replica }) (opening_script v y) os)) (sym first_is) whole in
     subst (λ (q : Replica). Moves g move (with_script g at (record (carried_out (resumed v y).script (once_mended v y m)) { replica = Some q }) (opening_script v y) first)) (sym replica_is) said
 
-one_move : (cluster : ℕ) (g : Group) (x : By) (moved : Moved) → Leads cluster g x moved → IsMove g x moved
-one_move cluster g _ _ (deeds.handled at arrival d did m node there runs reaches face does) = record {
-  move = group.Steps at arrival did.come.event (lying_on d);
+one_move : (cluster : ℕ) (g : Group) (x : By) (moved : Moved) → IsFitGroup cluster g → Leads cluster g x moved → IsMove g x moved
+one_move cluster g _ _ h (deeds.handled at arrival d did m node there runs reaches face does) = record {
+  move = group.Steps at arrival did.come.event (run_on node.replica.memory d);
   moves = one_step g at arrival d did m node there runs reaches does;
-  fits = (reaches.fits, lies_fit.reads (lying_on d) face);
+  fits = (reaches.fits, lies_fit.reads (run_on node.replica.memory d) face);
   bytes = face;
+  file = runs_file cluster g at m node.replica.memory d h there runs;
   said = refl;
 }
-one_move cluster g _ _ (deeds.broke at arrival event d effects m r there runs reaches face) = record {
-  move = group.Cuts at arrival event (lying_on d) effects;
-  moves = subst (λ (z : Step). Moves g (group.Cuts at arrival event (lying_on d) effects) (cut_short g at m z effects)) ((a_react event).each r (lying_on d)) (group.cuts at arrival event (lying_on d) effects m r (record { member = there; running = runs }) reaches.comes);
-  fits = (reaches.fits, lies_fit.reads (lying_on d) face);
+one_move cluster g _ _ h (deeds.broke at arrival event d effects m r there runs reaches face) = record {
+  move = group.Cuts at arrival event (run_on r d) effects;
+  moves = subst (λ (z : Step). Moves g (group.Cuts at arrival event (run_on r d) effects) (cut_short g at m z effects)) ((a_react event).each r (run_on r d)) (group.cuts at arrival event (run_on r d) effects m r (record { member = there; running = runs }) reaches.comes);
+  fits = (reaches.fits, lies_fit.reads (run_on r d) face);
   bytes = face;
+  file = runs_file cluster g at m r d h there runs;
   said = refl;
 }
-one_move cluster g _ _ (deeds.ended at m there) = record { move = group.Crashes at; moves = group.crashes at m there; fits = tt; bytes = tt; said = refl }
-one_move cluster g _ _ (deeds.found at v d after first r m there stopped may opened) = record {
-  move = group.Recovers at v (lying_on d);
+one_move cluster g _ _ h (deeds.ended at m there) = record { move = group.Crashes at; moves = group.crashes at m there; fits = tt; bytes = tt; file = tt; said = refl }
+one_move cluster g _ _ h (deeds.found at v d after first r m there stopped may opened) = record {
+  move = group.Recovers at v (opened_on v d);
   moves = one_opening cluster g at v d after first r m there stopped may opened;
-  fits = lies_fit.reads (lying_on d) may.face;
+  fits = lies_fit.reads (opened_on v d) may.face;
   bytes = may.face;
+  file = refl;
   said = refl;
 }
-one_move cluster g _ _ (deeds.half_found at v d effects m there stopped may) = record {
-  move = group.RecoversCut at v (lying_on d) effects;
-  moves = group.recovers_cut at v (lying_on d) effects m (record { member = there; stopped = stopped; value = may.may; sound = may.sound });
-  fits = lies_fit.reads (lying_on d) may.face;
+one_move cluster g _ _ h (deeds.half_found at v d effects m there stopped may) = record {
+  move = group.RecoversCut at v (opened_on v d) effects;
+  moves = group.recovers_cut at v (opened_on v d) effects m (record { member = there; stopped = stopped; value = may.may; sound = may.sound });
+  fits = lies_fit.reads (opened_on v d) may.face;
   bytes = may.face;
+  file = refl;
   said = refl;
 }
 
@@ -119,26 +135,35 @@ record IsRun (g : Group) (xs : List By) : Type 0 where
   is : Run g run
   fits : All (λ (p : Played). IsFitMove p.move) run
   bytes : All (λ (p : Played). IsOfBytes p.move) run
+  files : All (λ (p : Played). IsOfFile p.before p.move) run
   said : run_outputs run ≡ all_put_out xs
 
-runs : (cluster : ℕ) (g : Group) (xs : List By) → AtWork cluster g xs → IsRun g xs
+runs : (cluster : ℕ) (g : Group) (xs : List By) → IsFitGroup cluster g → AtWork cluster g xs → IsRun g xs
 unfolding run_outputs all_put_out
-runs cluster g [] w = record { run = []; is = group.ended g; fits = All-nil (λ (p : Played). IsFitMove p.move); bytes = All-nil (λ (p : Played). IsOfBytes p.move); said = refl }
-runs cluster g (x ∷ xs) w =
+runs cluster g [] h w = record {
+  run = [];
+  is = group.ended g;
+  fits = All-nil (λ (p : Played). IsFitMove p.move);
+  bytes = All-nil (λ (p : Played). IsOfBytes p.move);
+  files = All-nil (λ (p : Played). IsOfFile p.before p.move);
+  said = refl;
+}
+runs cluster g (x ∷ xs) h w =
     let moved : Moved = w.0 in
-    let one = one_move cluster g x moved w.1 in
-    let rest = runs cluster moved.group xs w.2 in
+    let one = one_move cluster g x moved h w.1 in
+    let rest = runs cluster moved.group xs (groups_fit.each cluster g one.move moved h one.fits one.moves) w.2 in
     let p : Played = record { before = g; move = one.move; moved = moved } in
     record {
       run = p ∷ rest.run;
       is = group.goes g one.move moved rest.run one.moves rest.is;
       fits = All-cons (λ (p : Played). IsFitMove p.move) p rest.run one.fits rest.fits;
       bytes = All-cons (λ (p : Played). IsOfBytes p.move) p rest.run one.bytes rest.bytes;
+      files = All-cons (λ (p : Played). IsOfFile p.before p.move) p rest.run one.file rest.files;
       said = ap (λ (os : List Output). os ++ run_outputs rest.run) one.said ∙ ap (λ (os : List Output). puts_out x.deed ++ os) rest.said;
     }
 
-pub one_run : (kinds : ℕ → Kind) (cluster n : ℕ) (xs : List By) → cluster < 2 ^ 64 → 2 ≤ n → n ≤ 6 → AtWork cluster (fresh_group kinds cluster n) xs → IsOneRun cluster n xs
-one_run kinds cluster n xs number few many w =
-    let r = runs cluster (fresh_group kinds cluster n) xs w in
-    let fit : IsFitRun cluster n r.run = record { number = number; few = few; many = many; moves = r.fits; kinds = kinds; of_run = r.is } in
+pub one_run : (kinds : ℕ → Kind) (cluster n : ℕ) (xs : List By) → AreKinds kinds n → cluster < 2 ^ 64 → 2 ≤ n → n ≤ 6 → AtWork cluster (fresh_group kinds cluster n) xs → IsOneRun cluster n xs
+one_run kinds cluster n xs are number few many w =
+    let r = runs cluster (fresh_group kinds cluster n) xs (fresh_group_fits kinds cluster n are number few many) w in
+    let fit : IsFitRun cluster n r.run = record { number = number; few = few; many = many; moves = r.fits; files = r.files; kinds = kinds; are_kinds = are; of_run = r.is } in
     record { run = r.run; fit = fit; bytes = r.bytes; said = r.said; safe = runs_safe cluster n r.run fit }

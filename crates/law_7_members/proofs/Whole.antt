@@ -1,7 +1,7 @@
 -- Whole runs of the programs of a group's members, interleaved, are members of one group at work.
 use Rattle.vr_base.specs.declared.kind.Kind.{Kind}
 use Rattle.std.proofs.Common.{ℕ, zero, suc, ◌<◌, ◌≡◌, ◌≢◌, arith, inl, inr, refl, sym, ap, ◌∙◌, subst, Bool, true, cond, List, [], ◌∷◌, ◌++◌, length, length-set, map, set, Option, Some, None}
-use Rattle.std.specs.Prelude.{slice_get, IfSome, Ok, ⊤}
+use Rattle.std.specs.Prelude.{slice_get, Ok, ⊤}
 use Rattle.std.specs.List.{AllByRecursion, range_with_len}
 use Rattle.std.proofs.lemmas.Bool.{cases_eq, eq-eqb, ne_eqb}
 use Rattle.std.proofs.lemmas.List.FromFn.{get_or-map-range_with_len, length-map-range_with_len}
@@ -16,10 +16,10 @@ use Rattle.vr_msg.specs.declared.output.Output.{Output}
 use Rattle.vr_super.specs.Copies.{SuperValue}
 use Rattle.vr_world.specs.Group.{Arrival, opening_script, resumed}
 use Rattle.vr_world.specs.Lying.{Lying, lying, zero_face}
-use Rattle.vr_world.specs.Opening.{blank, fresh, opening}
+use Rattle.vr_world.specs.Opening.{blank, first_value, fresh, opening}
 use Rattle.vr_node.specs.Replica.{Replica, version}
 use Rattle.vr_node.specs.Rules.{react}
-use Rattle.vr_node.specs.Sectors.{calls_by, script_calls, sectors, sectors_by}
+use Rattle.vr_node.specs.Sectors.{calls_by, script_calls, sectors_by}
 use Rattle.vr_world.specs.Steps.{Effect, Step, after_all}
 use Rattle.vr_world.specs.World as world
 use Rattle.vr_world.specs.World.{Happened, Host, World, nothing}
@@ -28,7 +28,7 @@ use Rattle.law_4_disks.specs.Worlds.{first_host, first_world}
 use Rattle.law_4_disks.proofs.Fresh.{some_world}
 use Rattle.law_4_disks.proofs.Lines.{other_place, own_place, some_member}
 use Rattle.law_4_disks.proofs.Starts.{opening_is}
-use Rattle.vr_lying.proofs.Versions.{blank_one, opens_one}
+use Rattle.vr_lying.proofs.Versions.{blank_by, opens_by}
 use Rattle.vr_lying.proofs.Words.{a_opening}
 use Rattle.vr_serve.specs.Runs.{Did, IsRun}
 use Rattle.vr_node.specs.Does.{Does, LeftBy}
@@ -41,7 +41,8 @@ use Rattle.law_7_members.specs.Files as files
 use Rattle.law_7_members.specs.Files.{Act, ActBy, AtWork, Becomes, Befalls, file_after, left_at, on_file, puts_out}
 use Rattle.law_7_members.specs.Runs.{HasDeeds}
 use Rattle.law_7_members.specs.Whole as whole
-use Rattle.law_7_members.proofs.Files.{same_file}
+use Rattle.law_7_members.proofs.Files.{RunsOn, none_runs, opened_runs, runs_on, some_runs}
+use Rattle.law_7_members.proofs.Values.{same_value}
 use Rattle.law_7_members.proofs.Begun.{begin_new, begun_keep_one_log}
 use Rattle.law_7_members.specs.Whole.{AreAtWork, AreRuns, Begins, Carries, Lives, RunsAreAtWork, RunsKeepOneLog, all_said, file_of, handled, made_on, making, own, unheld, world_of}
 
@@ -71,24 +72,28 @@ script_tells s file d o cs same tells r =
     let t = ran_tells cs d o file.face tells r in
     (t.0, t.1, t.2 ∙ (ap (λ (cs : List Call). disk.after_all file.face cs) same ∙ sym (face_all s.script file)))
 
-step_tells : (file : Lying) (r q : Replica) (e : Event) (d : Disk) (after : Option Disk) (os : List Output) → file.version ≡ 1 → d.face ≡ file.face → version r ≡ 1 → Does (react e) r q (Some d) after [] os (Ok tt) → TellsFace after (file_after file r e).face
-step_tells file r q e d after os of tells one does =
-    let left : LeftBy 1 (react e sectors r d.face) q d after [] os (Ok tt) = subst (λ n. LeftBy n (react e (sectors_by n) r d.face) q d after [] os (Ok tt)) one (does.told d refl) in
-    let here = ap (λ (f : Face). script_calls 1 (react e sectors r f).script f) tells in
-    let same = here ∙ ap (λ n. script_calls n (react e (sectors_by n) r file.face).script file.face) (sym of) in
-    script_tells (react e (sectors_by file.version) r file.face) file d after (script_calls 1 (react e sectors r d.face).script d.face) same tells left.2
+step_tells : (file : Lying) (r q : Replica) (e : Event) (d : Disk) (after : Option Disk) (os : List Output) → d.face ≡ file.face → version r ≡ file.version → Does (react e) r q (Some d) after [] os (Ok tt) → TellsFace after (file_after file r e).face
+step_tells file r q e d after os tells own does =
+    let n = file.version in
+    let left : LeftBy n (react e (sectors_by n) r d.face) q d after [] os (Ok tt) = subst (λ n. LeftBy n (react e (sectors_by n) r d.face) q d after [] os (Ok tt)) own (does.told d refl) in
+    let same = ap (λ (f : Face). script_calls n (react e (sectors_by n) r f).script f) tells in
+    script_tells (react e (sectors_by n) r file.face) file d after (script_calls n (react e (sectors_by n) r d.face).script d.face) same tells left.2
 
 -- ---- the events of a run
 
-handled_goes : (c : Config) (arrivals : List Arrival) (dids : List (Did Node)) (node last : Node) (o left : Option Disk) (file : Lying) (acts : List Act) → file.version ≡ 1 → TellsFace o file.face → length arrivals ≡ length dids → IsRun steps node o dids last left
+-- it goes on running on a file of its version
+did_own : (file : Lying) (r q : Replica) (e : Event) → version r ≡ file.version → version q ≡ version r → version q ≡ (file_after file r e).version
+did_own file r q e own same = same ∙ own ∙ sym (same_version (react e (sectors_by file.version) r file.face).script file)
+
+handled_goes : (c : Config) (arrivals : List Arrival) (dids : List (Did Node)) (node last : Node) (o left : Option Disk) (file : Lying) (acts : List Act) → version node.replica.memory ≡ file.version → TellsFace o file.face → length arrivals ≡ length dids → IsRun steps node o dids last left
     → Goes c (Some last.replica.memory) (file_of file node.replica.memory dids) acts → Goes c (Some node.replica.memory) file (handled arrivals dids ++ acts)
-handled_goes c [] [] node last o left file acts of tells size run more = subst (λ (n : Node). Goes c (Some n.replica.memory) file acts) run.0 more
-handled_goes c (a ∷ arrivals) [] node last o left file acts of tells size run more = absurd (let bad : suc (length arrivals) ≡ zero = size in cc)
-handled_goes c [] (x ∷ dids) node last o left file acts of tells size run more = absurd (let bad : zero ≡ suc (length dids) = size in cc)
-handled_goes c (a ∷ arrivals) (x ∷ dids) node last o left file acts of tells size run more =
+handled_goes c [] [] node last o left file acts own tells size run more = subst (λ (n : Node). Goes c (Some n.replica.memory) file acts) run.0 more
+handled_goes c (a ∷ arrivals) [] node last o left file acts own tells size run more = absurd (let bad : suc (length arrivals) ≡ zero = size in cc)
+handled_goes c [] (x ∷ dids) node last o left file acts own tells size run more = absurd (let bad : zero ≡ suc (length dids) = size in cc)
+handled_goes c (a ∷ arrivals) (x ∷ dids) node last o left file acts own tells size run more =
     let does : steps node (Some tells.0) x.come.event x.outputs x.after x.disk = subst (λ (o : Option Disk). steps node o x.come.event x.outputs x.after x.disk) tells.1 run.0 in
-    let next = step_tells file node.replica.memory x.after.replica.memory x.come.event tells.0 x.disk x.outputs of tells.2 does.0 does.1 in
-    let kept = same_version (react x.come.event (sectors_by file.version) node.replica.memory file.face).script file ∙ of in
+    let next = step_tells file node.replica.memory x.after.replica.memory x.come.event tells.0 x.disk x.outputs tells.2 own does.1 in
+    let kept = did_own file node.replica.memory x.after.replica.memory x.come.event own (does.1.same refl) in
     let less : length arrivals ≡ length dids = omega (arith, size) in (
       Some x.after.replica.memory,
       file_after file node.replica.memory x.come.event,
@@ -96,39 +101,43 @@ handled_goes c (a ∷ arrivals) (x ∷ dids) node last o left file acts of tells
       handled_goes c arrivals dids x.after last x.disk left (file_after file node.replica.memory x.come.event) acts kept next less run.1 more,
     )
 
--- what an opening leaves
-opened_tells : (c : Config) (file : Lying) (d : Disk) (v : SuperValue) (o o' : Outside) (run : HasDeeds None c o o') → file.version ≡ 1 → o.disk ≡ Some d → d.face ≡ file.face → sectors.opens d.face ≡ Some v → TellsFace run.disk (after_all lying file (opening_script v file)).face
-opened_tells c file d v o o' run of told tells is_open =
-    let on = subst (λ (x : Option Disk). (value : SuperValue) × IfSome x (λ (d : Disk). sectors.opens d.face ≡ Some value) × Does (opening value) (blank value) run.node.replica.memory x run.disk [] run.first (Ok tt)) told (run.opens.value, run.opens.opens, run.opens.step) in
-    let is : on.0 ≡ v = (let e : Some on.0 ≡ Some v = sym on.1 ∙ is_open in cc) in
-    let q = run.node.replica.memory in
-    let left : LeftBy 1 (opening v sectors (blank v) d.face) q d run.disk [] run.first (Ok tt) =
-    subst (λ n. LeftBy n (opening v (sectors_by n) (blank v) d.face) q d run.disk [] run.first (Ok tt)) (blank_one v (opens_one d.face v is_open))
-    ((subst (λ (u : SuperValue). Does (opening u) (blank u) q (Some d) run.disk [] run.first (Ok tt)) is on.2).told d refl) in
-    let s : Step = record { replica = (resumed v file).replica; script = opening_script v file } in
-    let same : opening v sectors (blank v) d.face ≡ s = ap (opening v sectors (blank v)) tells ∙ (ap (λ n. opening v (sectors_by n) (blank v) file.face) (sym of) ∙ (sym ((a_opening v).each (blank v) file) ∙ opening_is v file)) in
-    let all = ap (λ (x : Step). script_calls 1 x.script d.face) same ∙ (ap (λ (f : Face). script_calls 1 s.script f) tells ∙ ap (λ n. script_calls n s.script file.face) (sym of)) in
-    script_tells s file d run.disk (script_calls 1 (opening v sectors (blank v) d.face).script d.face) all tells left.2
-
 opened_as : (c : Config) (d : Disk) (o o' : Outside) (run : HasDeeds None c o o') → o.disk ≡ Some d → Opens None c (Some d) run.disk run.first run.node.replica.memory
 opened_as c d o o' run told = subst (λ (x : Option Disk). Opens None c x run.disk run.first run.node.replica.memory) told run.opens
 
-files_kept : (file : Lying) (r : Replica) (dids : List (Did Node)) → file.version ≡ 1 → (file_of file r dids).version ≡ 1
-files_kept file r [] of = of
-files_kept file r (x ∷ dids) of =
-    files_kept (file_after file r x.come.event) x.after.replica.memory dids (same_version (react x.come.event (sectors_by file.version) r file.face).script file ∙ of)
+-- what an opening leaves
+opened_tells : (c : Config) (file : Lying) (d : Disk) (v : SuperValue) (o o' : Outside) (run : HasDeeds None c o o') → o.disk ≡ Some d → d.face ≡ file.face → (sectors_by file.version).opens d.face ≡ Some v → TellsFace run.disk (after_all lying file (opening_script v file)).face
+opened_tells c file d v o o' run told tells is_open =
+    let n = file.version in
+    let on = opened_as c d o o' run told in
+    let is = same_value n d.face v on.value is_open on.opens in
+    let q = run.node.replica.memory in
+    let left : LeftBy n (opening v (sectors_by n) (blank v) d.face) q d run.disk [] run.first (Ok tt) =
+    subst (λ n. LeftBy n (opening v (sectors_by n) (blank v) d.face) q d run.disk [] run.first (Ok tt)) (blank_by n v (opens_by n d.face v is_open))
+    ((subst (λ (u : SuperValue). Does (opening u) (blank u) q (Some d) run.disk [] run.first (Ok tt)) (sym is) on.step).told d refl) in
+    let s : Step = record { replica = (resumed v file).replica; script = opening_script v file } in
+    let same : opening v (sectors_by n) (blank v) d.face ≡ s = ap (opening v (sectors_by n) (blank v)) tells ∙ (sym ((a_opening v).each (blank v) file) ∙ opening_is v file) in
+    let all = ap (λ (x : Step). script_calls n x.script d.face) same ∙ ap (λ (f : Face). script_calls n s.script f) tells in
+    script_tells s file d run.disk (script_calls n (opening v (sectors_by n) (blank v) d.face).script d.face) all tells left.2
 
-lives_go : (c : Config) (o : Option Replica) (file : Lying) (acts : List Act) → file.version ≡ 1 → Lives c o file acts → Goes c o file acts
-lives_go c _ _ _ of (whole.rests o file) = tt
-lives_go c _ _ _ of (whole.goes o next file left act acts becomes more) = (next, left, becomes, lives_go c next left acts (same_file c act o file next left becomes ∙ of) more)
-lives_go c _ _ _ of (whole.runs file d v o o' run arrivals acts told tells is_open size more) =
+-- a run keeps the version of its replica, and of its file
+run_own : (dids : List (Did Node)) (node last : Node) (o left : Option Disk) (file : Lying) → version node.replica.memory ≡ file.version → IsRun steps node o dids last left → version last.replica.memory ≡ (file_of file node.replica.memory dids).version
+run_own [] node last o left file own run = subst (λ (n : Node). version n.replica.memory ≡ file.version) (sym run.0) own
+run_own (x ∷ dids) node last o left file own run =
+    run_own dids x.after last x.disk left (file_after file node.replica.memory x.come.event) (did_own file node.replica.memory x.after.replica.memory x.come.event own (run.0.1.same refl)) run.1
+
+lives_go : (c : Config) (o : Option Replica) (file : Lying) (acts : List Act) → RunsOn o file → Lives c o file acts → Goes c o file acts
+lives_go c _ _ _ own (whole.rests o file) = tt
+lives_go c _ _ _ own (whole.goes o next file left act acts becomes more) = (next, left, becomes, lives_go c next left acts (runs_on c act o file next left own becomes) more)
+lives_go c _ _ _ own (whole.runs file d v o o' run arrivals acts told tells is_open size more) =
     let left = after_all lying file (opening_script v file) in
-    let kept = same_version (opening_script v file) file ∙ of in
-    let after = opened_tells c file d v o o' run of told tells (subst (λ n. (sectors_by n).opens d.face ≡ Some v) of is_open) in (
+    let first = opened_runs c file d v run.disk run.first run.node.replica.memory is_open (opened_as c d o o' run told) ∙ sym (same_version (opening_script v file) file) in
+    let last = run_own run.dids run.node run.last run.disk run.left left first run.run in
+    let after = opened_tells c file d v o o' run told tells is_open in (
       Some run.node.replica.memory,
       left,
       files.finds file d v run.disk run.first run.node.replica.memory tells is_open (opened_as c d o o' run told),
-      handled_goes c arrivals run.dids run.node run.last run.disk run.left left acts kept after size run.run (lives_go c (Some run.last.replica.memory) (file_of left run.node.replica.memory run.dids) acts (files_kept left run.node.replica.memory run.dids kept) more),
+      handled_goes c arrivals run.dids run.node run.last run.disk run.left left acts first after size run.run
+          (lives_go c (Some run.last.replica.memory) (file_of left run.node.replica.memory run.dids) acts (some_runs run.last.replica.memory (file_of left run.node.replica.memory run.dids) last) more),
     )
 
 -- how a member first is, and its acts from there on
@@ -142,13 +151,16 @@ begun : (kind : Kind) (c : Config) (m : Host Lying) (acts : List Act) → Begins
 begun kind c _ _ (whole.makes d o o' run arrivals acts told unfinished size lives) =
     let file = made_on kind c d.face in
     let made = subst (λ (x : Option Disk). Opens (Some kind) c x run.disk run.first run.node.replica.memory) told run.opens in
-    let is = made.0.is in
+    let is = made.0.1.is in
     let tells = ran_tells (making kind c) d run.disk d.face refl is.2 in
-    let all = handled_goes c arrivals run.dids run.node run.last run.disk run.left file acts refl tells size run.run (lives_go c (Some run.last.replica.memory) (file_of file run.node.replica.memory run.dids) acts (files_kept file run.node.replica.memory run.dids refl) lives) in
+    let first : version run.node.replica.memory ≡ file.version = ap (λ (r : Replica). version r) is.1 ∙ blank_by kind.version (first_value kind c.cluster c.n c.replica) refl in
+    let last = run_own run.dids run.node run.last run.disk run.left file first run.run in
+    let all = handled_goes c arrivals run.dids run.node run.last run.disk run.left file acts first tells size run.run
+    (lives_go c (Some run.last.replica.memory) (file_of file run.node.replica.memory run.dids) acts (some_runs run.last.replica.memory (file_of file run.node.replica.memory run.dids) last) lives) in
     record { replica = Some (fresh kind c.cluster c.n c.replica); file = file; is = refl; goes = subst (λ (r : Replica). Goes c (Some r) file (handled arrivals run.dids ++ acts)) is.1 all }
 begun kind c _ _ (whole.stops_late f acts unfinished opened lives) =
     let r = Some (fresh kind c.cluster c.n c.replica) in
-    record { replica = r; file = unheld f; is = refl; goes = (None, unheld f, files.ends (unheld f) r, lives_go c None (unheld f) acts refl lives) }
+    record { replica = r; file = unheld kind f; is = refl; goes = (None, unheld kind f, files.ends (unheld kind f) r, lives_go c None (unheld kind f) acts (none_runs (unheld kind f)) lives) }
 begun kind c _ _ whole.waits = record { replica = Some (fresh kind c.cluster c.n c.replica); file = made_on kind c zero_face; is = refl; goes = tt }
 
 -- ---- all members
@@ -228,6 +240,6 @@ runs_are_at_work kinds cluster n first xs r =
     record { left = w.left; work = w.work; said = w.said }
 
 pub runs_keep_one_log : RunsKeepOneLog
-runs_keep_one_log kinds cluster n first xs number few many short r never =
+runs_keep_one_log kinds cluster n first xs are number few many short r never =
     let w = runs_are_at_work kinds cluster n first xs r in
-    record { work = w; log = begun_keep_one_log kinds cluster n first xs w.left number few many short (begin_new kinds cluster n first xs number few many r) w.work never }
+    record { work = w; log = begun_keep_one_log kinds cluster n first xs w.left are number few many short (begin_new kinds cluster n first xs are number few many r) w.work never }

@@ -9,9 +9,9 @@ use Rattle.vr_super.specs.Copies.{SuperValue}
 use Rattle.vr_world.specs.Group.{AreSound, Arrival, Group, IsArrival, MayOpen, Member, Moved, carried_out, cut_short, kept_at, once_mended, opening_script, recovered, resumed, start_cut, with_script}
 use Rattle.vr_world.specs.GroupFit.{IsFitArrival}
 use Rattle.vr_world.specs.Lying.{Lying}
-use Rattle.vr_node.specs.Replica.{Replica}
+use Rattle.vr_node.specs.Replica.{Replica, version}
 use Rattle.vr_node.specs.Rules.{react}
-use Rattle.vr_node.specs.Sectors.{sectors}
+use Rattle.vr_node.specs.Sectors.{sectors_by}
 use Rattle.vr_serve.specs.Runs.{Did}
 use Rattle.vr_node.specs.Opening.{Opens}
 use Rattle.vr_node.specs.Steps.{steps}
@@ -58,29 +58,36 @@ pub record Reaches (g : Group) (at : ℕ) (arrival : Arrival) (event : Event) : 
   pub comes : IsArrival g at arrival event
   pub fits : IsFitArrival arrival
 
--- the sectors of a disk, beside which nothing is kept, of a file of version 1
-abbrev pub lying_on : Disk → Lying
-lying_on d = record { face = d.face; held = []; version = 1 }
+-- the sectors of a disk, beside which nothing is kept, of a file of this version
+abbrev pub lying_on : ℕ → Disk → Lying
+lying_on v d = record { face = d.face; held = []; version = v }
+
+-- of a disk that a replica runs on, and of one that opens as a value: the file is of its version
+abbrev pub run_on : Replica → Disk → Lying
+run_on r d = lying_on (version r) d
+
+abbrev pub opened_on : SuperValue → Disk → Lying
+opened_on v d = lying_on v.fields.version d
 
 -- Of a disk on which a member is found again: its program opens it as the value that was last written to its end, or as the one whose write
 -- was cut; and what is found in its slots is sound, so that no entry is denied that was kept there.
 pub record MayBeFound (g : Group) (m : Member) (v : SuperValue) (d : Disk) : Type 0 where
   pub face : IsFace d.face
-  pub value : sectors.opens d.face ≡ Some v
+  pub value : (sectors_by v.fields.version).opens d.face ≡ Some v
   pub may : MayOpen m v
-  pub sound : AreSound v (kept_at m) g.made (recovered v (lying_on d))
+  pub sound : AreSound v (kept_at m) g.made (recovered v (opened_on v d))
 
 -- ---- what a deed leaves
 
--- of the group: the member's new replica, what its disk was to have stored, and what was sent
+-- of the group: the member's new replica, what its disk was to have stored, and what was sent; its file is of the replica's version
 abbrev pub after_event : Group → ℕ → Member → Replica → Disk → Did Node → Moved
 after_event g at m r d did =
-    let script = (react did.come.event sectors r d.face).script in
+    let script = (react did.come.event (sectors_by (version r)) r d.face).script in
     with_script g at (record (carried_out script m) { replica = Some did.after.replica.memory }) script did.outputs
 
 abbrev pub after_opening : Group → ℕ → Member → SuperValue → Disk → List Output → Replica → Moved
 after_opening g at m v d first r =
-    with_script g at (record (carried_out (resumed v (lying_on d)).script (once_mended v (lying_on d) m)) { replica = Some r }) (opening_script v (lying_on d)) first
+    with_script g at (record (carried_out (resumed v (opened_on v d)).script (once_mended v (opened_on v d) m)) { replica = Some r }) (opening_script v (opened_on v d)) first
 
 -- the member of this group at a place
 abbrev pub config_at : ℕ → ℕ → ℕ → Config
@@ -93,7 +100,7 @@ pub data Leads (cluster : ℕ) (g : Group) : By → Moved → Type 0 where
       → Leads cluster g (by at (Handled arrival d did)) (after_event g at m node.replica.memory d did)
   broke : (at : ℕ) (arrival : Arrival) (event : Event) (d : Disk) (effects : ℕ) (m : Member) (r : Replica) → slice_get g.members at ≡ Some m → m.replica ≡ Some r
       → Reaches g at arrival event → IsFace d.face
-      → Leads cluster g (by at (Broke arrival event d effects)) (cut_short g at m (react event sectors r d.face) effects)
+      → Leads cluster g (by at (Broke arrival event d effects)) (cut_short g at m (react event (sectors_by (version r)) r d.face) effects)
   ended : (at : ℕ) (m : Member) → slice_get g.members at ≡ Some m
       → Leads cluster g (by at Ended) (with_script g at (record m { replica = None }) [] [])
   found : (at : ℕ) (v : SuperValue) (d : Disk) (after : Option Disk) (first : List Output) (r : Replica) (m : Member) → slice_get g.members at ≡ Some m → m.replica ≡ None
@@ -101,7 +108,7 @@ pub data Leads (cluster : ℕ) (g : Group) : By → Moved → Type 0 where
       → Leads cluster g (by at (Found v d after first r)) (after_opening g at m v d first r)
   half_found : (at : ℕ) (v : SuperValue) (d : Disk) (effects : ℕ) (m : Member) → slice_get g.members at ≡ Some m → m.replica ≡ None
       → MayBeFound g m v d
-      → Leads cluster g (by at (HalfFound v d effects)) (start_cut g at m v (lying_on d) effects)
+      → Leads cluster g (by at (HalfFound v d effects)) (start_cut g at m v (opened_on v d) effects)
 
 -- one after the other, from a group on
 abbrev pub AtWork : ℕ → Group → List By → Type 0

@@ -13,7 +13,7 @@ use Rattle.vr_msg.specs.declared.output.Sent.{Sent}
 use Rattle.vr_super.specs.Copies.{SuperValue}
 use Rattle.vr_super.specs.Opens.{opens}
 use Rattle.vr_world.specs.Formatting.{format_calls}
-use Rattle.vr_world.specs.Opening.{first_value, fresh}
+use Rattle.vr_world.specs.Opening.{AreKinds, IsKind, first_value, fresh}
 use Rattle.vr_world.specs.Group.{Arrival, opening_script}
 use Rattle.vr_world.specs.Lying.{Lying, after_calls, each_slot, lying, zero_face}
 use Rattle.vr_node.specs.Replica.{Replica}
@@ -66,7 +66,7 @@ making kind c = format_calls kind c.cluster c.n c.replica
 -- cut, and the file was attached again; or one of these began to lie, by any fault.
 pub data IsUnfinished (c : Config) : Face → Type 0 where
   zeros : IsUnfinished c zero_face
-  stopped : (kind : Kind) (file left : Face) → IsUnfinished c file → Stops (making kind c) file left → IsUnfinished c (after left Sync)
+  stopped : (kind : Kind) (file left : Face) → IsKind kind → IsUnfinished c file → Stops (making kind c) file left → IsUnfinished c (after left Sync)
   decays : (file : Face) (fault : Fault) → IsUnfinished c file → IsFault fault → IsUnfinished c (faulted file fault)
 
 -- What a run leaves that was to make the member, and made none: once its file is attached again, it is such a one.
@@ -78,12 +78,12 @@ pub record LeavesUnfinished (c : Config) (d' : Option Disk) : Type 0 where
 abbrev pub MakingsLeaveUnfinished : Type 0
 MakingsLeaveUnfinished = (kind : Kind) (c : Config) (d : Disk) (d' : Option Disk) (status : Status) → IsUnfinished c d.face → OpensNone (Some kind) c (Some d) d' status → LeavesUnfinished c d'
 
--- such a file, of version 1, none of whose slots holds an entry; and what a whole making leaves of it
-abbrev pub unheld : Face → Lying
-unheld f = record { face = f; held = each_slot (λ slot. None); version = 1 }
+-- such a file, which is to be of this kind, none of whose slots holds an entry; and what a whole making leaves of it
+abbrev pub unheld : Kind → Face → Lying
+unheld kind f = record { face = f; held = each_slot (λ slot. None); version = kind.version }
 
 abbrev pub made_on : Kind → Config → Face → Lying
-made_on kind c f = after_calls (unheld f) (making kind c)
+made_on kind c f = after_calls (unheld kind f) (making kind c)
 
 -- a member that was just made, with its file
 abbrev pub new_host : Kind → Config → Lying → Host Lying
@@ -96,7 +96,7 @@ pub data Begins (kind : Kind) (c : Config) : Host Lying → List Act → Type 0 
       → Lives c (Some run.last.replica.memory) (file_of (made_on kind c disk.face) run.node.replica.memory run.dids) acts
       → Begins kind c (new_host kind c (made_on kind c disk.face)) (handled arrivals run.dids ++ acts)
   -- a making stopped so late that its file opens as the first value: it counts as made, and as ended then
-  stops_late : (file : Face) (acts : List Act) → IsUnfinished c file → opens file ≡ Some (first_value kind c.cluster c.n c.replica) → Lives c None (unheld file) acts → Begins kind c (new_host kind c (unheld file)) (Ends ∷ acts)
+  stops_late : (file : Face) (acts : List Act) → IsUnfinished c file → opens file ≡ Some (first_value kind c.cluster c.n c.replica) → Lives c None (unheld kind file) acts → Begins kind c (new_host kind c (unheld kind file)) (Ends ∷ acts)
   -- it isn't made yet, and does nothing
   waits : Begins kind c (new_host kind c (made_on kind c zero_face)) []
 
@@ -150,5 +150,5 @@ pub record KeepOneLog (kinds : ℕ → Kind) (cluster n : ℕ) (first : ℕ → 
 
 abbrev pub RunsKeepOneLog : Type 0
 RunsKeepOneLog =
-    (kinds : ℕ → Kind) (cluster n : ℕ) (first : ℕ → Host Lying) (xs : List ActBy) → cluster < 2 ^ 64 → 2 ≤ n → n ≤ 6 → length xs < 2 ^ 46 → AreRuns kinds cluster n first xs → NoCollision (IsHashedOf cluster (world_of first n) (all_lines xs))
+    (kinds : ℕ → Kind) (cluster n : ℕ) (first : ℕ → Host Lying) (xs : List ActBy) → AreKinds kinds n → cluster < 2 ^ 64 → 2 ≤ n → n ≤ 6 → length xs < 2 ^ 46 → AreRuns kinds cluster n first xs → NoCollision (IsHashedOf cluster (world_of first n) (all_lines xs))
     → KeepOneLog kinds cluster n first xs

@@ -9,16 +9,16 @@ use Rattle.vr_msg.specs.declared.event.Event.TheVariants as event
 use Rattle.vr_msg.specs.declared.frame.Frame.TheVariants as frame
 use Rattle.vr_msg.specs.declared.frame.GivePrepare.{GivePrepare}
 use Rattle.vr_msg.specs.Logs.{has_header, header_of}
-use Rattle.vr_world.specs.Lying.{Lying, lying}
+use Rattle.vr_world.specs.Lying.{lying}
 use Rattle.vr_world.specs.Replica.{Replica, is_absent, is_here, part_at, version}
 use Rattle.vr_world.specs.Rules.{react}
-use Rattle.vr_world.specs.Sectors.{sectors}
+use Rattle.vr_world.specs.Sectors.{sectors_by}
 use Rattle.vr_world.specs.Steps.{Setting, Step, after_all}
 use Rattle.vr_world.proofs.Heads.{head_knows}
 use Rattle.vr_world.proofs.Keeping.{spans_of}
 use Rattle.vr_world.specs.Sound.{IsCaughtUp}
 use Rattle.law_8_repair.specs.Completing.{CopiesComplete, IsCopy, LacksEntries, absent_ops, after_copies}
-use Rattle.law_8_repair.proofs.Disks.{IsLong, Stores, lying_stores, sectors_store}
+use Rattle.law_8_repair.proofs.Disks.{HasRoom, IsLong, Stores, lying_stores, sectors_store}
 use Rattle.law_8_repair.proofs.Taking.{Taken, copy_comes}
 
 known_here : (p : Part) → has_header p ≡ true → is_absent p ≡ false → is_here p ≡ true
@@ -35,7 +35,7 @@ here_absent (Wanted h) k a = absurd cc
 here_absent Unknown k a = absurd cc
 here_absent Nothing k a = absurd cc
 
-module _ {F : Type 0} (s : Setting F) (Fine : F → Type 0) (store : Stores s Fine) (old : Replica) (copy : ℕ → GivePrepare)
+module _ {F : Type 0} (s : Setting F) (Fine : F → Type 0) (store : Stores s Fine) (old : Replica) (taken : version old ≤ store.last) (copy : ℕ → GivePrepare)
     (copies : (k : ℕ) → old.applied < k → k ≤ old.commit → is_absent (part_at old k) ≡ true → IsCopy old k (copy k)) where
   -- the copies of the ops up to lo have come
   record Stands (lo : ℕ) (r : Replica) (f : F) : Type 0 where
@@ -102,7 +102,7 @@ module _ {F : Type 0} (s : Setting F) (Fine : F → Type 0) (store : Stores s Fi
   next_taken lo r f h within absent =
       let above = h.behind (lo + 1) (omega arith) within absent in
       let same : part_at r (lo + 1) ≡ part_at old (lo + 1) = h.todo (lo + 1) (omega arith) above within in
-      copy_comes s Fine store (copy (lo + 1)) (lo + 1) r f h.lacks h.fine (old_copy lo r f h within absent) above (omega (arith, within, h.commit)) (ap is_absent same ∙ absent)
+      copy_comes s Fine store (copy (lo + 1)) (lo + 1) r f (subst (λ v. v ≤ store.last) (sym h.version) taken) h.lacks h.fine (old_copy lo r f h within absent) above (omega (arith, within, h.commit)) (ap is_absent same ∙ absent)
 
   goes_on : (lo : ℕ) (r q : Replica) (f g : F) → Stands lo r f → Taken s Fine store (lo + 1) r q g → Stands (lo + 1) q g
   goes_on lo r q f g h t =
@@ -184,8 +184,10 @@ module _ {F : Type 0} (s : Setting F) (Fine : F → Type 0) (store : Stores s Fi
       let order = lacks.sound.order.commit in
       complete (old.commit - old.applied) old.applied old f (omega (arith, order)) (begins f lacks fine) (λ l. up.next lacks.loaded l)
 
-pub sectors_complete : CopiesComplete sectors (λ f. f)
-sectors_complete r f copy face lacks up copies = completed sectors IsLong sectors_store r copy copies f lacks face.count up
+pub sectors_complete : (v : ℕ) → CopiesComplete (sectors_by v) (λ f. f) (λ f. v)
+unfolding sectors_store
+sectors_complete v r f copy face taken lacks up copies = completed (sectors_by v) IsLong (sectors_store v) r taken copy copies f lacks face.count up
 
-pub lying_complete : CopiesComplete lying (λ d. d.face)
-lying_complete r d copy face lacks up copies = completed lying (λ (x : Lying). IsLong x.face) lying_stores r copy copies d lacks face.count up
+pub lying_complete : CopiesComplete lying (λ d. d.face) (λ d. d.version)
+unfolding lying_stores
+lying_complete r d copy face taken lacks up copies = completed lying (HasRoom (version r)) (lying_stores (version r)) r (omega arith) copy copies d lacks (face.count, taken) up

@@ -17,10 +17,10 @@ use Rattle.vr_msg.specs.declared.event.Event.{Event}
 use Rattle.vr_super.specs.Laws.{AllRead}
 use Rattle.vr_world.specs.Fit.{IsProgram}
 use Rattle.vr_world.specs.Laws.{HasNames, IsEvent, SavesRoots, SavesWell}
-use Rattle.vr_world.specs.Lying.{Lying, lying}
+use Rattle.vr_world.specs.Lying.{lying}
 use Rattle.vr_world.specs.Replica.{Replica, is_absent, part_at, version}
 use Rattle.vr_world.specs.Rules as rules
-use Rattle.vr_world.specs.Sectors.{sectors}
+use Rattle.vr_world.specs.Sectors.{sectors_by}
 use Rattle.vr_world.specs.Sound.{IsSavable, IsSound}
 use Rattle.vr_world.specs.Steps.{Setting, after_all}
 use Rattle.vr_world.specs.Words as words
@@ -32,7 +32,7 @@ use Rattle.vr_world.proofs.SavesSteps.{steps_save_well}
 use Rattle.law_8_repair.specs.Cover.{IsLaidOut, KnowsFaults, LaysOut, VisitsCover, visits_made}
 use Rattle.law_8_repair.specs.Visits.{AreRead, after_events, visited}
 use Rattle.law_8_repair.proofs.Counting.{Sees, all_known, goes_walks}
-use Rattle.law_8_repair.proofs.Disks.{IsLong}
+use Rattle.law_8_repair.proofs.Disks.{HasRoom, IsLong, lying_stores, sectors_store}
 use Rattle.law_8_repair.proofs.Dry.{fine_after}
 use Rattle.law_8_repair.proofs.Finding.{both, lying_sturdy, sectors_sturdy, step_reads, step_version}
 use Rattle.law_8_repair.proofs.Holding.{Holds, lying_holds, sectors_hold}
@@ -52,7 +52,7 @@ module _ {F : Type 0} (s : Setting F) (Fine : F → Type 0) (sturdy : Sturdy s F
   -- ---- slots
 
   abbrev Ok : Replica → F → Type 0
-  Ok r f = (version r ≡ 1) × IsSound r × Fine f
+  Ok r f = (version r ≤ sturdy.stores.last) × IsSound r × Fine f
 
   abbrev SlotKnown : ℕ → Replica → F → Type 0
   SlotKnown p r f = p < 64 → AreRead s (λ slot. slot == p) r f
@@ -66,7 +66,7 @@ module _ {F : Type 0} (s : Setting F) (Fine : F → Type 0) (sturdy : Sturdy s F
   slots_seen : Sees s Ok SlotKnown
   slots_seen = record {
     sound = λ r f ok. ok.1;
-    stays = λ e r f m ok same. (step_version s e r f ∙ ok.0, steps_stay_sound s f r e names ok.1 m, fine_after s Fine sturdy.stores (rules.react e s r f).script f ok.2);
+    stays = λ e r f m ok same. (subst (λ v. v ≤ sturdy.stores.last) (sym (step_version s e r f)) ok.0, steps_stay_sound s f r e names ok.1 m, fine_after s Fine sturdy.stores (rules.react e s r f).script f ok.2);
     keeps = λ p e r f m ok loaded same within known l.
         let x = rules.react e s r f in
         let read = step_reads s Fine sturdy program names (λ slot. slot == p) e r f ok.0 ok.1 ok.2 m (known l) in
@@ -176,11 +176,11 @@ module _ {F : Type 0} (s : Setting F) (Fine : F → Type 0) (face : F → Face) 
 -- ---- all places
 
 module _ {F : Type 0} (s : Setting F) (Fine : F → Type 0) (face : F → Face) (sturdy : Sturdy s Fine) (holds : Holds s Fine (λ f v. AllRead (face f) v)) (program : IsProgram s) (names : HasNames s) (roots : SavesRoots s) (apart : LoadsApart s) where
-  covered : (es : List Event) (r : Replica) (f : F) → version r ≡ 1 → IsSound r → IsSavable r → IsLaidOut r → Fine f → All IsEvent es
+  covered : (es : List Event) (r : Replica) (f : F) → version r ≤ sturdy.stores.last → IsSound r → IsSavable r → IsLaidOut r → Fine f → All IsEvent es
       → let end = after_events s es r f in end.replica.checkpoint ≡ r.checkpoint → words.places end.replica ≤ visits_made s es r f → KnowsFaults s face end.replica end.disk
-  covered es r f one sound savable laid fine m same enough =
+  covered es r f taken sound savable laid fine m same enough =
       let end = after_events s es r f in
-      let slots = all_known s (Ok s Fine sturdy program names) (SlotKnown s Fine sturdy program names) (slots_seen s Fine sturdy program names) names es r f m (one, sound, fine) same enough in
+      let slots = all_known s (Ok s Fine sturdy program names) (SlotKnown s Fine sturdy program names) (slots_seen s Fine sturdy program names) names es r f m (taken, sound, fine) same enough in
       let copies = all_known s _ _ (copies_seen s Fine face sturdy holds names roots) names es r f m (record { sound = sound; fine = fine; savable = savable }) same enough in
       let blocks = all_known s _ _ (blocks_seen s Fine face sturdy holds names apart) names es r f m (record { sound = sound; fine = fine; laid = laid }) same enough in
       record {
@@ -191,6 +191,7 @@ module _ {F : Type 0} (s : Setting F) (Fine : F → Type 0) (face : F → Face) 
         blocks = λ name c. block_known s Fine face sturdy holds names apart end.replica end.disk name blocks.ok.laid blocks.loaded blocks.each c;
       }
 
+module _ {F : Type 0} (s : Setting F) (apart : LoadsApart s) where
   lays_out : LaysOut s
   lays_out = record {
     steps = λ e r f sound m laid same.
@@ -200,19 +201,19 @@ module _ {F : Type 0} (s : Setting F) (Fine : F → Type 0) (face : F → Face) 
 
 -- ---- the disks of the program
 
-pub sectors_cover : VisitsCover sectors (λ f. f)
-sectors_cover es r f face one sound savable laid m same enough =
-    covered sectors IsLong (λ f. f) sectors_sturdy sectors_hold disks_fit.program sectors_fit.0 sectors_fit.1 sectors_apart es r f one sound savable laid face.count m same enough
+pub sectors_cover : (v : ℕ) → VisitsCover (sectors_by v) (λ f. f) (λ f. v)
+unfolding sectors_sturdy sectors_store
+sectors_cover v es r f face taken sound savable laid m same enough =
+    covered (sectors_by v) IsLong (λ f. f) (sectors_sturdy v) (sectors_hold v) (disks_fit.program v) (sectors_fit v).0 (sectors_fit v).1 (sectors_apart v) es r f taken sound savable laid face.count m same enough
 
-pub lying_roots : SavesRoots lying
-lying_roots = record { address = sectors_fit.1.address; name = sectors_fit.1.name }
-
-pub sectors_lay_out : LaysOut sectors
-sectors_lay_out = lays_out sectors IsLong (λ f. f) sectors_sturdy sectors_hold disks_fit.program sectors_fit.0 sectors_fit.1 sectors_apart
+pub sectors_lay_out : (v : ℕ) → LaysOut (sectors_by v)
+sectors_lay_out v = lays_out (sectors_by v) (sectors_apart v)
 
 pub lying_lay_out : LaysOut lying
-lying_lay_out = lays_out lying (λ (x : Lying). IsLong x.face) (λ x. x.face) lying_sturdy lying_holds lies_fit.program lies_fit.names lying_roots lying_apart
+lying_lay_out = lays_out lying lying_apart
 
-pub lying_covers : VisitsCover lying (λ d. d.face)
-lying_covers es r d face one sound savable laid m same enough =
-    covered lying (λ (x : Lying). IsLong x.face) (λ x. x.face) lying_sturdy lying_holds lies_fit.program lies_fit.names lying_roots lying_apart es r d one sound savable laid face.count m same enough
+pub lying_covers : VisitsCover lying (λ d. d.face) (λ d. d.version)
+unfolding lying_sturdy lying_stores
+lying_covers es r d face taken sound savable laid m same enough =
+    let v = version r in
+    covered lying (HasRoom v) (λ x. x.face) (lying_sturdy v) (lying_holds v) lies_fit.program lies_fit.names lies_fit.roots lying_apart es r d (omega arith) sound savable laid (face.count, taken) m same enough

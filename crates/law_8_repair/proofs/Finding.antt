@@ -17,8 +17,8 @@ use Rattle.vr_msg.specs.Logs.{has_header, header_of}
 use Rattle.vr_world.specs.Deciding.{first_of, tick_table}
 use Rattle.vr_world.specs.Fit.{IsProgram}
 use Rattle.vr_world.specs.Laws.{HasNames, IsEvent}
-use Rattle.vr_world.specs.Lying.{Lying, lying}
-use Rattle.vr_world.specs.Sectors.{sectors}
+use Rattle.vr_world.specs.Lying.{lying}
+use Rattle.vr_world.specs.Sectors.{sectors_by}
 use Rattle.vr_world.specs.Replica.{Replica, head, is_frozen, last_view, part_at, version}
 use Rattle.vr_world.specs.Rules as rules
 use Rattle.vr_world.specs.Outputs as told
@@ -42,7 +42,7 @@ use Rattle.vr_world.proofs.Wording.{keeps_ask, keeps_prepare_again}
 use Rattle.law_4_disks.proofs.Chaining.{chain_kind}
 use Rattle.law_4_disks.proofs.ChainingRules.{c_react}
 use Rattle.law_8_repair.specs.Visits.{AreRead, VisitsFind, after_events, seen_after, visited}
-use Rattle.law_8_repair.proofs.Disks.{IsLong, header_entry, lying_stores, sectors_store}
+use Rattle.law_8_repair.proofs.Disks.{HasRoom, IsLong, header_entry, lying_stores, sectors_store}
 use Rattle.law_8_repair.proofs.Dry.{fine_after}
 use Rattle.law_8_repair.proofs.Looking.{Leaves, Sturdy, all_spared, of_sheds, one_slot, sheds, wrote}
 use Rattle.law_8_repair.proofs.LookingRules.{at_message, at_request}
@@ -214,45 +214,48 @@ module _ {F : Type 0} (s : Setting F) where
     -- ---- steps
 
     module _ (program : IsProgram s) (names : HasNames s) where
-      at_event : (seen : ℕ → Bool) (e : Event) (r : Replica) (f : F) → version r ≡ 1 → IsSound r → Fine f → IsEvent e → r.view ≤ last_view → r.checkpoint ≤ (rules.on_event e s r f).replica.checkpoint → AreRead s seen r f → Reads seen r f (rules.on_event e s r f)
+      at_event : (seen : ℕ → Bool) (e : Event) (r : Replica) (f : F) → version r ≤ sturdy.stores.last → IsSound r → Fine f → IsEvent e → r.view ≤ last_view → r.checkpoint ≤ (rules.on_event e s r f).replica.checkpoint → AreRead s seen r f → Reads seen r f (rules.on_event e s r f)
       unfolding rules.on_tick by
-      at_event seen (event.Request q) r f one sound fine m last up read =
-          read_still seen r (rules.on_request q s r f).replica f _ sound up (at_request s Fine sturdy program names q r f one sound fine m last).leaves read
-      at_event seen (event.Deliver message) r f one sound fine m last up read =
-          read_still seen r (rules.on_message message s r f).replica f _ sound up (at_message s Fine sturdy program names message r f one sound fine m last).leaves read
-      at_event seen event.Tick r f one sound fine m last up read = at_tick seen (first_of (tick_table r)) r f sound up read
+      at_event seen (event.Request q) r f upto sound fine m last up read =
+          read_still seen r (rules.on_request q s r f).replica f _ sound up (at_request s Fine sturdy program names q r f upto sound fine m last).leaves read
+      at_event seen (event.Deliver message) r f upto sound fine m last up read =
+          read_still seen r (rules.on_message message s r f).replica f _ sound up (at_message s Fine sturdy program names message r f upto sound fine m last).leaves read
+      at_event seen event.Tick r f upto sound fine m last up read = at_tick seen (first_of (tick_table r)) r f sound up read
 
-      pub step_reads : (seen : ℕ → Bool) (e : Event) (r : Replica) (f : F) → version r ≡ 1 → IsSound r → Fine f → IsEvent e → AreRead s seen r f → Reads seen r f (rules.react e s r f)
+      pub step_reads : (seen : ℕ → Bool) (e : Event) (r : Replica) (f : F) → version r ≤ sturdy.stores.last → IsSound r → Fine f → IsEvent e → AreRead s seen r f → Reads seen r f (rules.react e s r f)
       unfolding rules.react by
-      step_reads seen e r f one sound fine m read =
+      step_reads seen e r f upto sound fine m read =
           let up = (steps_rise s f r e sound m).checkpoint in
           elim (is_frozen r) as (λ b. is_frozen r ≡ b → r.checkpoint ≤ ((cond (not b) (rules.on_event e) quiet) s r f).replica.checkpoint → Reads seen r f ((cond (not b) (rules.on_event e) quiet) s r f)) [
             | true ↦ λ i u. read_sheds seen quiet r f sheds_quiet sound u read
-            | false ↦ λ i u. at_event seen e r f one sound fine m (ltb-false last_view r.view (or_parts (nat_lt last_view r.view) _ i).0) u read
+            | false ↦ λ i u. at_event seen e r f upto sound fine m (ltb-false last_view r.view (or_parts (nat_lt last_view r.view) _ i).0) u read
           ] refl up
 
       -- ---- and many
 
-      pub events_read : (es : List Event) (seen : ℕ → Bool) (r : Replica) (f : F) → version r ≡ 1 → IsSound r → Fine f → All IsEvent es → AreRead s seen r f
+      pub events_read : (es : List Event) (seen : ℕ → Bool) (r : Replica) (f : F) → version r ≤ sturdy.stores.last → IsSound r → Fine f → All IsEvent es → AreRead s seen r f
           → AreRead s (seen_after s es seen r f) (after_events s es r f).replica (after_events s es r f).disk
       unfolding seen_after after_events
-      events_read [] seen r f one sound fine m read = read
-      events_read (e ∷ es) seen r f one sound fine m read =
+      events_read [] seen r f upto sound fine m read = read
+      events_read (e ∷ es) seen r f upto sound fine m read =
           let x = rules.react e s r f in
           let first = All-head IsEvent e es m in
-          events_read es (both seen r x.replica) x.replica (after_all s f x.script) (step_version s e r f ∙ one) (steps_stay_sound s f r e names sound first) (fine_after s Fine sturdy.stores x.script f fine) (All-tail IsEvent e es m)
-          (step_reads seen e r f one sound fine first read)
+          events_read es (both seen r x.replica) x.replica (after_all s f x.script) (subst (λ v. v ≤ sturdy.stores.last) (sym (step_version s e r f)) upto) (steps_stay_sound s f r e names sound first) (fine_after s Fine sturdy.stores x.script f fine) (All-tail IsEvent e es m)
+          (step_reads seen e r f upto sound fine first read)
 
 -- ---- the disks of the program
 
-pub sectors_sturdy : Sturdy sectors IsLong
-sectors_sturdy = record { stores = sectors_store; rewritten = λ f h slot. header_entry 1 h f slot }
+unfoldable pub sectors_sturdy : (v : ℕ) → Sturdy (sectors_by v) IsLong
+sectors_sturdy v = record { stores = sectors_store v; rewritten = λ f h slot. header_entry v h f slot }
 
-pub lying_sturdy : Sturdy lying (λ (d : Lying). IsLong d.face)
-lying_sturdy = record { stores = lying_stores; rewritten = λ d h slot. header_entry d.version h d.face slot }
+unfoldable pub lying_sturdy : (v : ℕ) → Sturdy lying (HasRoom v)
+lying_sturdy v = record { stores = lying_stores v; rewritten = λ d h slot. header_entry d.version h d.face slot }
 
-pub sectors_find : VisitsFind sectors (λ f. f)
-sectors_find es seen r f face one sound m read = events_read sectors IsLong sectors_sturdy disks_fit.program sectors_fit.0 es seen r f one sound face.count m read
+pub sectors_find : (v : ℕ) → VisitsFind (sectors_by v) (λ f. f) (λ f. v)
+unfolding sectors_sturdy sectors_store
+sectors_find v es seen r f face taken sound m read = events_read (sectors_by v) IsLong (sectors_sturdy v) (disks_fit.program v) (sectors_fit v).0 es seen r f taken sound face.count m read
 
-pub lying_finds : VisitsFind lying (λ d. d.face)
-lying_finds es seen r d face one sound m read = events_read lying (λ (x : Lying). IsLong x.face) lying_sturdy lies_fit.program lies_fit.names es seen r d one sound face.count m read
+pub lying_finds : VisitsFind lying (λ d. d.face) (λ d. d.version)
+unfolding lying_sturdy lying_stores
+lying_finds es seen r d face taken sound m read =
+    let v = version r in events_read lying (HasRoom v) (lying_sturdy v) lies_fit.program lies_fit.names es seen r d (omega arith) sound (face.count, taken) m read

@@ -1,5 +1,5 @@
 -- Each move of a group leaves its running replicas caught up.
-use Rattle.std.proofs.Common.{◌≡◌, ◌+◌, ◌⊎◌, ◌∙◌, inl, inr, ap, subst, ℕ, zero, suc, List, [], ◌∷◌, Some, None}
+use Rattle.std.proofs.Common.{◌≡◌, ◌≤◌, ◌+◌, ◌⊎◌, ◌∙◌, inl, inr, ap, subst, sym, ℕ, zero, suc, List, [], ◌∷◌, Some, None}
 use Rattle.std.specs.Prelude.{All, slice_get, slice_set}
 use Rattle.std.proofs.lemmas.List.Elements.{All-nil, All-cons, All-head, All-tail}
 use Rattle.vr_base.specs.declared.kind.Kind.{Kind}
@@ -13,7 +13,6 @@ use Rattle.vr_world.specs.Steps.{Step}
 use Rattle.vr_world.proofs.FitLies.{lies_fit}
 use Rattle.vr_world.proofs.FitGroups.{arrives, fresh_at, fresh_group_fits, good_value, groups_fit}
 use Rattle.vr_world.proofs.FitOpening.{headers_of}
-use Rattle.vr_world.proofs.Slots.{least_two}
 use Rattle.vr_world.proofs.InTwo.{opening_in_two}
 use Rattle.law_8_repair.specs.CaughtUp.{KeepsUp}
 use Rattle.law_8_repair.specs.Groups.{AllKeepUp, GroupsKeepUp}
@@ -50,7 +49,7 @@ moves_up c g _ _ h u k (group.cuts at arrival e d j m r runs i) = one_up g at _ 
 moves_up c g _ _ h u k (group.crashes at m there) = one_up g at _ u (λ q same. stopped_up q same)
 moves_up c g _ _ h u k (group.recovers at v d m o) =
     let good = good_value c g.n at m v (h.members at m o.member) o.value in
-    let up : KeepsUp (opening v lying (blank v) d).replica = openings_keep_up lying d v (headers_of lying d k) good.0 (least_two v good.0 good.1.version) in
+    let up : KeepsUp (opening v lying (blank v) d).replica = openings_keep_up lying d v (headers_of lying d k) good.0 (subst (λ (k : ℕ). 2 ≤ k) (sym good.1.n) h.several) in
     one_up g at _ u (λ q same. runs_up (resumed v d).replica q (subst (λ (x : Step). KeepsUp x.replica) (opening_in_two v d) up) same)
 moves_up c g _ _ h u k (group.recovers_cut at v d j m o) = one_up g at _ u (λ q same. stopped_up q same)
 
@@ -73,4 +72,4 @@ run_up c g _ h u k (group.goes _ move moved later m rest) =
     (run_up c moved.group later (groups_fit.each c g move moved h fit m) after (All-tail (λ (p : Played). IsFitMove p.move) p later k) rest)
 
 pub groups_keep_up : GroupsKeepUp
-groups_keep_up kinds c n run l a b k r = run_up c (fresh_group kinds c n) run (fresh_group_fits kinds c n l a b) (fresh_up kinds c n) k r
+groups_keep_up kinds c n run are l a b k r = run_up c (fresh_group kinds c n) run (fresh_group_fits kinds c n are l a b) (fresh_up kinds c n) k r

@@ -21,13 +21,12 @@ use Rattle.vr_world.specs.Laws.{IsEvent}
 use Rattle.vr_world.specs.Lying.{Lying, lying}
 use Rattle.vr_world.specs.Opening.{blank, fresh, opening}
 use Rattle.vr_world.specs.Replica.{Replica, is_spent, version}
-use Rattle.vr_world.specs.Sectors.{sectors}
+use Rattle.vr_world.specs.Sectors.{sectors_by}
 use Rattle.vr_world.specs.Steps.{Step, after_all}
 use Rattle.vr_world.specs.Words as words
 use Rattle.vr_world.proofs.FitDisks.{disks_fit}
 use Rattle.vr_world.proofs.FitLies.{lies_fit}
 use Rattle.vr_world.proofs.FitGroups.{arrives, fresh_at, fresh_group_fits, good_value, groups_fit}
-use Rattle.vr_world.proofs.Slots.{least_two}
 use Rattle.vr_world.proofs.InTwo.{opening_in_two}
 use Rattle.vr_world.proofs.SavesSectors.{sectors_fit}
 use Rattle.law_4_disks.specs.Stocks.{IsGiven, IsGivenEvent}
@@ -36,9 +35,10 @@ use Rattle.law_4_disks.proofs.Lines.{get_both, message_given, none_sent}
 use Rattle.law_4_disks.proofs.Loading.{block_are}
 use Rattle.law_8_repair.specs.Cover.{KnowsFaults, visits_made}
 use Rattle.law_8_repair.specs.GroupCover.{AllCover, GroupsCover}
+use Rattle.law_8_repair.specs.Latest.{latest}
 use Rattle.law_8_repair.specs.Places.{PlacesStay, StaysInPlace}
 use Rattle.law_8_repair.specs.Visits.{after_events}
-use Rattle.law_8_repair.proofs.Covering.{lying_covers, lying_roots}
+use Rattle.law_8_repair.proofs.Covering.{lying_covers}
 use Rattle.law_8_repair.proofs.Giving.{Gives, Mute, mute_opening, step_gives}
 use Rattle.law_8_repair.proofs.GroupMoves.{set_at}
 use Rattle.law_8_repair.proofs.Laying.{lying_apart, lying_in_place, sectors_apart, sectors_in_place}
@@ -47,32 +47,32 @@ use Rattle.law_8_repair.proofs.PlacingOpening.{fresh_in_place, opened_in_place}
 
 -- ---- the disks of the program
 
-sectors_load : Loads sectors (λ f. f)
-sectors_load = record { bytes = loaded_bytes; put = put_face; same = loaded_still 1; reads = disks_fit.reads; apart = sectors_apart; saves = sectors_in_place }
+sectors_load : (v : ℕ) → Loads (sectors_by v) (λ f. f)
+sectors_load v = record { bytes = loaded_bytes v; put = put_face v; same = loaded_still v; reads = disks_fit.reads v; apart = sectors_apart v; saves = sectors_in_place v }
 
 lying_load : Loads lying (λ d. d.face)
 lying_load = record {
-  bytes = λ d whole. loaded_bytes d.face whole;
-  put = λ d name block whole is bytes. put_face d.face name block whole is bytes;
+  bytes = λ d whole. loaded_bytes d.version d.face whole;
+  put = λ d name block whole is bytes. put_face d.version d.face name block whole is bytes;
   same = λ d e root h. loaded_still d.version d.face e root h;
   reads = lies_fit.reads;
   apart = lying_apart;
   saves = lying_in_place;
 }
 
-pub sectors_places : PlacesStay sectors (λ f. f)
-sectors_places = record {
+pub sectors_places : (v : ℕ) → PlacesStay (sectors_by v) (λ f. f)
+sectors_places v = record {
   fresh = fresh_in_place;
-  openings = opened_in_place sectors (λ f. f) sectors_load disks_fit.program sectors_fit.1;
-  steps = step_in_place sectors (λ f. f) sectors_load disks_fit.program sectors_fit.1;
+  openings = opened_in_place (sectors_by v) (λ f. f) (sectors_load v) (disks_fit.program v) (sectors_fit v).1;
+  steps = step_in_place (sectors_by v) (λ f. f) (sectors_load v) (disks_fit.program v) (sectors_fit v).1;
   laid = laid_out;
 }
 
 pub lying_places : PlacesStay lying (λ d. d.face)
 lying_places = record {
   fresh = fresh_in_place;
-  openings = opened_in_place lying (λ (d : Lying). d.face) lying_load lies_fit.program lying_roots;
-  steps = step_in_place lying (λ (d : Lying). d.face) lying_load lies_fit.program lying_roots;
+  openings = opened_in_place lying (λ (d : Lying). d.face) lying_load lies_fit.program lies_fit.roots;
+  steps = step_in_place lying (λ (d : Lying). d.face) lying_load lies_fit.program lies_fit.roots;
   laid = laid_out;
 }
 
@@ -139,7 +139,7 @@ moves_placed c g _ _ h u w k b (group.cuts at arrival e d j m r runs i) = one_pl
 moves_placed c g _ _ h u w k b (group.crashes at m there) = one_placed g at _ u (λ q same. stopped_placed q same)
 moves_placed c g _ _ h u w k b (group.recovers at v d m o) =
     let good = good_value c g.n at m v (h.members at m o.member) o.value in
-    let placed : StaysInPlace (opening v lying (blank v) d).replica = lying_places.openings d v b good.0 (least_two v good.0 good.1.version) in
+    let placed : StaysInPlace (opening v lying (blank v) d).replica = lying_places.openings d v b good.0 (subst (λ (k : ℕ). 2 ≤ k) (sym good.1.n) h.several) in
     one_placed g at _ u (λ q same. runs_placed (resumed v d).replica q (subst (λ (x : Step). StaysInPlace x.replica) (opening_in_two v d) placed) same)
 moves_placed c g _ _ h u w k b (group.recovers_cut at v d j m o) = one_placed g at _ u (λ q same. stopped_placed q same)
 
@@ -158,17 +158,17 @@ none_made (e ∷ es) r d t =
     let rest = none_made es r d t in
     subst (λ (x : Step). counted x.replica.cursor r.cursor + visits_made lying es x.replica (after_all lying d x.script) ≡ 0) (sym still) (omega (arith, rest, one))
 
-covers : (r : Replica) (es : List Event) (d : Lying) → version r ≡ 1 → IsFitReplica r → StaysInPlace r → IsFace d.face → All IsEvent es
+covers : (r : Replica) (es : List Event) (d : Lying) → version r ≤ latest d.version → IsFitReplica r → StaysInPlace r → IsFace d.face → All IsEvent es
     → let end = after_events lying es r d in end.replica.checkpoint ≡ r.checkpoint → words.places end.replica ≤ visits_made lying es r d → KnowsFaults lying (λ (x : Lying). x.face) end.replica end.disk
-covers r es d one fit placed whole m same enough =
+covers r es d taken fit placed whole m same enough =
     let end = after_events lying es r d in
     elim (is_spent r) as (λ b. is_spent r ≡ b → KnowsFaults lying (λ (x : Lying). x.face) end.replica end.disk) [
       | true ↦ λ t. absurd (let none = none_made es r d t in omega (arith, none, enough))
-      | false ↦ λ t. lying_covers es r d whole one fit.sound fit.savable (laid_out r (placed t)) m same enough
+      | false ↦ λ t. lying_covers es r d whole taken fit.sound fit.savable (laid_out r (placed t)) m same enough
     ] refl
 
 all_cover : (c : ℕ) (g : Group) → IsFitGroup c g → AllInPlace g → AllCover g
-all_cover c g h u = λ at m r es d there runs whole events same enough. (let fit = (h.members at m there).running r runs in covers r es d fit.1.saved.version fit.0 (u at m r there runs) whole events same enough)
+all_cover c g h u = λ at m r es d there runs whole taken events same enough. (let fit = (h.members at m there).running r runs in covers r es d taken fit.0 (u at m r there runs) whole events same enough)
 
 -- ---- runs
 
@@ -196,4 +196,4 @@ run_covers c g _ h u w k b (group.goes _ move moved later m rest) =
     (run_covers c moved.group later fits after (moves_given g move moved w bytes m) (All-tail (λ (p : Played). IsFitMove p.move) p later k) (All-tail (λ (p : Played). IsOfBytes p.move) p later b) rest)
 
 pub groups_cover : GroupsCover
-groups_cover kinds c n run l a z k b r = run_covers c (fresh_group kinds c n) run (fresh_group_fits kinds c n l a z) (fresh_placed kinds c n) (fresh_given kinds c n) k b r
+groups_cover kinds c n run are l a z k b r = run_covers c (fresh_group kinds c n) run (fresh_group_fits kinds c n are l a z) (fresh_placed kinds c n) (fresh_given kinds c n) k b r

@@ -22,7 +22,7 @@ use Rattle.vr_header.specs.Made.{Whole}
 use Rattle.vr_ckpt.specs.Saves.{blocks_calls, save_calls, written}
 use Rattle.vr_rings.specs.Calls.{header_calls, prepare_calls}
 use Rattle.vr_rings.specs.Slots.{slot_of}
-use Rattle.vr_super.specs.Calls.{copy_calls, mend_calls, mend_copy, mend_from, mend_unless, save_from}
+use Rattle.vr_super.specs.Calls.{copy_calls, mend_calls, mend_copy, mend_from, mend_unless, save_from, write_calls}
 use Rattle.vr_super.specs.Copies.{IsGood, SuperValue, copy_bytes}
 use Rattle.vr_super.specs.Laws.{AllRead}
 use Rattle.vr_super.specs.Opens.{copy_reading}
@@ -30,11 +30,11 @@ use Rattle.vr_super.proofs.Format.{length-copy_bytes}
 use Rattle.vr_super.proofs.Keeping.{copy_done, mend_done}
 use Rattle.vr_super.proofs.Readings.{copy_within, mend_within, other_after}
 use Rattle.vr_world.specs.Lying.{lying}
-use Rattle.vr_world.specs.Sectors.{block_in, calls_by, calls_of, sectors}
+use Rattle.vr_world.specs.Sectors.{block_in, calls_by, sectors_by}
 use Rattle.vr_world.specs.Steps.{Effect, Write, Rewrite, Save, Mend, Checkpoint, PutBlock, Say, Setting}
 use Rattle.vr_world.proofs.FitDisks.{block_spares, blocks_spare, grid_behind, header_spares, mend_spares, same_reads, save_spares}
-use Rattle.vr_world.proofs.FitVersions.{prepare_spares, slot_below}
-use Rattle.law_8_repair.proofs.Disks.{IsLong}
+use Rattle.vr_world.proofs.FitDisks.{prepare_spares, slot_below}
+use Rattle.law_8_repair.proofs.Disks.{HasRoom, IsLong}
 use Rattle.law_8_repair.proofs.Standing.{SparesGrid}
 
 -- ---- a disk that holds what was put and saved
@@ -175,7 +175,7 @@ saves_read (suc n) k bytes f size e to =
     } in
     subst (ReadTo bytes 4) (sym (after_all_append calls (save_from (k + 1) n bytes) f)) (saves_read n (k + 1) bytes g size (omega (arith, e)) next)
 
-saved_reads : (f : Face) (old new : SuperValue) → IsLong f → IsGood new → AllRead (disk.after_all f (calls_of (Save old new) f)) new
+saved_reads : (f : Face) (old new : SuperValue) → IsLong f → IsGood new → AllRead (disk.after_all f (write_calls old new f)) new
 saved_reads f old new long good =
     let bytes = copy_bytes new in
     let g : Face = disk.after_all f (mend_calls old f) in
@@ -231,22 +231,22 @@ mended_reads f v long good =
 
 -- ---- the disks of the program
 
-pub sectors_hold : Holds sectors IsLong AllRead
-sectors_hold = record {
-  block = λ f e name h. block_kept 1 f e name h;
+pub sectors_hold : (v : ℕ) → Holds (sectors_by v) IsLong AllRead
+sectors_hold v = record {
+  block = λ f e name h. block_kept v f e name h;
   put = put_reads;
   beside = put_beside;
-  copies = λ f e v h read. copies_kept 1 f e v h read;
+  copies = λ f e value h read. copies_kept v f e value h read;
   saved = saved_reads;
   mended = mended_reads;
 }
 
-pub lying_holds : Holds lying (λ d. IsLong d.face) (λ d. AllRead d.face)
-lying_holds = record {
+pub lying_holds : (v : ℕ) → Holds lying (HasRoom v) (λ d. AllRead d.face)
+lying_holds v = record {
   block = λ d e name h. block_kept d.version d.face e name h;
-  put = λ d name b long whole. put_reads d.face name b long whole;
+  put = λ d name b room whole. put_reads d.face name b room.0 whole;
   beside = λ d name other b whole apart. put_beside d.face name other b whole apart;
-  copies = λ d e v h read. copies_kept d.version d.face e v h read;
-  saved = λ d old new long good. saved_reads d.face old new long good;
-  mended = λ d v long good. mended_reads d.face v long good;
+  copies = λ d e value h read. copies_kept d.version d.face e value h read;
+  saved = λ d old new room good. saved_reads d.face old new room.0 good;
+  mended = λ d value room good. mended_reads d.face value room.0 good;
 }

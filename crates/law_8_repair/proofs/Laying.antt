@@ -26,7 +26,7 @@ use Rattle.vr_ckpt.proofs.Apart.{part_cases}
 use Rattle.vr_ckpt.proofs.Placing.{AtPlace, at_place, at_within, is_at, key_above, key_lower, keys_room, numbers_apart, places_apart, root_at_place, root_lower, session_above, session_lower, sessions_room, texts_apart}
 use Rattle.vr_ckpt.proofs.Keeping.{each_held}
 use Rattle.vr_world.specs.Lying.{lying}
-use Rattle.vr_world.specs.Sectors.{sectors}
+use Rattle.vr_world.specs.Sectors.{sectors_by}
 use Rattle.vr_world.specs.Steps.{Setting}
 use Rattle.vr_world.proofs.FitLoads.{given, some_missing}
 use Rattle.law_8_repair.specs.Cover.{StandApart}
@@ -257,17 +257,17 @@ held_places f t h = record {
   few_keys = h.few_keys;
 }
 
-pub sectors_apart : LoadsApart sectors
-sectors_apart = record {
+pub sectors_apart : (v : ℕ) → LoadsApart (sectors_by v)
+sectors_apart v = record {
   places = λ f root texts t e. (is_at 0 root.address (loaded_root f root texts t e), held_places f t (each_held f root texts t e));
   some = λ f root e. some_missing f root [] e refl;
 }
 
 pub lying_apart : LoadsApart lying
-lying_apart = record { places = λ d root texts t e. sectors_apart.places d.face root texts t e; some = λ d root e. sectors_apart.some d.face root e }
+lying_apart = record { places = λ d root texts t e. (sectors_apart d.version).places d.face root texts t e; some = λ d root e. (sectors_apart d.version).some d.face root e }
 
-pub sectors_in_place : SavesInPlace sectors
-sectors_in_place = record { table = saved_places; root = root_saved }
+pub sectors_in_place : (v : ℕ) → SavesInPlace (sectors_by v)
+sectors_in_place v = record { table = saved_places; root = root_saved }
 
 pub lying_in_place : SavesInPlace lying
 lying_in_place = record { table = saved_places; root = root_saved }

@@ -56,11 +56,10 @@ pub record Stored (e : Whole) (r q : Replica) : Type 0 where
   pub here : (k : ℕ) (h : Header) → part_at q k ≡ Here h → ((part_at r k ≡ Here h) × (k ≢ e.header.op)) ⊎ ((k ≡ e.header.op) × (h ≡ e.header))
   pub cursor : q.cursor ≡ r.cursor
 
--- an entry of version 1, of the window
+-- an entry of the window
 pub record InWindow (e : Whole) (r : Replica) : Type 0 where
   pub above : r.checkpoint < e.header.op
   pub within : e.header.op ≤ r.checkpoint + 64
-  pub few : e.header.version ≤ 1
 
 stored_cursor : (e : Whole) (r : Replica) → (words.stored e r).cursor ≡ r.cursor
 unfolding forgetting with_part
@@ -102,7 +101,7 @@ module _ {F : Type 0} (s : Setting F) where
     | wrote e z i p ↦
         wrote e
         (record { here = λ k h t. elim (z.here k h t) [ inl old ↦ inl (x.here k h old.0, old.1) | inr new ↦ inr new ]; cursor = z.cursor ∙ x.cursor })
-        (record { above = subst (λ n. n < e.header.op) c i.above; within = subst (λ n. e.header.op ≤ n + 64) c i.within; few = i.few })
+        (record { above = subst (λ n. n < e.header.op) c i.above; within = subst (λ n. e.header.op ≤ n + 64) c i.within })
         (record { there = p.there; others = λ slot l n. p.others slot l n ∙ y.same slot l })
   ]
 
@@ -166,19 +165,19 @@ module _ {F : Type 0} (s : Setting F) where
     leaves_if true v w r f h k = h
     leaves_if false v w r f h k = k
 
-    -- an entry of the window is written
-    pub leaves_write : (e : Whole) (r : Replica) (f : F) → Fine f → IsWhole e → InWindow e r → r.first ≤ r.checkpoint + 1 → r.first + length r.parts ≡ r.checkpoint + 65 → LeavesBy (words.write e) r f
+    -- an entry of the window, of a version that is taken, is written
+    pub leaves_write : (e : Whole) (r : Replica) (f : F) → Fine f → IsWhole e → e.header.version ≤ sturdy.stores.last → InWindow e r → r.first ≤ r.checkpoint + 1 → r.first + length r.parts ≡ r.checkpoint + 65 → LeavesBy (words.write e) r f
     unfolding words.write ◌⨾◌ does change after_all
-    leaves_write e r f fine whole i first parts =
+    leaves_write e r f fine whole few i first parts =
         let above = i.above in
         let within = i.within in
         let again : Bool = words.may_be_stored (part_at r e.header.op) in
         record {
           leaves = wrote e (stored_is e r (omega arith) (omega arith)) i
-              (record { there = sturdy.stores.written f again e fine whole i.few; others = λ slot l n. sturdy.stores.others f again e slot n });
+              (record { there = sturdy.stores.written f again e fine whole few; others = λ slot l n. sturdy.stores.others f again e slot n });
         }
 
-    pub leaves_accept : (e : Whole) (r : Replica) (f : F) → Fine f → IsWhole e → InWindow e r → r.first ≤ r.checkpoint + 1 → r.first + length r.parts ≡ r.checkpoint + 65 → LeavesBy (words.accept e) r f
+    pub leaves_accept : (e : Whole) (r : Replica) (f : F) → Fine f → IsWhole e → e.header.version ≤ sturdy.stores.last → InWindow e r → r.first ≤ r.checkpoint + 1 → r.first + length r.parts ≡ r.checkpoint + 65 → LeavesBy (words.accept e) r f
     unfolding words.accept
-    leaves_accept e r f fine whole i first parts =
-        leaves_by _ r f (leaves_if (not (is_here (part_at r e.header.op))) (words.write e) quiet r f (leaves_write e r f fine whole i first parts) (of_sheds quiet r f sheds_quiet))
+    leaves_accept e r f fine whole few i first parts =
+        leaves_by _ r f (leaves_if (not (is_here (part_at r e.header.op))) (words.write e) quiet r f (leaves_write e r f fine whole few i first parts) (of_sheds quiet r f sheds_quiet))

@@ -1,5 +1,5 @@
 -- Each rule leaves no more entries here, or one that it has written; a tick may visit a place.
-use Rattle.std.proofs.Common.{ℕ, ◌+◌, ◌-◌, ◌≤◌, ◌≡◌, ◌^◌, arith, refl, subst, Bool, false, not, List, length, Option, Some, None}
+use Rattle.std.proofs.Common.{ℕ, ◌+◌, ◌-◌, ◌≤◌, ◌≡◌, ◌^◌, arith, refl, Bool, false, not, List, length, Option, Some, None}
 use Rattle.std.specs.Prelude.{find, is_some, nat_le, nat_lt}
 use Rattle.std.specs.Option.{option_map_or}
 use Rattle.std.proofs.lemmas.Bool.{and_parts, eqb-true, leb-false, ltb-false, ltb-true, not-false, or_parts}
@@ -143,8 +143,12 @@ shed_rested : (r : Replica) → Shed r (words.rested r)
 unfolding part_at
 shed_rested r = record { here = λ k h e. e; cursor = refl }
 
-in_window : (e : Whole) (r : Replica) → version r ≡ 1 → MayStore e r → InWindow e r
-in_window e r one m = record { above = m.above; within = m.window; few = subst (λ v. e.header.version ≤ v) one m.is_entry.of_version }
+in_window : (e : Whole) (r : Replica) → MayStore e r → InWindow e r
+in_window e r m = record { above = m.above; within = m.window }
+
+-- it is of a version that the replica's file takes
+taken_by : (e : Whole) (r : Replica) (last : ℕ) → version r ≤ last → MayStore e r → e.header.version ≤ last
+taken_by e r last upto m = let few = m.is_entry.of_version in omega (arith, few, upto)
 
 -- ---- rules that may write one
 
@@ -155,20 +159,20 @@ module _ {F : Type 0} (s : Setting F) (Fine : F → Type 0) (sturdy : Sturdy s F
   right : (w : Word F) (r : Replica) (f : F) → Sheds w → Right w r f
   right w r f h = of_sheds s Fine sturdy w r f h
 
-  write_then : (e : Whole) (w : Word F) (r : Replica) (f : F) → version r ≡ 1 → IsSound r → Fine f → IsWhole e → MayStore e r → Sheds w → Right (words.write e ⨾ w) r f
-  write_then e w r f one h fine whole m k =
-      leaves_then s Fine sturdy (words.write e) w r f (leaves_write s Fine sturdy e r f fine whole (in_window e r one m) h.lists.reach h.lists.parts) k
+  write_then : (e : Whole) (w : Word F) (r : Replica) (f : F) → version r ≤ sturdy.stores.last → IsSound r → Fine f → IsWhole e → MayStore e r → Sheds w → Right (words.write e ⨾ w) r f
+  write_then e w r f upto h fine whole m k =
+      leaves_then s Fine sturdy (words.write e) w r f (leaves_write s Fine sturdy e r f fine whole (taken_by e r sturdy.stores.last upto m) (in_window e r m) h.lists.reach h.lists.parts) k
 
-  accept_then : (e : Whole) (w : Word F) (r : Replica) (f : F) → version r ≡ 1 → r.first ≤ r.checkpoint + 1 → r.first + length r.parts ≡ r.checkpoint + 65 → Fine f → IsWhole e → MayStore e r → Sheds w → Right (words.accept e ⨾ w) r f
-  accept_then e w r f one reach parts fine whole m k =
-      leaves_then s Fine sturdy (words.accept e) w r f (leaves_accept s Fine sturdy e r f fine whole (in_window e r one m) reach parts) k
+  accept_then : (e : Whole) (w : Word F) (r : Replica) (f : F) → version r ≤ sturdy.stores.last → r.first ≤ r.checkpoint + 1 → r.first + length r.parts ≡ r.checkpoint + 65 → Fine f → IsWhole e → MayStore e r → Sheds w → Right (words.accept e ⨾ w) r f
+  accept_then e w r f upto reach parts fine whole m k =
+      leaves_then s Fine sturdy (words.accept e) w r f (leaves_accept s Fine sturdy e r f fine whole (taken_by e r sturdy.stores.last upto m) (in_window e r m) reach parts) k
 
   rested_then : (w : Word F) (r : Replica) (f : F) → Right w (words.rested r) f → Right (change words.rested ⨾ w) r f
   rested_then w r f h = change_then s Fine sturdy words.rested w r f (shed_rested r) refl h
 
-  pub at_request : (q : RequestFields) (r : Replica) (f : F) → version r ≡ 1 → IsSound r → Fine f → IsMessage (frame.Request q) → r.view ≤ last_view → Right (rules.on_request q) r f
+  pub at_request : (q : RequestFields) (r : Replica) (f : F) → version r ≤ sturdy.stores.last → IsSound r → Fine f → IsMessage (frame.Request q) → r.view ≤ last_view → Right (rules.on_request q) r f
   unfolding rules.on_request rules.make
-  at_request q r f one h fine m last =
+  at_request q r f upto h fine m last =
       let idle = right quiet r f sheds_quiet in
       leaves_naming s Fine sturdy _ r f (leaves_by s Fine sturdy _ r f (by_rows (λ x. Right (rules.obey_request s.hash q x) r f) (request_table q r) (
         λ t. idle,
@@ -191,7 +195,7 @@ module _ {F : Type 0} (s : Setting F) (Fine : F → Type 0) (sturdy : Sturdy s F
                         let known = h.order.known in
                         let e : Whole = rules.next_entry s.hash q r in
                         let may : MayStore e r = may_store_next s.hash q r names h m (for_of q.version q.cluster r (not-false _ n0)) (eqb-true r.view r.log_view lead.0) last (ltb-false r.applied r.commit behind.1) (omega arith) (leb-false (2 ^ 62) (head r) full.1) in
-                        leaves_by s Fine sturdy _ r f (write_then e _ r f one h fine (whole_next s q r program m may) may (sheds_then _ _ (sheds_says _) sheds_advance)),
+                        leaves_by s Fine sturdy _ r f (write_then e _ r f upto h fine (whole_next s q r program m may) may (sheds_then _ _ (sheds_says _) sheds_advance)),
                     λ n6. idle,
                   ),
                 ),
@@ -201,9 +205,9 @@ module _ {F : Type 0} (s : Setting F) (Fine : F → Type 0) (sturdy : Sturdy s F
         ),
       )))
 
-  at_prepare : (p : Prepare) (r : Replica) (f : F) → version r ≡ 1 → IsSound r → Fine f → IsMessage (frame.Prepare p) → Right (rules.on_prepare p) r f
+  at_prepare : (p : Prepare) (r : Replica) (f : F) → version r ≤ sturdy.stores.last → IsSound r → Fine f → IsMessage (frame.Prepare p) → Right (rules.on_prepare p) r f
   unfolding rules.on_prepare
-  at_prepare p r f one h fine m =
+  at_prepare p r f upto h fine m =
       let op : ℕ = p.entry.header.op in
       let idle = right quiet r f sheds_quiet in
       let rests = right _ r f sheds_rested in
@@ -223,10 +227,10 @@ module _ {F : Type 0} (s : Setting F) (Fine : F → Type 0) (sturdy : Sturdy s F
               λ n3. (
                 λ t. rests,
                 λ n4. (
-                  λ t. rested_then _ r f (accept_then p.entry _ (words.rested r) f one reach parts fine (whole_of p m) (may n0 n2 n3 n4) (sheds_then _ _ (sheds_says _) (sheds_learn p.commit))),
+                  λ t. rested_then _ r f (accept_then p.entry _ (words.rested r) f upto reach parts fine (whole_of p m) (may n0 n2 n3 n4) (sheds_then _ _ (sheds_says _) (sheds_learn p.commit))),
                   λ n5. (
                     λ t. rested_then _ r f (leaves_then s Fine sturdy (words.write p.entry) _ (words.rested r) f
-                        (leaves_write s Fine sturdy p.entry (words.rested r) f fine (whole_of p m) (in_window p.entry (words.rested r) one (may n0 n2 n3 n4)) reach parts) (sheds_then _ _ (sheds_says _) (sheds_learn p.commit))),
+                        (leaves_write s Fine sturdy p.entry (words.rested r) f fine (whole_of p m) (taken_by p.entry (words.rested r) sturdy.stores.last upto (may n0 n2 n3 n4)) (in_window p.entry (words.rested r) (may n0 n2 n3 n4)) reach parts) (sheds_then _ _ (sheds_says _) (sheds_learn p.commit))),
                     λ n6. (λ t. right _ r f (sheds_then _ _ sheds_rested (sheds_then _ _ (sheds_says _) (sheds_learn p.commit))), λ n7. (λ t. rests, λ n8. idle)),
                   ),
                 ),
@@ -236,9 +240,9 @@ module _ {F : Type 0} (s : Setting F) (Fine : F → Type 0) (sturdy : Sturdy s F
         ),
       )))
 
-  at_give_prepare : (g : GivePrepare) (r : Replica) (f : F) → version r ≡ 1 → IsSound r → Fine f → IsMessage (frame.GivePrepare g) → Right (rules.on_give_prepare g) r f
+  at_give_prepare : (g : GivePrepare) (r : Replica) (f : F) → version r ≤ sturdy.stores.last → IsSound r → Fine f → IsMessage (frame.GivePrepare g) → Right (rules.on_give_prepare g) r f
   unfolding rules.on_give_prepare
-  at_give_prepare g r f one h fine m =
+  at_give_prepare g r f upto h fine m =
       let op : ℕ = g.entry.header.op in
       let whole : IsWhole g.entry = record { entry = m.form.entry; header = m.body } in
       leaves_by s Fine sturdy _ r f (by_rows (λ x. Right (rules.obey_give_prepare g x) r f) (give_prepare_table g r) (
@@ -247,25 +251,25 @@ module _ {F : Type 0} (s : Setting F) (Fine : F → Type 0) (sturdy : Sturdy s F
           λ t.
               let a = and_parts (nat_lt r.checkpoint op) _ t in
               let b = and_parts (is_known g.entry.header op r) _ a.1 in
-              write_then g.entry _ r f one h fine whole (may_store_given g.entry r h (ltb-true r.checkpoint op a.0) b.0) (sheds_then _ _ (sheds_resend g.entry) sheds_apply),
+              write_then g.entry _ r f upto h fine whole (may_store_given g.entry r h (ltb-true r.checkpoint op a.0) b.0) (sheds_then _ _ (sheds_resend g.entry) sheds_apply),
           λ n1. right quiet r f sheds_quiet,
         ),
       ))
 
-  pub at_message : (m : Frame) (r : Replica) (f : F) → version r ≡ 1 → IsSound r → Fine f → IsMessage m → r.view ≤ last_view → Right (rules.on_message m) r f
+  pub at_message : (m : Frame) (r : Replica) (f : F) → version r ≤ sturdy.stores.last → IsSound r → Fine f → IsMessage m → r.view ≤ last_view → Right (rules.on_message m) r f
   unfolding rules.on_prepare_ok rules.on_commit rules.on_start_view_change rules.on_do_view_change rules.on_start_view rules.on_get_view rules.on_get_prepare rules.on_get_block rules.on_give_block rules.on_get_sync rules.on_sync_view
-  at_message (frame.Request q) r f one h fine m last = at_request q r f one h fine m last
-  at_message (frame.Reply a) r f one h fine m last = right quiet r f sheds_quiet
-  at_message (frame.Prepare p) r f one h fine m last = at_prepare p r f one h fine m
-  at_message (frame.PrepareOk a) r f one h fine m last = right _ r f (sheds_naming _ (λ hash. sheds_by _ (λ r. sheds_ok a (first_of (prepare_ok_table hash a r)))))
-  at_message (frame.Commit c) r f one h fine m last = right _ r f (sheds_by _ (λ r. sheds_commit c (first_of (commit_table c r))))
-  at_message (frame.StartViewChange c) r f one h fine m last = right _ r f (sheds_by _ (λ r. sheds_view_change c (first_of (start_view_change_table c r))))
-  at_message (frame.DoViewChange d) r f one h fine m last = right _ r f (sheds_by _ (λ r. sheds_stated d (first_of (do_view_change_table d r))))
-  at_message (frame.StartView v) r f one h fine m last = right _ r f (sheds_naming _ (λ hash. sheds_by _ (λ r. sheds_start_view hash v (first_of (start_view_table hash v r)))))
-  at_message (frame.GetView g) r f one h fine m last = right _ r f (sheds_by _ (λ r. sheds_get_view g (first_of (get_view_table g r))))
-  at_message (frame.GetPrepare g) r f one h fine m last = right _ r f (sheds_naming _ (λ hash. sheds_by _ (λ r. sheds_get_prepare g (first_of (get_prepare_table hash g r)))))
-  at_message (frame.GivePrepare g) r f one h fine m last = at_give_prepare g r f one h fine m
-  at_message (frame.GetBlock g) r f one h fine m last = right _ r f (sheds_reading _ _ (λ o. sheds_by _ (λ r. sheds_get_block g o (first_of (get_block_table (is_some o) g r)))))
-  at_message (frame.GiveBlock g) r f one h fine m last = right _ r f (sheds_reading _ _ (λ is_block. sheds_by _ (λ r. sheds_give_block is_block g (first_of (give_block_table is_block g r)))))
-  at_message (frame.GetSync g) r f one h fine m last = right _ r f (sheds_by _ (λ r. sheds_get_sync g (first_of (get_sync_table g r))))
-  at_message (frame.SyncView v) r f one h fine m last = right _ r f (sheds_naming _ (λ hash. sheds_by _ (λ r. sheds_sync_view hash v (first_of (sync_view_table hash v r)))))
+  at_message (frame.Request q) r f upto h fine m last = at_request q r f upto h fine m last
+  at_message (frame.Reply a) r f upto h fine m last = right quiet r f sheds_quiet
+  at_message (frame.Prepare p) r f upto h fine m last = at_prepare p r f upto h fine m
+  at_message (frame.PrepareOk a) r f upto h fine m last = right _ r f (sheds_naming _ (λ hash. sheds_by _ (λ r. sheds_ok a (first_of (prepare_ok_table hash a r)))))
+  at_message (frame.Commit c) r f upto h fine m last = right _ r f (sheds_by _ (λ r. sheds_commit c (first_of (commit_table c r))))
+  at_message (frame.StartViewChange c) r f upto h fine m last = right _ r f (sheds_by _ (λ r. sheds_view_change c (first_of (start_view_change_table c r))))
+  at_message (frame.DoViewChange d) r f upto h fine m last = right _ r f (sheds_by _ (λ r. sheds_stated d (first_of (do_view_change_table d r))))
+  at_message (frame.StartView v) r f upto h fine m last = right _ r f (sheds_naming _ (λ hash. sheds_by _ (λ r. sheds_start_view hash v (first_of (start_view_table hash v r)))))
+  at_message (frame.GetView g) r f upto h fine m last = right _ r f (sheds_by _ (λ r. sheds_get_view g (first_of (get_view_table g r))))
+  at_message (frame.GetPrepare g) r f upto h fine m last = right _ r f (sheds_naming _ (λ hash. sheds_by _ (λ r. sheds_get_prepare g (first_of (get_prepare_table hash g r)))))
+  at_message (frame.GivePrepare g) r f upto h fine m last = at_give_prepare g r f upto h fine m
+  at_message (frame.GetBlock g) r f upto h fine m last = right _ r f (sheds_reading _ _ (λ o. sheds_by _ (λ r. sheds_get_block g o (first_of (get_block_table (is_some o) g r)))))
+  at_message (frame.GiveBlock g) r f upto h fine m last = right _ r f (sheds_reading _ _ (λ is_block. sheds_by _ (λ r. sheds_give_block is_block g (first_of (give_block_table is_block g r)))))
+  at_message (frame.GetSync g) r f upto h fine m last = right _ r f (sheds_by _ (λ r. sheds_get_sync g (first_of (get_sync_table g r))))
+  at_message (frame.SyncView v) r f upto h fine m last = right _ r f (sheds_naming _ (λ hash. sheds_by _ (λ r. sheds_sync_view hash v (first_of (sync_view_table hash v r)))))

@@ -21,7 +21,7 @@ use Rattle.vr_world.specs.Rule.TheVariants.{BlockMended, BlockTaken, Ignored}
 use Rattle.vr_world.specs.Lying.{lying}
 use Rattle.vr_world.specs.Replica.{Replica, is_frozen, version}
 use Rattle.vr_world.specs.Rules.{mend_found, not_worn, obey_give_block, on_event, on_give_block, react}
-use Rattle.vr_world.specs.Sectors.{block_in, sectors}
+use Rattle.vr_world.specs.Sectors.{block_in, sectors_by}
 use Rattle.vr_world.specs.Steps.{PutBlock, Setting, Step, ◌⨾◌, after_all, by, change, does, quiet, reading}
 use Rattle.vr_world.proofs.FitLies.{same_face}
 use Rattle.law_8_repair.specs.Blocks.{BlocksMend, HasGoneBad, IsBlockCopy}
@@ -112,13 +112,13 @@ block_reads f name m b face done same whole =
     ap (λ (t : Bool). cond t (option_and_then (named name) (block_reading g name.address)) None) (lt-ltb name.address grid_size fits.0) ∙ ap (option_and_then (named name)) read in
     ap (λ (o : Option Content). cond (is_some o) (block_reading g name.address) None) there ∙ (ap (λ (t : Bool). cond t (block_reading g name.address) None) whole ∙ read)
 
-pub sectors_mend : BlocksMend sectors (λ f. f)
+pub sectors_mend : (v : ℕ) → BlocksMend (sectors_by v) (λ f. f)
 unfolding after_all
-sectors_mend r f name g face done bad copy =
-    let p = puts_it sectors r f name g bad copy in
+sectors_mend v r f name g face done bad copy =
+    let p = puts_it (sectors_by v) r f name g bad copy in
     record {
       replica = ap (λ (x : Step). x.replica) p.is;
-      reads = ap (λ (x : Step). block_in (after_all sectors f x.script) name) p.is ∙ block_reads f name p.at g.block face done p.address copy.block;
+      reads = ap (λ (x : Step). block_in (after_all (sectors_by v) f x.script) name) p.is ∙ block_reads f name p.at g.block face done p.address copy.block;
     }
 
 pub lying_mends : BlocksMend lying (λ d. d.face)

@@ -22,7 +22,7 @@ use Rattle.vr_world.specs.GroupFit.{IsFitReplica}
 use Rattle.vr_world.specs.Laws.{IsEvent, SavesRoots}
 use Rattle.vr_world.specs.Replica.{Replica, is_frozen, is_spent, last_view}
 use Rattle.vr_world.specs.Rules as rules
-use Rattle.vr_world.specs.Sectors.{sectors, sectors_by}
+use Rattle.vr_world.specs.Sectors.{sectors_by}
 use Rattle.vr_world.specs.Steps.{Effect, PutBlock, Setting, Step, Word, ◌⨾◌, after_all, by, quiet, when}
 use Rattle.vr_world.specs.Words as words
 use Rattle.vr_world.proofs.FitSteps.{steps_fit}
@@ -174,11 +174,11 @@ laid_out r h = record {
 
 -- ---- the disks of the program
 
-pub put_face : (f : Face) (name : Name) (block : List ℕ) → IsFace f → sectors.is_block name block ≡ true → IsBytes block → IsFace (sectors.after f (PutBlock name block))
-put_face f name block whole is bytes = let fits = name_fits name block is in face_after_all (put_calls name.address block) f whole (put_are name.address block fits.0 bytes fits.1)
+pub put_face : (v : ℕ) (f : Face) (name : Name) (block : List ℕ) → IsFace f → (sectors_by v).is_block name block ≡ true → IsBytes block → IsFace ((sectors_by v).after f (PutBlock name block))
+put_face v f name block whole is bytes = let fits = name_fits name block is in face_after_all (put_calls name.address block) f whole (put_are name.address block fits.0 bytes fits.1)
 
-pub loaded_bytes : (f : Face) → IsFace f → LoadsBytes sectors f
-loaded_bytes f whole = λ root texts t e. let w = loads_well f root texts t whole e in (w.sessions, w.keys)
+pub loaded_bytes : (v : ℕ) (f : Face) → IsFace f → LoadsBytes (sectors_by v) f
+loaded_bytes v f whole = λ root texts t e. let w = loads_well f root texts t whole e in (w.sessions, w.keys)
 
 pub loaded_still : (v : ℕ) (f : Face) (e : Effect) (root : Name) → SparesGrid e → loaded ((sectors_by v).after f e) root ≡ loaded f root
 loaded_still v f e root h = loaded_same f ((sectors_by v).after f e) (λ address. grid_reads v f e address h) root

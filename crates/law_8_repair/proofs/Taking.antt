@@ -135,7 +135,7 @@ module _ {F : Type 0} (s : Setting F) (Fine : F → Type 0) (store : Stores s Fi
   read_same h e f same is =
       ap (λ (o : Option Whole). option_and_then (λ x. cond (same_header x.header h) (Some x) None) o) is ∙ ap (λ (b : Bool). cond b (Some e) None) (same_header_of e.header h same)
 
-  stored_read : (e : Whole) (again : Bool) (r : Replica) (f g : F) → LacksEntries s r f → Fine f → IsWhole e → e.header.version ≤ 1 → r.checkpoint < e.header.op → e.header.op ≤ r.commit
+  stored_read : (e : Whole) (again : Bool) (r : Replica) (f g : F) → LacksEntries s r f → Fine f → IsWhole e → e.header.version ≤ store.last → r.checkpoint < e.header.op → e.header.op ≤ r.commit
       → ((slot : ℕ) → slot < 64 → s.entry g slot ≡ s.entry (s.after f (Write again e)) slot) → AllRead s (stored e r) g
   stored_read e again r f g lacks fine whole few above within same =
       λ j x a b is.
@@ -177,7 +177,6 @@ module _ {F : Type 0} (s : Setting F) (Fine : F → Type 0) (store : Stores s Fi
       let old = lacks.room in
       record {
         lacks = record {
-          version = c.goes.version ∙ (like.version ∙ lacks.version);
           sound = ((keeps_apply {F = F}).every s q g sound).kept.sound;
           loaded = c.goes.missing ∙ like.missing ∙ lacks.loaded;
           reads = read_on s Fine store q x.replica g (after_all s g x.script) c.goes up (λ slot b. same_entries s Fine store x.script g slot (dry_apply.every s q g) b) reads;
@@ -226,7 +225,7 @@ module _ {F : Type 0} (s : Setting F) (Fine : F → Type 0) (store : Stores s Fi
   after_one f e = refl
 
   -- from the written entry on
-  told_taken : (e : Whole) (r : Replica) (f : F) → LacksEntries s r f → Fine f → IsSound (stored e r) → IsWhole e → e.header.version ≤ 1 → r.checkpoint < e.header.op → e.header.op ≤ r.commit
+  told_taken : (e : Whole) (r : Replica) (f : F) → LacksEntries s r f → Fine f → IsSound (stored e r) → IsWhole e → e.header.version ≤ store.last → r.checkpoint < e.header.op → e.header.op ≤ r.commit
       → let g = after_all s f (writes e r ∷ []) in
       Taken e.header.op r ((resend e ⨾ apply) s (stored e r) g).replica (after_all s g ((resend e ⨾ apply) s (stored e r) g).script)
   told_taken e r f lacks fine sound whole few above within =
@@ -241,7 +240,7 @@ module _ {F : Type 0} (s : Setting F) (Fine : F → Type 0) (store : Stores s Fi
       at_end (Taken e.header.op r) (resend e) apply q g
       (subst (λ (p : Replica). Taken e.header.op r (apply s p g2).replica (after_all s g2 (apply s p g2).script)) (sym (resend_still e q g)) (applied_taken e r f g2 lacks fine2 sound reads above within))
 
-  all_taken : (e : Whole) (r : Replica) (f : F) → LacksEntries s r f → Fine f → IsSound (stored e r) → IsWhole e → e.header.version ≤ 1 → r.checkpoint < e.header.op → e.header.op ≤ r.commit
+  all_taken : (e : Whole) (r : Replica) (f : F) → LacksEntries s r f → Fine f → IsSound (stored e r) → IsWhole e → e.header.version ≤ store.last → r.checkpoint < e.header.op → e.header.op ≤ r.commit
       → let x = (write e ⨾ (resend e ⨾ apply)) s r f in Taken e.header.op r x.replica (after_all s f x.script)
   all_taken e r f lacks fine sound whole few above within =
       at_end (Taken e.header.op r) (write e) (resend e ⨾ apply) r f
@@ -256,10 +255,10 @@ module _ {F : Type 0} (s : Setting F) (Fine : F → Type 0) (store : Stores s Fi
 
   -- ---- the step
 
-  op_taken : (g : GivePrepare) (r : Replica) (f : F) → LacksEntries s r f → Fine f → IsCopy r g.entry.header.op g → r.applied < g.entry.header.op → g.entry.header.op ≤ r.commit
+  op_taken : (g : GivePrepare) (r : Replica) (f : F) → version r ≤ store.last → LacksEntries s r f → Fine f → IsCopy r g.entry.header.op g → r.applied < g.entry.header.op → g.entry.header.op ≤ r.commit
       → is_absent (part_at r g.entry.header.op) ≡ true
       → let x = react (event.Deliver (frame.GivePrepare g)) s r f in Taken g.entry.header.op r x.replica (after_all s f x.script)
-  op_taken g r f lacks fine copy from upto absent =
+  op_taken g r f taken lacks fine copy from upto absent =
       let e : Whole = g.entry in
       let sound = lacks.sound in
       let low = sound.order.applied in
@@ -270,14 +269,15 @@ module _ {F : Type 0} (s : Setting F) (Fine : F → Type 0) (store : Stores s Fi
       let known : is_known e.header e.header.op r ≡ true =
       ap (λ (o : Option Header). option_map_or (λ d. same_header d e.header) o false) copy.named ∙ same_header_of e.header e.header refl in
       let may = may_store_given e r sound above known in
-      let few = subst (λ v. e.header.version ≤ v) lacks.version may.is_entry.of_version in
+      let of_version = may.is_entry.of_version in
+      let few : e.header.version ≤ store.last = omega (arith, of_version, taken) in
       let keeps = kept_stored e r sound may in
       subst (λ (y : Step). Taken e.header.op r y.replica (after_all s f y.script)) (sym (react_is g r f warm rule)) (all_taken e r f lacks fine keeps.sound copy.entry few above upto)
 
-  pub copy_comes : (g : GivePrepare) (k : ℕ) (r : Replica) (f : F) → LacksEntries s r f → Fine f → IsCopy r k g → r.applied < k → k ≤ r.commit → is_absent (part_at r k) ≡ true
+  pub copy_comes : (g : GivePrepare) (k : ℕ) (r : Replica) (f : F) → version r ≤ store.last → LacksEntries s r f → Fine f → IsCopy r k g → r.applied < k → k ≤ r.commit → is_absent (part_at r k) ≡ true
       → let x = react (event.Deliver (frame.GivePrepare g)) s r f in Taken k r x.replica (after_all s f x.script)
-  copy_comes g k r f lacks fine copy =
+  copy_comes g k r f taken lacks fine copy =
       let x = react (event.Deliver (frame.GivePrepare g)) s r f in
       let op : g.entry.header.op ≡ k = (lacks.sound.entries.each k g.entry.header copy.named).1.at_op in
       subst (λ i. IsCopy r i g → r.applied < i → i ≤ r.commit → is_absent (part_at r i) ≡ true → Taken i r x.replica (after_all s f x.script)) op
-      (λ c a b absent. op_taken g r f lacks fine c a b absent) copy
+      (λ c a b absent. op_taken g r f taken lacks fine c a b absent) copy

@@ -14,6 +14,7 @@ use Rattle.vr_world.specs.Rules.{react}
 use Rattle.vr_world.specs.Sound.{IsCaughtUp, IsSound}
 use Rattle.vr_world.specs.Steps.{Setting, after_all}
 use Rattle.vr_world.specs.Words.{entry_of}
+use Rattle.law_8_repair.specs.Latest.{latest}
 
 -- the ops that are committed and not applied, whose entry is known and not here, in order
 unfoldable pub absent_ops : Replica → List ℕ
@@ -38,18 +39,18 @@ after_copies s (g ∷ gs) r f =
 abbrev pub AllRead : {F : Type 0} → Setting F → Replica → F → Type 0
 AllRead s r f = (k : ℕ) (h : Header) → r.applied < k → k ≤ r.commit → part_at r k ≡ Here h → (e : Whole) × (entry_of h s f ≡ Some e)
 
--- On a file of version 1, it lacks nothing but entries, and neither views nor sequence numbers end: each op that is applied saves at most once.
+-- It lacks nothing but entries, and neither views nor sequence numbers end: each op that is applied saves at most once.
 pub record LacksEntries {F : Type 0} (s : Setting F) (r : Replica) (f : F) : Type 0 where
-  pub version : version r ≡ 1
   pub sound : IsSound r
   pub loaded : r.missing ≡ []
   pub reads : AllRead s r f
   pub views : r.view ≤ last_view
   pub room : r.saved.fields.sequence + (r.commit - r.applied) ≤ 2 ^ 64 - 256
 
--- On sectors of the program: where a copy comes of each op that it lacks, it has then applied all that was committed.
-abbrev pub CopiesComplete : {F : Type 0} → Setting F → (F → Face) → Type 0
-CopiesComplete s face =
-    (r : Replica) (f : _) (copy : ℕ → GivePrepare) → IsFace (face f) → LacksEntries s r f → IsCaughtUp r
+-- On sectors of the program, of a file that takes what the replica writes: where a copy comes of each op that it lacks, it has then applied all
+-- that was committed.
+abbrev pub CopiesComplete : {F : Type 0} → Setting F → (F → Face) → (F → ℕ) → Type 0
+CopiesComplete s face file =
+    (r : Replica) (f : _) (copy : ℕ → GivePrepare) → IsFace (face f) → version r ≤ latest (file f) → LacksEntries s r f → IsCaughtUp r
     → ((k : ℕ) → r.applied < k → k ≤ r.commit → is_absent (part_at r k) ≡ true → IsCopy r k (copy k))
     → r.commit ≤ (after_copies s (map copy (absent_ops r)) r f).applied

@@ -15,6 +15,7 @@ use Rattle.vr_world.specs.Rules.{react}
 use Rattle.vr_world.specs.Sound.{IsSavable, IsSound}
 use Rattle.vr_world.specs.Steps.{Setting, after_all}
 use Rattle.vr_world.specs.Words.{blocks_of, entry_of, places}
+use Rattle.law_8_repair.specs.Latest.{latest}
 use Rattle.law_8_repair.specs.Visits.{after_events}
 
 -- no two of these blocks stand at one address, and each stands in the grid
@@ -50,10 +51,10 @@ pub record KnowsFaults {F : Type 0} (s : Setting F) (face : F → Face) (r : Rep
   -- each block of the checkpoint reads, or has gone bad
   pub blocks : (name : Name) → Contains (blocks_of r) name → ((block : List ℕ) × (s.block f name ≡ Some block)) ⊎ Contains r.worn name
 
--- On sectors of the program, of a file of version 1: after events, one after the other with no fault between, in which the checkpoint stayed and at
--- least as many visits were made as there are places.
-abbrev pub VisitsCover : {F : Type 0} → Setting F → (F → Face) → Type 0
-VisitsCover s face =
-    (es : List Event) (r : Replica) (f : _) → IsFace (face f) → version r ≡ 1 → IsSound r → IsSavable r → IsLaidOut r → All IsEvent es
+-- On sectors of the program, of a file that takes what the replica writes: after events, one after the other with no fault between, in which the
+-- checkpoint stayed and at least as many visits were made as there are places.
+abbrev pub VisitsCover : {F : Type 0} → Setting F → (F → Face) → (F → ℕ) → Type 0
+VisitsCover s face file =
+    (es : List Event) (r : Replica) (f : _) → IsFace (face f) → version r ≤ latest (file f) → IsSound r → IsSavable r → IsLaidOut r → All IsEvent es
     → let end = after_events s es r f in
     end.replica.checkpoint ≡ r.checkpoint → places end.replica ≤ visits_made s es r f → KnowsFaults s face end.replica end.disk

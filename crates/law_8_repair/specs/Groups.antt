@@ -1,6 +1,7 @@
 -- In a run of a group each running replica has applied all that it can.
 use Rattle.std.specs.Prelude.{ℕ, ◌^◌, ◌<◌, ◌≤◌, ◌≡◌, List, All, slice_get, Some}
 use Rattle.vr_base.specs.declared.kind.Kind.{Kind}
+use Rattle.vr_world.specs.Opening.{AreKinds}
 use Rattle.vr_world.specs.Group.{Group, Member, Played, Run, fresh_group}
 use Rattle.vr_world.specs.GroupFit.{IsFitMove}
 use Rattle.vr_world.specs.Replica.{Replica}
@@ -12,5 +13,5 @@ AllKeepUp g = (at : ℕ) (m : Member) (r : Replica) → slice_get g.members at �
 -- each move of a run of a fresh group leaves them so, whatever is delivered, cut, stopped, started and read
 abbrev pub GroupsKeepUp : Type 0
 GroupsKeepUp =
-    (kinds : ℕ → Kind) (cluster n : ℕ) (run : List Played) → cluster < 2 ^ 64 → 2 ≤ n → n ≤ 6 → All (λ p. IsFitMove p.move) run → Run (fresh_group kinds cluster n) run
+    (kinds : ℕ → Kind) (cluster n : ℕ) (run : List Played) → AreKinds kinds n → cluster < 2 ^ 64 → 2 ≤ n → n ≤ 6 → All (λ p. IsFitMove p.move) run → Run (fresh_group kinds cluster n) run
     → All (λ p. AllKeepUp p.before × AllKeepUp p.moved.group) run

@@ -1,4 +1,5 @@
 pub mod CaughtUp
+pub mod Latest
 pub mod Completing
 pub mod Groups
 pub mod Blocks

@@ -1,5 +1,5 @@
 -- Visits find the entries that don't read.
-use Rattle.std.specs.Prelude.{ℕ, ◌+◌, ◌%◌, ◌<◌, ◌≡◌, ◌==◌, ◌&&◌, ◌||◌, not, Bool, true, List, [], ◌∷◌, All, Some}
+use Rattle.std.specs.Prelude.{ℕ, ◌+◌, ◌%◌, ◌<◌, ◌≤◌, ◌≡◌, ◌==◌, ◌&&◌, ◌||◌, not, Bool, true, List, [], ◌∷◌, All, Some}
 use Rattle.vr_disk.specs.DiskState.{Face, IsFace}
 use Rattle.vr_header.specs.declared.header.Header.{Header}
 use Rattle.vr_header.specs.declared.part.Part.TheVariants.{Here}
@@ -11,6 +11,7 @@ use Rattle.vr_world.specs.Rules.{react}
 use Rattle.vr_world.specs.Sound.{IsSound}
 use Rattle.vr_world.specs.Steps.{Setting, after_all}
 use Rattle.vr_world.specs.Words.{entry_of}
+use Rattle.law_8_repair.specs.Latest.{latest}
 
 -- of the ops above the checkpoint whose slots were seen, each entry that is here reads
 abbrev pub AreRead : {F : Type 0} → Setting F → (ℕ → Bool) → Replica → F → Type 0
@@ -37,8 +38,8 @@ seen_after s (e ∷ es) seen r f =
     seen_after s es (λ slot. seen slot || visited r x.replica slot) x.replica (after_all s f x.script)
 
 -- Each entry of the window that is here, and whose slot was visited, reads: one that doesn't was found lost. On sectors of the program,
--- of a file of version 1, whatever comes and whatever the replica does.
-abbrev pub VisitsFind : {F : Type 0} → Setting F → (F → Face) → Type 0
-VisitsFind s face =
-    (es : List Event) (seen : ℕ → Bool) (r : Replica) (f : _) → IsFace (face f) → version r ≡ 1 → IsSound r → All IsEvent es → AreRead s seen r f
+-- of a file that takes what the replica writes, whatever comes and whatever the replica does.
+abbrev pub VisitsFind : {F : Type 0} → Setting F → (F → Face) → (F → ℕ) → Type 0
+VisitsFind s face file =
+    (es : List Event) (seen : ℕ → Bool) (r : Replica) (f : _) → IsFace (face f) → version r ≤ latest (file f) → IsSound r → All IsEvent es → AreRead s seen r f
     → AreRead s (seen_after s es seen r f) (after_events s es r f).replica (after_events s es r f).disk

@@ -2,6 +2,7 @@
 //! of which each ask sends for one while there is some. Each function is a law: its contract is the statement, and it does nothing.
 #![tactic(auto)]
 
+ghost use Rattle.std.specs.Prelude.{ℕ};
 ghost use Rattle.law_8_repair.specs.Asks.{ShortReplicasAsk, TicksAsk};
 ghost use Rattle.law_8_repair.specs.Blocks.{BlocksMend};
 ghost use Rattle.law_8_repair.specs.CaughtUp.{FreshKeepUp, OpeningsKeepUp, StepsKeepUp};
@@ -12,7 +13,7 @@ ghost use Rattle.law_8_repair.specs.Groups.{GroupsKeepUp};
 ghost use Rattle.law_8_repair.specs.Places.{PlacesStay};
 ghost use Rattle.law_8_repair.specs.Turns.{VisitsTurn};
 ghost use Rattle.law_8_repair.specs.Visits.{VisitsFind};
-ghost use Rattle.vr_world.specs.Sectors.{sectors};
+ghost use Rattle.vr_world.specs.Sectors.{sectors_by};
 ghost use Rattle.vr_world.specs.Lying.{lying};
 
 /// After each step of a sound replica that had applied all that it could it has done so again, whatever reads.
@@ -37,24 +38,25 @@ pub fn groups_keep_up()
 {}
 
 /// A sound replica that has its checkpoint, has applied all that it can, and whose stored entries up to its commit number all read: once
-/// another member has given it, in order, the entry of each op up to there that it lacks, it has applied all that was committed.
+/// another member has given it, in order, the entry of each op up to there that it lacks, it has applied all that was committed. So it is in
+/// each file that takes entries of the replica's version.
 pub fn copies_complete()
-    ensures sectors { CopiesComplete sectors (λ f. f) }
-    ensures lying { CopiesComplete lying (λ d. d.face) }
+    ensures sectors { (v : ℕ) → CopiesComplete (sectors_by v) (λ f. f) (λ f. v) }
+    ensures lying { CopiesComplete lying (λ d. d.face) (λ d. d.version) }
 {}
 
 /// A block of the checkpoint that has gone bad, where no block is missing and the replica isn't frozen: where another member gives the bytes of
 /// that block, it reads as they are, and no block of its address is bad any more. Nothing else of the replica changes.
 pub fn blocks_mend()
-    ensures sectors { BlocksMend sectors (λ f. f) }
+    ensures sectors { (v : ℕ) → BlocksMend (sectors_by v) (λ f. f) }
     ensures lying { BlocksMend lying (λ d. d.face) }
 {}
 
 /// Of the ops above the checkpoint whose slots were visited, each entry that is here reads: one that doesn't was found lost. So it is after
-/// every list of events of a sound replica, with no fault of its disk between them.
+/// every list of events of a sound replica, with no fault of its disk between them, in each file that takes entries of the replica's version.
 pub fn visits_find()
-    ensures sectors { VisitsFind sectors (λ f. f) }
-    ensures lying { VisitsFind lying (λ d. d.face) }
+    ensures sectors { (v : ℕ) → VisitsFind (sectors_by v) (λ f. f) (λ f. v) }
+    ensures lying { VisitsFind lying (λ d. d.face) (λ d. d.version) }
 {}
 
 /// While a sound replica misses a block, lacks an entry above its checkpoint whose header it knows, or knows a block that has gone bad, each
@@ -78,17 +80,17 @@ pub fn visits_turn<F>()
 /// After every list of events of a sound replica, with no fault of its disk between them, in which its checkpoint stayed and at least as many
 /// visits were made as there are places: of each op above the checkpoint whose header is known the entry reads, or it is lost or wanted; each copy
 /// of the superblock reads as the value that was saved last; each block of the checkpoint reads, or has gone bad. And while there is such an entry
-/// or block each later ask sends for one, as `short_replicas_ask` says.
+/// or block each later ask sends for one, as `short_replicas_ask` says. So it is in each file that takes entries of the replica's version.
 pub fn visits_cover()
-    ensures sectors { VisitsCover sectors (λ f. f) }
-    ensures lying { VisitsCover lying (λ d. d.face) }
+    ensures sectors { (v : ℕ) → VisitsCover (sectors_by v) (λ f. f) (λ f. v) }
+    ensures lying { VisitsCover lying (λ d. d.face) (λ d. d.version) }
 {}
 
 /// What `visits_cover` asks of a replica beside. While its checkpoint stays each step of a sound replica keeps this: its blocks stand apart, those
 /// that have gone bad are among them, and none is known as bad while one is missing. The blocks of each checkpoint that loads stand in the
 /// grid, no two at one address.
 pub fn layouts_stay()
-    ensures sectors { LaysOut sectors }
+    ensures sectors { (v : ℕ) → LaysOut (sectors_by v) }
     ensures lying { LaysOut lying }
 {}
 
@@ -96,13 +98,13 @@ pub fn layouts_stay()
 /// them: in a new group, after each opening from a value that makes a good copy, and after each step of a fit replica of which it was so,
 /// whatever comes, where disks and blocks consist of bytes. Nothing is said of a replica whose sequence numbers are at their end.
 pub fn places_stay()
-    ensures sectors { PlacesStay sectors (λ f. f) }
+    ensures sectors { (v : ℕ) → PlacesStay (sectors_by v) (λ f. f) }
     ensures lying { PlacesStay lying (λ d. d.face) }
 {}
 
 /// So what `visits_cover` says holds of each running replica, from any sectors of bytes that may lie, before and after each move of every run
 /// of a group of 2 to 6 replicas that was just made. Nothing is asked of the replica; of the run, that its moves read what the program has,
-/// from disks of bytes.
+/// from disks of bytes; and of the sectors, that their file takes entries of the replica's version.
 pub fn groups_cover()
     ensures { GroupsCover }
 {}

@@ -31,6 +31,7 @@ use Rattle.vr_trial.proofs.Texts.{key_text, value_fits}
 use Rattle.law_1_machine.specs.Basics.{In}
 use Rattle.law_7_members.specs.Files.{ActBy}
 use Rattle.vr_world.specs.Lying.{Lying}
+use Rattle.vr_world.specs.Opening.{AreKinds}
 use Rattle.vr_world.specs.World.{Host}
 use Rattle.law_7_members.specs.Whole.{KeepOneLog}
 use Rattle.law_7_members.proofs.Whole.{runs_keep_one_log}
@@ -81,7 +82,7 @@ fine_fits version (question.Get key) h = key_text key h
 
 -- ---- what was heard
 
-module _ (kinds : ℕ → Kind) (cluster n : ℕ) (hosts : ℕ → Host Lying) (xs : List ActBy) (number : cluster < 2 ^ 64) (few : 2 ≤ n) (many : n ≤ 6) (k : KeepOneLog kinds cluster n hosts xs) (own : List RequestFields) (never : NoCollision (IsNamed xs own)) where
+module _ (kinds : ℕ → Kind) (cluster n : ℕ) (hosts : ℕ → Host Lying) (xs : List ActBy) (are : AreKinds kinds n) (number : cluster < 2 ^ 64) (few : 2 ≤ n) (many : n ≤ 6) (k : KeepOneLog kinds cluster n hosts xs) (own : List RequestFields) (never : NoCollision (IsNamed xs own)) where
   abbrev IsIts : Heard → Type 0
   IsIts t = IsOfLog cluster n xs k.log.safe.log k.log.matched.run t
 
@@ -96,7 +97,7 @@ module _ (kinds : ℕ → Kind) (cluster n : ℕ) (hosts : ℕ → Host Lying) (
     good_heard : (i : ℕ) (o : Operation) (s s' : Stand) (a : Answer) (h : Answers c i o s s' a) → i < 2 ^ 32 → Begins o i → IsOperation c.version o → IsGood (heard c i o s s' a h)
     good_heard i o s s' a h small first fits put mine =
         let asked : IsAsked (request_of c i o) = record { form = record { first = first; fits = fits }; client = is.id; request = small; version = is.version } in
-        is_of_log kinds cluster n hosts xs number few many k own never (heard c i o s s' a h) asked is.cluster mine (ask_given xs c i o s s' a h put)
+        is_of_log kinds cluster n hosts xs are number few many k own never (heard c i o s s' a h) asked is.cluster mine (ask_given xs c i o s s' a h put)
 
     good_last : (i : ℕ) (o : Operation) (s s' : Stand) (b m : ask.Faults) (z : Status) (h : EndsWith c i o s s' b m z) → i < 2 ^ 32 → Begins o i → IsOperation c.version o → AreGood (heard_last c i o s s' b m z h)
     good_last i o s s' b m status.WriteFault h small first fits = (good_heard i o s s' h.1.answer h.1.asked small first fits, tt)
@@ -207,19 +208,19 @@ each_its P Q R S f [] h k l = tt
 each_its P Q R S f (t ∷ ts) h k l = (f t h.0 k.0 l.0, each_its P Q R S f ts h.1 k.1 l.1)
 
 pub runs_answer : RunsAnswerByOneLog
-runs_answer kinds cluster n hosts xs number few many short r never =
-    let k : KeepOneLog kinds cluster n hosts xs = runs_keep_one_log kinds cluster n hosts xs number few many short r never in
+runs_answer kinds cluster n hosts xs are number few many short r never =
+    let k : KeepOneLog kinds cluster n hosts xs = runs_keep_one_log kinds cluster n hosts xs are number few many short r never in
     record {
       one = k;
       clients = λ c peers o o' b m z h is may.
           let ts = heard_client c peers o o' b m z h in
           let own = map (λ (t : Heard). t.request) ts in
-          each_its (IsGood kinds cluster n hosts xs number few many k own may.names c is) (λ (t : Heard). AllByRecursion (IsPutOut xs c.version c.cluster) t.received) (λ (t : Heard). In t.request own) (IsIts kinds cluster n hosts xs number few many k own may.names)
-          (λ t good put mine. good put mine) ts (good_client kinds cluster n hosts xs number few many k own may.names c is peers o o' b m z h) may.carried (their_own ts);
+          each_its (IsGood kinds cluster n hosts xs are number few many k own may.names c is) (λ (t : Heard). AllByRecursion (IsPutOut xs c.version c.cluster) t.received) (λ (t : Heard). In t.request own) (IsIts kinds cluster n hosts xs are number few many k own may.names)
+          (λ t good put mine. good put mine) ts (good_client kinds cluster n hosts xs are number few many k own may.names c is peers o o' b m z h) may.carried (their_own ts);
       trials = λ t o o' b m z h is may.
           let c : Client = t.client in
           let ts = heard_trial t o o' b m z h in
           let own = map (λ (t : Heard). t.request) ts in
-          each_its (IsGood kinds cluster n hosts xs number few many k own may.names c is) (λ (t : Heard). AllByRecursion (IsPutOut xs c.version c.cluster) t.received) (λ (t : Heard). In t.request own) (IsIts kinds cluster n hosts xs number few many k own may.names)
-          (λ t good put mine. good put mine) ts (well_trial kinds cluster n hosts xs number few many k own may.names t is o o' b m z h) may.carried (their_own ts);
+          each_its (IsGood kinds cluster n hosts xs are number few many k own may.names c is) (λ (t : Heard). AllByRecursion (IsPutOut xs c.version c.cluster) t.received) (λ (t : Heard). In t.request own) (IsIts kinds cluster n hosts xs are number few many k own may.names)
+          (λ t good put mine. good put mine) ts (well_trial kinds cluster n hosts xs are number few many k own may.names t is o o' b m z h) may.carried (their_own ts);
     }

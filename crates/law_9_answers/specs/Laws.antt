@@ -6,6 +6,7 @@ use Rattle.vr_ask.specs.Asking.{Client}
 use Rattle.vr_ask.specs.Run as client
 use Rattle.vr_ask.specs.Run.{ClientEnds}
 use Rattle.vr_base.specs.declared.kind.Kind.{Kind}
+use Rattle.vr_world.specs.Opening.{AreKinds}
 use Rattle.vr_client.specs.declared.answer.Answer.{Answer}
 use Rattle.vr_edge.specs.Datagrams.{Came}
 use Rattle.vr_edge.specs.Told.{AppendsFront}
@@ -77,5 +78,5 @@ pub record AnswerByOneLog (kinds : ℕ → Kind) (cluster n : ℕ) (first : ℕ 
 -- so do whole runs of the members' programs, interleaved, as they keep one log
 abbrev pub RunsAnswerByOneLog : Type 0
 RunsAnswerByOneLog =
-    (kinds : ℕ → Kind) (cluster n : ℕ) (first : ℕ → Host Lying) (xs : List ActBy) → cluster < 2 ^ 64 → 2 ≤ n → n ≤ 6 → length xs < 2 ^ 46 → AreRuns kinds cluster n first xs → NoCollision (IsHashedOf cluster (world_of first n) (all_lines xs))
+    (kinds : ℕ → Kind) (cluster n : ℕ) (first : ℕ → Host Lying) (xs : List ActBy) → AreKinds kinds n → cluster < 2 ^ 64 → 2 ≤ n → n ≤ 6 → length xs < 2 ^ 46 → AreRuns kinds cluster n first xs → NoCollision (IsHashedOf cluster (world_of first n) (all_lines xs))
     → AnswerByOneLog kinds cluster n first xs

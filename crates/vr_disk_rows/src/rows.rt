@@ -5,7 +5,7 @@ use crate::act::Act;
 use crate::bench::Bench;
 use crate::{blocks, checkpoints, lying, slots, superblocks};
 use std::alloc::{AllocError, Global};
-use vr_base::{ByteList, NoMemory, Seq};
+use vr_base::{ByteList, NoMemory, Seq, Version};
 use vr_lie::LieDisk;
 
 /// Does what a line says, and tells what it comes to.
@@ -68,7 +68,7 @@ fn tell_beside(
     lines: &str,
     to: &mut ByteList,
 ) -> Result<(), NoMemory> {
-    let mut disk = LieDisk::new(alloc)?;
+    let mut disk = LieDisk::new(alloc, Version::new(1))?;
     let told = tell_acts(alloc, bench, &mut disk, lines, to);
     drop(disk);
     told

@@ -3,10 +3,14 @@ use Rattle.std.specs.Prelude.{ℕ, ◌+◌, ◌-◌, ◌%◌, ◌==◌, min, nat
 use Rattle.std.specs.Fmt.{decimal}
 use Rattle.vr_header.specs.declared.operation.Operation.{Operation}
 use Rattle.vr_header.specs.declared.operation.Operation.TheVariants as operation
-use Rattle.vr_lines.specs.Versions.{line_sectors, schedule_version}
+use Rattle.vr_lines.specs.Versions.{line_sectors}
 use Rattle.vr_lines.specs.declared.line.Line.{Line}
 use Rattle.vr_lines.specs.declared.line.Line.TheVariants as line
 use Rattle.vr_draws.specs.Draws.{Drawn, after_draws, draw}
+
+-- the lines that are drawn are of this version
+abbrev pub drawn_version : ℕ
+drawn_version = 1
 
 -- how many replicas a group has
 abbrev pub drawn_size : ℕ → Drawn ℕ
@@ -31,7 +35,7 @@ drawn_asking number x = if number == 0 then record { value = operation.Register;
 
 abbrev pub request : ℕ → ℕ → ℕ → Drawn Operation → Drawn Line
 request replica client number asked = record {
-  value = line.Request replica (record { version = schedule_version; cluster = 0; client = client; request = number; operation = asked.value });
+  value = line.Request replica (record { version = drawn_version; cluster = 0; client = client; request = number; operation = asked.value });
   number = asked.number;
 }
 
@@ -54,7 +58,7 @@ at_replica n x make = record { value = make (draw x 1 % n); number = after_draws
 
 -- a replica and a sector of its disk that lines speak of, by two draws
 abbrev pub at_sector : ℕ → ℕ → (ℕ → ℕ → Line) → Drawn Line
-at_sector n x make = record { value = make (draw x 1 % n) (draw x 2 % line_sectors schedule_version); number = after_draws x 2 }
+at_sector n x make = record { value = make (draw x 1 % n) (draw x 2 % line_sectors drawn_version); number = after_draws x 2 }
 
 -- A line by its kind, of 64, for a group that has so many replicas and messages, and whose clients' next requests have these numbers.
 unfoldable pub drawn_kind : ℕ → ℕ → List ℕ → ℕ → ℕ → Drawn Line

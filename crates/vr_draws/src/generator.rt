@@ -1,19 +1,27 @@
 //! The generator of lines.
 ghost use Rattle.std.specs.Prelude.{◌≡◌, ◌↔◌, ◌%◌, ◌<◌, ◌≤◌, ℕ, List, IfOk, OnOk};
 ghost use Rattle.vr_draws.specs.Draws.{draw, next_number};
-ghost use Rattle.vr_draws.specs.Drawn.{at_replica, at_sector, drawn_asking, drawn_delivery, drawn_kind, drawn_line, drawn_operation, drawn_request, drawn_size};
+ghost use Rattle.vr_draws.specs.Drawn.{at_replica, at_sector, drawn_asking, drawn_delivery, drawn_kind, drawn_line, drawn_operation, drawn_request, drawn_size, drawn_version};
 ghost use Rattle.vr_header.specs.Bodies.{IsOperation};
 ghost use Rattle.vr_header.specs.declared.operation.Operation.TheVariants as operation;
 ghost use Rattle.vr_lines.specs.Fits.{IsLineOf, IsSector};
-ghost use Rattle.vr_lines.specs.Versions.{line_sectors, schedule_version};
+ghost use Rattle.vr_lines.specs.Versions.{line_sectors};
 
 use crate::Requests;
 use crate::operation::{key_of, value_of};
 use std::alloc::{AllocError, Global};
 use std::cmp::min;
+use vr_base::Version;
 use vr_header::Operation;
-use vr_lines::{Line, line_sectors, schedule_version};
+use vr_lines::{Line, line_sectors};
 use vr_msg::{Request, RequestFields};
+
+/// The version of the lines that are drawn.
+fn drawn_version() -> Version
+    ensures { result ≡ drawn_version }
+{
+    Version::new(1)
+}
 
 /// Draws numbers from a number, and makes the lines of a schedule of them.
 #[derive(Debug, Drop)]
@@ -94,7 +102,7 @@ impl Generator {
         ensures value { IfOk result (λ o. o ≡ (drawn_asking number self.old.number).value) }
         ensures number { OnOk result (self.new.number ≡ (drawn_asking number self.old.number).number) }
         ensures first { IfOk result (λ o. (o ≡ operation.Register) ↔ (number ≡ 0)) }
-        ensures fits { IfOk result (λ o. IsOperation schedule_version o) }
+        ensures fits { IfOk result (λ o. IsOperation drawn_version o) }
     {
         if number == 0 {
             return Ok(Operation::Register);
@@ -108,14 +116,14 @@ impl Generator {
         requires { 0 < n }
         ensures line { IfOk result (λ l. l ≡ (drawn_request n requests.now self.old.number).value) }
         ensures number { OnOk result (self.new.number ≡ (drawn_request n requests.now self.old.number).number) }
-        ensures fits { IfOk result (λ l. IsLineOf n l) }
+        ensures fits { IfOk result (λ l. IsLineOf drawn_version n l) }
     {
         let replica = self.draw_below(u64::from(n)) as u8;
         let client = self.draw_below(4);
         let number = requests.get(client as usize);
         let operation = self.asking(alloc, number)?;
         let request = Request::new(RequestFields {
-            version: schedule_version(),
+            version: drawn_version(),
             cluster: 0,
             client: 1 + client,
             request: number,
@@ -129,7 +137,7 @@ impl Generator {
     fn delivery(&mut self, messages: usize) -> Line
         ensures line { result ≡ (drawn_delivery messages self.old.number).value }
         ensures number { self.new.number ≡ (drawn_delivery messages self.old.number).number }
-        ensures fits { (n : ℕ) → 0 < n → IsLineOf n result }
+        ensures fits { (n : ℕ) → 0 < n → IsLineOf drawn_version n result }
     {
         let count = messages as u64;
         if count == 0 {
@@ -149,13 +157,13 @@ impl Generator {
         self.draw_below(u64::from(n)) as u8
     }
 
-    /// A sector that lines speak of.
+    /// A sector that lines of that version speak of.
     fn sector(&mut self) -> u32
-        ensures sector { result ≡ draw self.old.number 1 % line_sectors schedule_version }
+        ensures sector { result ≡ draw self.old.number 1 % line_sectors drawn_version }
         ensures number { self.new.number ≡ next_number self.old.number }
-        ensures least { IsSector result }
+        ensures least { IsSector drawn_version result }
     {
-        self.draw_below(u64::from(line_sectors(schedule_version()))) as u32
+        self.draw_below(u64::from(line_sectors(drawn_version()))) as u32
     }
 
     /// A line of a fault, by its kind.
@@ -165,7 +173,7 @@ impl Generator {
         requires kind { (61 ≤ kind) × (kind < 64) }
         ensures line { (messages : ℕ) (next : List ℕ) → result ≡ (drawn_kind n messages next kind self.old.number).value }
         ensures number { (messages : ℕ) (next : List ℕ) → self.new.number ≡ (drawn_kind n messages next kind self.old.number).number }
-        ensures fits { IsLineOf n result }
+        ensures fits { IsLineOf drawn_version n result }
     {
         let replica = self.replica(n);
         let sector = self.sector();
@@ -192,7 +200,7 @@ impl Generator {
         requires kind { kind < 64 }
         ensures line { IfOk result (λ l. l ≡ (drawn_kind n messages requests.now kind self.old.number).value) }
         ensures number { OnOk result (self.new.number ≡ (drawn_kind n messages requests.now kind self.old.number).number) }
-        ensures fits { IfOk result (λ l. IsLineOf n l) }
+        ensures fits { IfOk result (λ l. IsLineOf drawn_version n l) }
     {
         match kind {
             0..=9 => self.request(alloc, n, requests),
@@ -217,7 +225,7 @@ impl Generator {
         requires { 0 < n }
         ensures line { IfOk result (λ l. l ≡ (drawn_line n messages requests.now self.old.number).value) }
         ensures number { OnOk result (self.new.number ≡ (drawn_line n messages requests.now self.old.number).number) }
-        ensures fits { IfOk result (λ l. IsLineOf n l) }
+        ensures fits { IfOk result (λ l. IsLineOf drawn_version n l) }
     {
         let kind = self.draw_below(64);
         self.line_of(alloc, n, messages, requests, kind)

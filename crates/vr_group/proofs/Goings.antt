@@ -69,18 +69,18 @@ grows_delivered : (w : World Lying) (o : Option Sent) → Grows w (delivered haz
 grows_delivered w None = grows_nothing w
 grows_delivered w (Some s) = grows_at w s.to _
 
-pub grows_one : (w : World Lying) (l : Line) → 0 < w.n → IsLineOf w.n l → Grows w (happens hazards w (happening l))
-grows_one w (line.Cluster n mode) g of = absurd (let z : w.n ≡ 0 = of.0 in omega arith)
-grows_one w (line.Request replica request) g of = grows_at w replica _
-grows_one w (line.Deliver number) g of = grows_delivered w _
-grows_one w (line.Tick replica) g of = grows_at w replica _
-grows_one w (line.Stop replica) g of = grows_at w replica _
-grows_one w (line.Start replica) g of = grows_at w replica _
-grows_one w (line.Fuse replica call code) g of = grows_at w replica _
-grows_one w (line.Damage replica sector) g of = grows_at w replica _
-grows_one w (line.Stale replica sector) g of = grows_at w replica _
-grows_one w (line.Unread replica sector) g of = grows_at w replica _
-grows_one w (line.Misdirect replica sector other) g of = grows_at w replica _
+pub grows_one : (version : ℕ) (w : World Lying) (l : Line) → 0 < w.n → IsLineOf version w.n l → Grows w (happens hazards w (happening l))
+grows_one version w (line.Cluster n kind) g of = absurd (let z : w.n ≡ 0 = of.0 in omega arith)
+grows_one version w (line.Request replica request) g of = grows_at w replica _
+grows_one version w (line.Deliver number) g of = grows_delivered w _
+grows_one version w (line.Tick replica) g of = grows_at w replica _
+grows_one version w (line.Stop replica) g of = grows_at w replica _
+grows_one version w (line.Start replica) g of = grows_at w replica _
+grows_one version w (line.Fuse replica call code) g of = grows_at w replica _
+grows_one version w (line.Damage replica sector) g of = grows_at w replica _
+grows_one version w (line.Stale replica sector) g of = grows_at w replica _
+grows_one version w (line.Unread replica sector) g of = grows_at w replica _
+grows_one version w (line.Misdirect replica sector other) g of = grows_at w replica _
 
 pub happen_one : (w : World Lying) (x : Happening) → happen hazards w (x ∷ []) ≡ happens hazards w x
 unfolding happen
@@ -104,17 +104,17 @@ all_at P (x ∷ xs) zero d a l = a.0
 all_at P (x ∷ xs) (suc i) d a l = all_at P xs i d a.1 (omega arith)
 
 -- the next is a line of the group
-pub going_fits : (lines : List Line) (i : ℕ) (l : Line) (first now : World Lying) (before to : Outputs) → AreLinesOf first.n lines → Going i lines first now before to → i < length lines → l ≡ get_or lines i l → IsLineOf now.n l
+pub going_fits : (version : ℕ) (lines : List Line) (i : ℕ) (l : Line) (first now : World Lying) (before to : Outputs) → AreLinesOf version first.n lines → Going i lines first now before to → i < length lines → l ≡ get_or lines i l → IsLineOf version now.n l
 unfolding AreLinesOf
-going_fits lines i l first now before to a g m is = subst (λ (n : ℕ). IsLineOf n l) (sym g.size) (subst (IsLineOf first.n) (sym is) (all_at (IsLineOf first.n) lines i l a m))
+going_fits version lines i l first now before to a g m is = subst (λ (n : ℕ). IsLineOf version n l) (sym g.size) (subst (IsLineOf version first.n) (sym is) (all_at (IsLineOf version first.n) lines i l a m))
 
 happenings_next : (lines : List Line) (i : ℕ) (d : Line) → i < length lines → happenings (take (i + 1) lines) ≡ happenings (take i lines) ++ happening (get_or lines i d) ∷ []
 unfolding happenings
 happenings_next lines i d h = rw (take_more lines i d h) (map-append happening (take i lines) (get_or lines i d ∷ []))
 
-pub going_more : (lines : List Line) (i : ℕ) (l : Line) (first now next : World Lying) (before to to_next : Outputs) → 0 < first.n → AreLinesOf first.n lines → i < length lines → l ≡ get_or lines i l
+pub going_more : (version : ℕ) (lines : List Line) (i : ℕ) (l : Line) (first now next : World Lying) (before to to_next : Outputs) → 0 < first.n → AreLinesOf version first.n lines → i < length lines → l ≡ get_or lines i l
     → Going i lines first now before to → HasHappened (happens hazards now (happening l)) now next to to_next → Going (i + 1) lines first next before to_next
-going_more lines i l first now next before to to_next group a m is g h =
+going_more version lines i l first now next before to to_next group a m is g h =
     let xs = happenings (take i lines) in
     let ys = happening l ∷ [] in
     let x = happen hazards first xs in
@@ -124,7 +124,7 @@ going_more lines i l first now next before to to_next group a m is g h =
     let next_is : xs ++ ys ≡ happenings (take (i + 1) lines) = ap (λ z. xs ++ happening z ∷ []) is ∙ sym (happenings_next lines i l m) in
     let outs : (happen hazards first (xs ++ ys)).outputs ≡ x.outputs ++ y.outputs = all.outputs ∙ ap (λ (h : Happened Lying). x.outputs ++ h.outputs) one in
     let size = g.size in
-    let grows = grows_one now l (omega (arith, size, group)) (going_fits lines i l first now before to a g m is) in
+    let grows = grows_one version now l (omega (arith, size, group)) (going_fits version lines i l first now before to a g m is) in
     let put : numbered (length first.sent) (x.outputs ++ y.outputs) ≡ numbered (length first.sent) x.outputs ++ numbered (length now.sent) y.outputs =
     numbered_append (length first.sent) x.outputs y.outputs ∙ ap (λ k. numbered (length first.sent) x.outputs ++ numbered k y.outputs) (sym g.sent) in
     let sent : length next.sent ≡ length first.sent + length (messages (x.outputs ++ y.outputs)) =

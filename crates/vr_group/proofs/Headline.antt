@@ -8,6 +8,7 @@ use Rattle.vr_lines.specs.declared.line.Line.{Line}
 use Rattle.vr_lines.specs.declared.line.Line.TheVariants as line
 use Rattle.vr_lying.specs.Lying.{Lying, hazards}
 use Rattle.vr_lying.specs.World.{World, fresh_world, happen}
+use Rattle.vr_replica.specs.Opening.{IsKind}
 use Rattle.law_4_disks.specs.Worlds.{IsLine}
 use Rattle.law_6_one_log.proofs.Fresh.{schedules_are_runs}
 use Rattle.law_6_one_log.proofs.Known.{one_log}
@@ -16,30 +17,30 @@ use Rattle.vr_group.specs.Headline.{HasAsked, HaveAsked, IsJustMade, LinesKeepOn
 use Rattle.vr_group.specs.Lines.{AreLinesOf, happening, happenings}
 use Rattle.vr_group.proofs.Sectors.{on_disk}
 
-line_of : (n : ℕ) (l : Line) → 0 < n → IsLineOf n l → HasAsked l → IsLine (happening l)
-line_of n (line.Cluster m mode) some of asked = absurd (let z : n ≡ 0 = of.0 in omega (arith, some))
-line_of n (line.Request replica request) some of asked = asked
-line_of n (line.Deliver number) some of asked = tt
-line_of n (line.Tick replica) some of asked = tt
-line_of n (line.Stop replica) some of asked = tt
-line_of n (line.Start replica) some of asked = tt
-line_of n (line.Fuse replica call code) some of asked = tt
-line_of n (line.Damage replica sector) some of asked = on_disk sector of.1
-line_of n (line.Stale replica sector) some of asked = on_disk sector of.1
-line_of n (line.Unread replica sector) some of asked = on_disk sector of.1
-line_of n (line.Misdirect replica sector other) some of asked = (on_disk sector of.1, on_disk other of.2, of.3)
+line_of : (version n : ℕ) (l : Line) → 0 < n → IsLineOf version n l → HasAsked l → IsLine (happening l)
+line_of version n (line.Cluster m kind) some of asked = absurd (let z : n ≡ 0 = of.0 in omega (arith, some))
+line_of version n (line.Request replica request) some of asked = asked
+line_of version n (line.Deliver number) some of asked = tt
+line_of version n (line.Tick replica) some of asked = tt
+line_of version n (line.Stop replica) some of asked = tt
+line_of version n (line.Start replica) some of asked = tt
+line_of version n (line.Fuse replica call code) some of asked = tt
+line_of version n (line.Damage replica sector) some of asked = on_disk version sector of.1
+line_of version n (line.Stale replica sector) some of asked = on_disk version sector of.1
+line_of version n (line.Unread replica sector) some of asked = on_disk version sector of.1
+line_of version n (line.Misdirect replica sector other) some of asked = (on_disk version sector of.1, on_disk version other of.2, of.3)
 
-lines_of : (n : ℕ) (ls : List Line) → 0 < n → AreLinesOf n ls → HaveAsked ls → AllByRecursion IsLine (happenings ls)
+lines_of : (version n : ℕ) (ls : List Line) → 0 < n → AreLinesOf version n ls → HaveAsked ls → AllByRecursion IsLine (happenings ls)
 unfolding AreLinesOf happenings
-lines_of n [] some of asked = tt
-lines_of n (l ∷ ls) some of asked = (line_of n l some of.0 asked.0, lines_of n ls some of.1 asked.1)
+lines_of version n [] some of asked = tt
+lines_of version n (l ∷ ls) some of asked = (line_of version n l some of.0 asked.0, lines_of version n ls some of.1 asked.1)
 
-pub lines_keep : (kind : Kind) (n : ℕ) (ls : List Line) → 2 ≤ n → n ≤ 6 → length ls < 2 ^ 60 → AreLinesOf n ls → HaveAsked ls → LinesKeepOneLog kind n ls
+pub lines_keep : (kind : Kind) (version n : ℕ) (ls : List Line) → IsKind kind → 2 ≤ n → n ≤ 6 → length ls < 2 ^ 60 → AreLinesOf version n ls → HaveAsked ls → LinesKeepOneLog kind n ls
 unfolding happen happenings
-lines_keep kind n ls few many short of asked names =
+lines_keep kind version n ls is few many short of asked names =
     let size : length (happenings ls) ≡ length ls = length-map ls happening in
-    let m = schedules_are_runs kind n (happenings ls) few many (rw size short) (record { lines = lines_of n ls (omega (arith, few)) of asked; names = names }) in
-    keeps kind n few many (one_log 0 n) (happen hazards (fresh_world hazards kind n) (happenings ls)) m.0 m.1
+    let m = schedules_are_runs kind n (happenings ls) is few many (rw size short) (record { lines = lines_of version n ls (omega (arith, few)) of asked; names = names }) in
+    keeps kind n is few many (one_log 0 n) (happen hazards (fresh_world hazards kind n) (happenings ls)) m.0 m.1
 
 -- ---- in the midst of lines, each of the first of which has asked
 
@@ -57,5 +58,5 @@ pub asked_all : (ls : List Line) (i : ℕ) → length ls ≤ i → HaveAsked (ta
 asked_all ls i past h = rw (← take_all i ls past) h
 
 -- a group that was just made
-pub just_made : (kind : Kind) (w : World Lying) (ls : List Line) → AreLinesOf w.n ls → HaveAsked ls → IsJustMade kind w → length ls < 2 ^ 60 → LinesKeepOneLog kind w.n ls
-just_made kind w ls of asked made short = lines_keep kind w.n ls made.few made.many short of asked
+pub just_made : (kind : Kind) (version : ℕ) (w : World Lying) (ls : List Line) → AreLinesOf version w.n ls → HaveAsked ls → IsJustMade kind w → length ls < 2 ^ 60 → LinesKeepOneLog kind w.n ls
+just_made kind version w ls of asked made short = lines_keep kind version w.n ls made.version made.few made.many short of asked

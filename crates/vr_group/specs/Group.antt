@@ -1,14 +1,15 @@
 -- A group that goes on or has stopped.
-use Rattle.std.specs.Prelude.{◌≡◌, Bool, length}
+use Rattle.std.specs.Prelude.{ℕ, ◌≡◌, Bool, length}
 use Rattle.vr_lying.specs.Lying.{Lying}
 use Rattle.vr_lying.specs.World.{Happened, World}
 use Rattle.vr_group.specs.declared.members.Members.{Members}
 use Rattle.vr_group.specs.declared.outputs.Outputs.{Outputs}
 use Rattle.vr_group.specs.Outputs.{numbered, with_outputs}
 
--- its members and messages, and whether it goes on
+-- its members and messages, the version of the lines that speak of it, and whether it goes on
 pub record Group : Type 0 where
   pub world : World Lying
+  pub version : ℕ
   pub live : Bool
 
 abbrev pub world_of : Members → World Lying

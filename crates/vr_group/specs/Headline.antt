@@ -7,6 +7,7 @@ use Rattle.vr_lines.specs.declared.line.Line.{Line}
 use Rattle.vr_lines.specs.declared.line.Line.TheVariants.{Request}
 use Rattle.vr_lying.specs.Lying.{Lying, hazards}
 use Rattle.vr_replica.specs.Fit.{IsAsked}
+use Rattle.vr_replica.specs.Opening.{IsKind}
 use Rattle.vr_lying.specs.World.{World, fresh_world, happen}
 use Rattle.law_6_one_log.specs.Schedules.{IsHashed}
 use Rattle.law_6_one_log.specs.Laws.{KeepsOneLog}
@@ -16,6 +17,7 @@ use Rattle.vr_group.specs.Lines.{happenings}
 pub record IsJustMade (kind : Kind) (w : World Lying) : Type 0 where
   pub few : 2 ≤ w.n
   pub many : w.n ≤ 6
+  pub version : IsKind kind
   pub fresh : w ≡ fresh_world hazards kind w.n
 
 -- what the type of a line's request keeps: it can be asked

@@ -1,7 +1,6 @@
 -- What lines say that happens to a group.
 use Rattle.std.specs.Prelude.{ℕ, ◌-◌, List, map}
 use Rattle.std.specs.List.{AllByRecursion}
-use Rattle.vr_base.specs.Kinds.{of_mode}
 use Rattle.vr_lie.specs.declared.fault.Fault.TheVariants as fault
 use Rattle.vr_lines.specs.Fits.{IsLineOf}
 use Rattle.vr_lines.specs.declared.line.Line.{Line}
@@ -9,7 +8,7 @@ use Rattle.vr_lines.specs.declared.line.Line.TheVariants.{Cluster, Request, Deli
 use Rattle.vr_lying.specs.World.{Happening, Begins, Asks, Arrives, Ticks, Stops, Starts, Fuses, Lies}
 
 abbrev pub happening : Line → Happening
-happening (Cluster n mode) = Begins (of_mode mode) n
+happening (Cluster n kind) = Begins kind n
 happening (Request replica request) = Asks replica request
 happening (Deliver number) = Arrives number
 happening (Tick replica) = Ticks replica
@@ -24,6 +23,11 @@ happening (Misdirect replica sector other) = Lies replica (fault.Misdirect secto
 unfoldable pub happenings : List Line → List Happening
 happenings lines = map happening lines
 
--- each is a line of a group of n members
-unfoldable pub AreLinesOf : ℕ → List Line → Type 0
-AreLinesOf n lines = AllByRecursion (IsLineOf n) lines
+-- the lines behind one that makes a group are of the version of its files
+abbrev pub version_behind : ℕ → Line → ℕ
+version_behind v (Cluster n kind) = kind.version
+version_behind v _ = v
+
+-- each is a line of a version, of a group of n members
+unfoldable pub AreLinesOf : ℕ → ℕ → List Line → Type 0
+AreLinesOf version n lines = AllByRecursion (IsLineOf version n) lines

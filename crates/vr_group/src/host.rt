@@ -1,8 +1,8 @@
 //! What hosts a member of the group.
 ghost use Rattle.std.specs.Prelude.{◌≡◌, ◌-◌, ◌<◌, ◌≤◌, ◌∷◌, [], Some, None, IfOk, OnOk, is_some, true};
 ghost use Rattle.vr_base.specs.Groups.{quorums_of};
-ghost use Rattle.vr_base.specs.Kinds.{of_mode};
 ghost use Rattle.vr_lie.specs.Faults.{IsFault};
+ghost use Rattle.vr_lie.specs.Told.{version_by};
 ghost use Rattle.vr_lying.specs.Lying.{hazards};
 ghost use Rattle.vr_lying.specs.World.{fresh_host, handles, lies, starts};
 ghost use Rattle.vr_msg.specs.declared.output.Output.TheVariants as output;
@@ -14,7 +14,7 @@ ghost use Rattle.vr_group.specs.Views.{view_of};
 
 use std::alloc::Global;
 use std::marker::Model;
-use vr_base::{Config, Mode, NoMemory};
+use vr_base::{Config, Kind, NoMemory};
 use vr_lie::{Fault, Faulted, opens};
 use vr_lying::HostDisk;
 use vr_msg::{Event, Outbox, Output};
@@ -30,29 +30,28 @@ pub struct Host {
 impl Model for Host {
     ghost use Rattle.vr_lying.specs.Lying.{Lying};
     ghost use Rattle.vr_lying.specs.World as world;
-    ghost use Rattle.vr_lying.specs.Disks.{told_by};
     ghost use Rattle.vr_group.specs.Hosts.{IsHost, host_of};
 
     ghost Value = { world.Host Lying };
 
-    ghost view = { λ h. host_of h.replica (told_by h.disk) };
+    ghost view = { λ h. host_of h.replica h.disk };
 
-    ghost invariant = { λ h. IsHost h.replica (told_by h.disk) };
+    ghost invariant = { λ h. IsHost h.replica h.disk };
 }
 
 // The disk of a member of a new group, with its replica.
-fn make_replica(alloc: Global, index: u8, n: u8, mode: Mode) -> Result<Host, NoMemory>
+fn make_replica(alloc: Global, index: u8, n: u8, kind: &Kind) -> Result<Host, NoMemory>
     requires size { is_some (quorums_of n) ≡ true }
     requires member { index < n }
-    ensures { IfOk result (λ h. h ≡ fresh_host hazards (of_mode mode) n index) }
+    ensures { IfOk result (λ h. h ≡ fresh_host hazards kind.now n index) }
 {
-    let mut disk = HostDisk::new(alloc)?;
+    let mut disk = HostDisk::new(alloc, kind.version)?;
     let config = Config {
         cluster: 0,
         replica: index,
         n,
     };
-    match Replica::fresh(alloc, &mut disk, &config, mode) {
+    match Replica::fresh(alloc, &mut disk, &config, *kind) {
         Ok(replica) => Ok(Host {
             replica: Some(replica),
             disk,
@@ -74,6 +73,7 @@ fn halt(
     requires { out.old ≡ [] }
     ensures gone { replica.new ≡ None }
     ensures told { told_by disk.new ≡ revived (told_by disk.old) }
+    ensures version { version_by disk.new.lie ≡ version_by disk.old.lie }
     ensures out { OnOk result (out.new ≡ output.Halted index ∷ []) }
 {
     drop(replica.take());
@@ -91,9 +91,9 @@ fn step_on(
     event: &Event,
     out: &mut Outbox,
 ) -> Result<(), NoMemory>
-    requires { IsHost replica.old (told_by disk.old) }
-    ensures host { IsHost replica.new (told_by disk.new) }
-    ensures acted { OnOk result (HasActed (handles hazards event.now index (host_of replica.old (told_by disk.old))) (host_of replica.new (told_by disk.new)) out.new) }
+    requires { IsHost replica.old disk.old }
+    ensures host { IsHost replica.new disk.new }
+    ensures acted { OnOk result (HasActed (handles hazards event.now index (host_of replica.old disk.old)) (host_of replica.new disk.new) out.new) }
 {
     out.clear();
     let Some(running) = replica else {
@@ -118,11 +118,12 @@ fn recover_on(
     out: &mut Outbox,
 ) -> Result<(), NoMemory>
     requires stopped { replica.old ≡ None }
-    requires told { IsTold 1 (told_by disk.old) }
-    ensures host { IsHost replica.new (told_by disk.new) }
-    ensures acted { OnOk result (HasActed (starts hazards index (host_of None (told_by disk.old))) (host_of replica.new (told_by disk.new)) out.new) }
+    requires told { IsTold (version_by disk.old.lie) (told_by disk.old) }
+    ensures host { IsHost replica.new disk.new }
+    ensures acted { OnOk result (HasActed (starts hazards index (host_of None disk.old)) (host_of replica.new disk.new) out.new) }
 {
-    match Replica::recover_any(alloc, disk, out) {
+    let version = disk.version();
+    match Replica::recover_any(alloc, disk, version, out) {
         Ok(recovered) => {
             drop(replica.replace(recovered));
             Ok(())
@@ -142,9 +143,9 @@ fn start_on(
     index: u8,
     out: &mut Outbox,
 ) -> Result<(), NoMemory>
-    requires { IsHost replica.old (told_by disk.old) }
-    ensures host { IsHost replica.new (told_by disk.new) }
-    ensures acted { OnOk result (HasActed (starts hazards index (host_of replica.old (told_by disk.old))) (host_of replica.new (told_by disk.new)) out.new) }
+    requires { IsHost replica.old disk.old }
+    ensures host { IsHost replica.new disk.new }
+    ensures acted { OnOk result (HasActed (starts hazards index (host_of replica.old disk.old)) (host_of replica.new disk.new) out.new) }
 {
     out.clear();
     if replica.is_some() {
@@ -155,8 +156,9 @@ fn start_on(
 
 // The view of a replica, or of the value that its disk opens as.
 fn view_on(replica: &Option<Replica>, disk: &mut HostDisk) -> u32
-    ensures view { result ≡ view_of (host_of replica.now (told_by disk.old)) }
+    ensures view { result ≡ view_of (host_of replica.now disk.old) }
     ensures told { told_by disk.new ≡ told_by disk.old }
+    ensures version { version_by disk.new.lie ≡ version_by disk.old.lie }
 {
     if let Some(running) = replica {
         return running.view();
@@ -168,13 +170,13 @@ fn view_on(replica: &Option<Replica>, disk: &mut HostDisk) -> u32
 }
 
 impl Host {
-    /// The member of this index of a new group of `n`, on a new file of this mode.
-    pub fn new(alloc: Global, index: u8, n: u8, mode: Mode) -> Result<Host, NoMemory>
+    /// The member of this index of a new group of `n`, on a new file of this kind.
+    pub fn new(alloc: Global, index: u8, n: u8, kind: &Kind) -> Result<Host, NoMemory>
         requires size { is_some (quorums_of n) ≡ true }
         requires member { index < n }
-        ensures { IfOk result (λ h. h ≡ fresh_host hazards (of_mode mode) n index) }
+        ensures { IfOk result (λ h. h ≡ fresh_host hazards kind.now n index) }
     {
-        make_replica(alloc, index, n, mode)
+        make_replica(alloc, index, n, kind)
     }
 
     /// An event reaches it. Where it is stopped, nothing happens.

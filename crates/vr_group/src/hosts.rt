@@ -2,7 +2,6 @@
 ghost use Rattle.std.specs.Prelude.{◌≡◌, ◌-◌, ◌≤◌, ◌<◌, [], IfOk, OnOk, map, is_some, true};
 ghost use Rattle.std.specs.List.{range_with_len};
 ghost use Rattle.vr_base.specs.Groups.{quorums_of};
-ghost use Rattle.vr_base.specs.Kinds.{of_mode};
 ghost use Rattle.vr_lie.specs.Faults.{IsFault};
 ghost use Rattle.vr_lying.specs.Lying.{hazards};
 ghost use Rattle.vr_lying.specs.World.{fresh_host, fused, handles, lies, starts, stops};
@@ -10,19 +9,19 @@ ghost use Rattle.vr_group.specs.Hosts.{HaveActed};
 
 use crate::Host;
 use std::alloc::Global;
-use vr_base::{Mode, NoMemory};
+use vr_base::{Kind, NoMemory};
 use vr_lie::Fault;
 use vr_msg::{Event, Outbox};
 
-/// The members of a new group, each on a new file of this mode.
+/// The members of a new group, each on a new file of this kind.
 #[tactic(auto, using(std::proofs::lemmas::Grind::common_steps, crate::proofs::Acts::hosts_more))]
-pub fn make_hosts(alloc: Global, n: u8, mode: Mode) -> Result<Vec<Host>, NoMemory>
+pub fn make_hosts(alloc: Global, n: u8, kind: &Kind) -> Result<Vec<Host>, NoMemory>
     requires { is_some (quorums_of n) ≡ true }
-    ensures { IfOk result (λ v. v.items ≡ map (fresh_host hazards (of_mode mode) n) (range_with_len 0 n)) }
+    ensures { IfOk result (λ v. v.items ≡ map (fresh_host hazards kind.now n) (range_with_len 0 n)) }
 {
     let mut hosts = Vec::new(alloc);
     for index in 0..n {
-        let host = Host::new(alloc, index, n, mode)?;
+        let host = Host::new(alloc, index, n, kind)?;
         hosts.push(host)?;
     }
     Ok(hosts)

@@ -1,7 +1,6 @@
 //! The members of a group, and their messages.
-ghost use Rattle.std.specs.Prelude.{◌≡◌, ◌≤◌, IfOk, OnOk, slice_get};
+ghost use Rattle.std.specs.Prelude.{ℕ, ◌≡◌, ◌≤◌, IfOk, OnOk, slice_get};
 ghost use Rattle.std.specs.Option.{option_copied};
-ghost use Rattle.vr_base.specs.Kinds.{of_mode};
 ghost use Rattle.vr_lie.specs.Faults.{IsFault};
 ghost use Rattle.vr_lines.specs.Fits.{IsLineOf};
 ghost use Rattle.vr_lying.specs.Lying.{hazards};
@@ -14,7 +13,7 @@ use crate::hosts::{fuse_at, handle_at, lie_at, make_hosts, start_at, stop_at};
 use crate::outputs::record_outputs;
 use crate::{Host, Letter, Outputs};
 use std::alloc::Global;
-use vr_base::{Mode, NoMemory, Seq};
+use vr_base::{Kind, NoMemory, Seq};
 use vr_lie::Fault;
 use vr_lines::Line;
 use vr_msg::Event;
@@ -37,14 +36,14 @@ fn letter_at(sent: &Seq<Letter>, at: usize) -> Option<&Letter>
 impl Members {
     ghost use Rattle.vr_group.specs.Group.{HasHappened, world_of};
 
-    /// A new group, each member on a new file of this mode.
-    pub fn begin(alloc: Global, n: u8, mode: Mode) -> Result<Members, NoMemory>
+    /// A new group, each member on a new file of this kind.
+    pub fn begin(alloc: Global, n: u8, kind: &Kind) -> Result<Members, NoMemory>
         requires { (2 ≤ n) × (n ≤ 6) }
-        ensures { IfOk result (λ m. world_of m ≡ fresh_world hazards (of_mode mode) n) }
+        ensures { IfOk result (λ m. world_of m ≡ fresh_world hazards kind.now n) }
     {
         Ok(Members {
             n,
-            hosts: make_hosts(alloc, n, mode)?,
+            hosts: make_hosts(alloc, n, kind)?,
             sent: Seq::new(alloc),
         })
     }
@@ -132,13 +131,13 @@ impl Members {
     /// What a line says of it.
     #[tactic(auto, using(crate::proofs::Acts::happened_quietly, crate::proofs::Acts::begun, crate::proofs::Sectors::on_disk))]
     pub fn happen(&mut self, alloc: Global, line: &Line, to: &mut Outputs) -> Result<(), NoMemory>
-        requires { IsLineOf self.old.n line.now }
+        requires { (version : ℕ) × IsLineOf version self.old.n line.now }
         ensures happened { OnOk result (HasHappened (happens hazards (world_of self.old) (happening line.now)) (world_of self.old) (world_of self.new) to.old to.new) }
         ensures asked { OnOk result (HasAsked line.now) }
     {
         match line {
-            Line::Cluster { n, mode } => {
-                *self = Members::begin(alloc, *n, *mode)?;
+            Line::Cluster { n, kind } => {
+                *self = Members::begin(alloc, *n, kind)?;
                 Ok(())
             }
             Line::Request { replica, request } => {

@@ -1,13 +1,12 @@
 //! A group of members, and every message that they have sent.
-ghost use Rattle.std.specs.Prelude.{◌≡◌, ◌≤◌, ◌<◌, ◌^◌, ◌++◌, true, false, IfOk, OnOk, OnErr, length};
-ghost use Rattle.vr_base.specs.Kinds.{of_mode};
+ghost use Rattle.std.specs.Prelude.{ℕ, ◌≡◌, ◌≤◌, ◌<◌, ◌^◌, ◌++◌, true, false, IfOk, OnOk, OnErr, length};
 ghost use Rattle.vr_base.specs.declared.kind.Kind.{Kind};
 ghost use Rattle.vr_lines.specs.Fits.{IsLineOf};
 ghost use Rattle.vr_lying.specs.Lying.{hazards};
 ghost use Rattle.vr_lying.specs.World.{fresh_world, happen, happens, no_world};
 ghost use Rattle.vr_group.specs.Group.{HasHappened, world_of};
 ghost use Rattle.vr_group.specs.Headline.{HaveAsked, IsJustMade, LinesKeepOneLog};
-ghost use Rattle.vr_group.specs.Lines.{AreLinesOf, happening, happenings};
+ghost use Rattle.vr_group.specs.Lines.{AreLinesOf, happening, happenings, version_behind};
 ghost use Rattle.vr_group.specs.Outputs.{numbered, outputs_of};
 ghost use Rattle.vr_group.specs.Views.{top_view};
 
@@ -16,7 +15,7 @@ use crate::members::Members;
 use crate::views::top_view;
 use std::alloc::Global;
 use std::marker::Model;
-use vr_base::{Mode, NoMemory, Seq};
+use vr_base::{Kind, NoMemory, Seq, Version};
 use vr_lines::Line;
 
 /// A group of members on disks that lie, and every message that they have sent. It stops where there is no memory for a line,
@@ -24,6 +23,7 @@ use vr_lines::Line;
 #[derive(Drop)]
 pub struct World {
     members: Members,
+    version: Version,
     live: bool,
 }
 
@@ -32,7 +32,7 @@ impl Model for World {
 
     ghost Value = { Group };
 
-    ghost view = { λ w. record { world = world_of w.members; live = w.live } };
+    ghost view = { λ w. record { world = world_of w.members; version = w.version; live = w.live } };
 }
 
 // What happens at lines, one after the other.
@@ -44,7 +44,7 @@ fn happen_all(
     to: &mut Outputs,
 ) -> Result<(), NoMemory>
     requires group { 0 < members.old.n }
-    requires of { AreLinesOf members.old.n lines.now }
+    requires of { (version : ℕ) × AreLinesOf version members.old.n lines.now }
     ensures happened { OnOk result (HasHappened (happen hazards (world_of members.old) (happenings lines.now)) (world_of members.old) (world_of members.new) to.old to.new) }
     ensures asked { OnOk result (HaveAsked lines.now) }
 {
@@ -58,6 +58,7 @@ impl World {
     /// No group yet.
     pub fn empty(alloc: Global) -> World
         ensures world { result.world ≡ no_world }
+        ensures version { result.version ≡ 1 }
         ensures live { result.live ≡ true }
     {
         World {
@@ -66,18 +67,21 @@ impl World {
                 hosts: Vec::new(alloc),
                 sent: Seq::new(alloc),
             },
+            version: Version::new(1),
             live: true,
         }
     }
 
-    /// A new group of `n` members, 2 to 6, each on a new file of this mode.
-    pub fn new(alloc: Global, n: u8, mode: Mode) -> Result<World, NoMemory>
+    /// A new group of `n` members, 2 to 6, each on a new file of this kind.
+    pub fn new(alloc: Global, n: u8, kind: Kind) -> Result<World, NoMemory>
         requires { (2 ≤ n) × (n ≤ 6) }
-        ensures world { IfOk result (λ w. w.world ≡ fresh_world hazards (of_mode mode) n) }
+        ensures world { IfOk result (λ w. w.world ≡ fresh_world hazards kind n) }
+        ensures version { IfOk result (λ w. w.version ≡ kind.version) }
         ensures live { IfOk result (λ w. w.live ≡ true) }
     {
         Ok(World {
-            members: Members::begin(alloc, n, mode)?,
+            members: Members::begin(alloc, n, &kind)?,
+            version: kind.version,
             live: true,
         })
     }
@@ -87,6 +91,13 @@ impl World {
         ensures { result ≡ self.now.live }
     {
         self.live
+    }
+
+    /// The version of the lines that speak of it: that of its files as they were made, and 1 where there is no group yet.
+    pub fn version(&self) -> Version
+        ensures { result ≡ self.now.version }
+    {
+        self.version
     }
 
     /// How many members it has, 0 where there is no group yet.
@@ -116,8 +127,9 @@ impl World {
     #[tactic(auto, using(crate::proofs::Numbering::outputs_alone))]
     pub fn step(&mut self, alloc: Global, line: &Line) -> Result<Outputs, NoMemory>
         requires live { self.old.live ≡ true }
-        requires of { IsLineOf self.old.world.n line.now }
+        requires of { IsLineOf self.old.version self.old.world.n line.now }
         ensures world { OnOk result (self.new.world ≡ (happens hazards self.old.world (happening line.now)).world) }
+        ensures version { OnOk result (self.new.version ≡ version_behind self.old.version line.now) }
         ensures outputs { IfOk result (λ o. o ≡ outputs_of (numbered (length self.old.world.sent) (happens hazards self.old.world (happening line.now)).outputs)) }
         ensures live { OnOk result (self.new.live ≡ true) }
         ensures stopped { OnErr result (self.new.live ≡ false) }
@@ -125,6 +137,9 @@ impl World {
         self.live = false;
         let mut outputs = Outputs::new(alloc);
         self.members.happen(alloc, line, &mut outputs)?;
+        if let Line::Cluster { kind, .. } = line {
+            self.version = kind.version;
+        }
         self.live = true;
         Ok(outputs)
     }
@@ -134,8 +149,9 @@ impl World {
     pub fn run(&mut self, alloc: Global, lines: &[Line]) -> Result<Outputs, NoMemory>
         requires live { self.old.live ≡ true }
         requires group { 0 < self.old.world.n }
-        requires of { AreLinesOf self.old.world.n lines.now }
+        requires of { AreLinesOf self.old.version self.old.world.n lines.now }
         ensures world { OnOk result (self.new.world ≡ (happen hazards self.old.world (happenings lines.now)).world) }
+        ensures version { self.new.version ≡ self.old.version }
         ensures outputs { IfOk result (λ o. o ≡ outputs_of (numbered (length self.old.world.sent) (happen hazards self.old.world (happenings lines.now)).outputs)) }
         ensures live { OnOk result (self.new.live ≡ true) }
         ensures stopped { OnErr result (self.new.live ≡ false) }

@@ -48,7 +48,7 @@ fn faults_of_writes_are_told(rt: HostRuntime) -> Result<(), Fail> {
 #[test]
 fn faults_of_reads_are_told(rt: HostRuntime) -> Result<(), Fail> {
     let alloc = rt.alloc();
-    // A read gives 1,136 bytes at most, so this schedule takes several.
+    // A read gives 3,112 bytes at most, so this schedule takes several.
     for (failing, text) in [(0, ""), (1, REDIRECTED)] {
         let played = replayed_to(alloc, long_schedule(alloc, 500)?, failing)?;
         check(&rt, played, Status::ReadFault, text);

@@ -5,18 +5,18 @@ ghost use Rattle.vr_group.specs.Lines.{AreLinesOf};
 use std::alloc::Global;
 use std::process::Abort;
 use std::test::Fail;
-use vr_base::{ByteList, Mode};
+use vr_base::{ByteList, Kind, Mode, Version};
 use vr_group::World;
 use vr_lines::{Line, parse_line};
 
-/// The lines that these texts spell, of a group of `n` replicas.
+/// The lines that these texts spell, of a group of `n` replicas of this version.
 #[tactic(auto, using(vr_ckpt::proofs::Done::all_append), unfolding(vr_group::specs::Lines::AreLinesOf))]
-fn spelled(alloc: Global, n: u8, texts: &[&str]) -> Result<Vec<Line>, Fail>
-    ensures { IfOk result (λ lines. AreLinesOf n lines.items) }
+fn spelled(alloc: Global, n: u8, version: Version, texts: &[&str]) -> Result<Vec<Line>, Fail>
+    ensures { IfOk result (λ lines. AreLinesOf version n lines.items) }
 {
     let mut lines = Vec::new(alloc);
     for text in texts {
-        lines.push(parse_line(alloc, n, text.as_bytes())?)?;
+        lines.push(parse_line(alloc, n, text.as_bytes(), version)?)?;
     }
     Ok(lines)
 }
@@ -26,12 +26,12 @@ fn run(
     rt: &impl Abort,
     alloc: Global,
     n: u8,
-    mode: Mode,
+    kind: Kind,
     texts: &[&str],
 ) -> Result<ByteList, Fail> {
     assert!(rt; 2 <= n && n <= 6);
-    let mut world = World::new(alloc, n, mode)?;
-    let lines = spelled(alloc, n, texts)?;
+    let mut world = World::new(alloc, n, kind)?;
+    let lines = spelled(alloc, n, kind.version, texts)?;
     assert!(rt; world.live() && world.size() == n);
     let outputs = world.run(alloc, &lines)?;
     assert!(rt; world.live());
@@ -43,11 +43,11 @@ fn check(
     rt: &impl Abort,
     alloc: Global,
     n: u8,
-    mode: Mode,
+    kind: Kind,
     lines: &[&str],
     want: &str,
 ) -> Result<(), Fail> {
-    let text = run(rt, alloc, n, mode, lines)?;
+    let text = run(rt, alloc, n, kind, lines)?;
     assert_eq!(rt; text.as_slice(), want.as_bytes());
     Ok(())
 }
@@ -58,7 +58,7 @@ fn a_group_takes_all_lines_at_once(rt: HostRuntime) -> Result<(), Fail> {
         &rt,
         rt.alloc(),
         2,
-        Mode::Strict,
+        Kind::of_mode(Mode::Strict),
         &[
             "request 0 7 0 register",
             "fuse 1 6 0",
@@ -80,7 +80,7 @@ fn so_does_one_on_careful_files(rt: HostRuntime) -> Result<(), Fail> {
         &rt,
         rt.alloc(),
         2,
-        Mode::Careful,
+        Kind::of_mode(Mode::Careful),
         &[
             "request 0 7 0 register",
             "deliver 0",
@@ -96,5 +96,32 @@ fn so_does_one_on_careful_files(rt: HostRuntime) -> Result<(), Fail> {
          done\n\
          start 1 view 0 log_view 0 commit 0\n\
          send 2 1 0 prepare_ok view 0 op 1 made 0\n",
+    )
+}
+
+/// A fuse cuts the call behind the eight sectors of a prepare and their sync, and a sector is one that files of version 1 don't have.
+#[test]
+fn and_one_on_files_of_version_2(rt: HostRuntime) -> Result<(), Fail> {
+    check(
+        &rt,
+        rt.alloc(),
+        2,
+        Kind {
+            mode: Mode::Strict,
+            version: Version::new(2),
+        },
+        &[
+            "request 0 7 0 register",
+            "fuse 1 10 0",
+            "deliver 0",
+            "start 1",
+            "deliver 0",
+            "damage 1 3983",
+        ],
+        "send 0 0 1 prepare view 0 op 1 made 0 commit 0\n\
+         halt 1\n\
+         start 1 view 0 log_view 0 commit 0\n\
+         send 1 1 0 prepare_ok view 0 op 1 made 0\n\
+         done\n",
     )
 }

@@ -1,5 +1,5 @@
 -- What loading a checkpoint leaves.
-use Rattle.std.proofs.Common.{ℕ, ◌≡◌, ◌≤◌, ◌∙◌, refl, sym, subst, List, [], ◌∷◌, Option, Some, None, true, false, Result, Ok, Err}
+use Rattle.std.proofs.Common.{ℕ, ◌≡◌, ◌≤◌, refl, subst, List, [], ◌∷◌, Option, Some, None, true, false, Result, Ok}
 use Rattle.std.specs.Prelude.{IfSome, nat_lt}
 use Rattle.vr_ckpt.specs.State.{State}
 use Rattle.vr_ckpt.specs.StateTexts.{state_decoded}
@@ -69,10 +69,6 @@ loaded_fits root table x r h =
       | None ↦ λ e. h
     ] refl
 
-loads_version : (root : Name) (l : Load) (r : Replica) → version r ≡ version (loads root l r)
-loads_version root (Loaded t table) r = loaded_version root table (usable (version r) (state_decoded t)) r
-loads_version root (Missing names) r = refl
-
 loads_fits : (root : Name) (l : Load) (r : Replica) → Fits (version r) r.state → Fits (version (loads root l r)) (loads root l r).state
 unfolding with_state
 loads_fits root (Loaded t table) r h = subst (λ v. Fits v (loads root (Loaded t table) r).state) (loaded_version root table (usable (version r) (state_decoded t)) r) (loaded_fits root table (state_decoded t) r h)
@@ -86,5 +82,4 @@ ready_loaded l r q h e =
       savable = loads_savable r.root l r h.ready.savable;
       idle = loads_idle r.root l r h.ready.idle;
       fits = loads_fits r.root l r h.ready.fits;
-      runs = sym (loads_version r.root l r) ∙ h.ready.runs;
     })

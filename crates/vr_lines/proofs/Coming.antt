@@ -1,12 +1,12 @@
 -- A source that is read until what comes next is here.
-use Rattle.std.proofs.Common.{◌≡◌, ◌≤◌, ◌<◌, ◌==◌, ◌-◌, ◌∙◌, ℕ, List, [], ◌++◌, length, Option, Bool, true, false, ap, sym, subst, inl, inr, append_assoc}
+use Rattle.std.proofs.Common.{◌≡◌, ◌≤◌, ◌<◌, ◌==◌, ◌+◌, ◌-◌, ◌∙◌, ℕ, List, [], ◌++◌, length, Option, Bool, true, false, ap, sym, subst, inl, inr, append_assoc}
 use Rattle.std.specs.Io.KnownBytes.{Consumes, IsAtEnd, Keeps}
 use Rattle.std.proofs.KnownBytes.{Consumes-kept, Consumes-nil, Consumes-trans}
 use Rattle.std.proofs.lemmas.Bool.{eqb-true}
 use Rattle.std.proofs.lemmas.List.{append-nil}
 use Rattle.vr_lines.specs.Coming.{Breaks, EndComes, LineComes, TooLongComes}
 use Rattle.vr_lines.specs.Cuts.{whole_lines}
-use Rattle.vr_lines.specs.Held.{Fills, GivesWithin, Held, IsGiven}
+use Rattle.vr_lines.specs.Held.{Fills, GivesWithin, Held, IsGiven, room}
 use Rattle.vr_lines.specs.declared.lines.Next.TheVariants as next
 use Rattle.vr_lines.proofs.Cutting.{both_none}
 
@@ -69,5 +69,5 @@ breaks longest before left after mid ended new after' left' m g same k =
 
 -- how often more may come
 abbrev pub turns_left : List ℕ → Bool → ℕ
-turns_left bytes true = 1136 - length bytes
-turns_left bytes false = 1137 - length bytes
+turns_left bytes true = room - length bytes
+turns_left bytes false = room + 1 - length bytes

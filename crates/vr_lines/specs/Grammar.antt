@@ -2,6 +2,8 @@
 use Rattle.std.specs.Prelude.{ℕ, Bool, not, nat_le, nat_lt, ◌==◌, ◌^◌, List, [], ◌∷◌, length, Option, Some, None, option_and_then, if◌then◌else◌, codes}
 use Rattle.std.specs.Option.{option_map}
 use Rattle.std.specs.Str.{bytes_eq}
+use Rattle.vr_base.specs.Versions.{by_version}
+use Rattle.vr_base.specs.declared.kind.Kind.{Kind}
 use Rattle.vr_base.specs.declared.mode.Mode.{Mode}
 use Rattle.vr_base.specs.declared.mode.Mode.TheVariants.{Strict, Careful}
 use Rattle.vr_header.specs.declared.operation.Operation.{Operation}
@@ -12,25 +14,34 @@ use Rattle.vr_lines.specs.declared.member.Place.{Place}
 use Rattle.vr_lines.specs.declared.request.Asked.{Asked}
 use Rattle.vr_lines.specs.Numbers.{number_of, number_below}
 use Rattle.vr_lines.specs.Operations.{operation_words}
-use Rattle.vr_lines.specs.Versions.{line_sectors, schedule_version}
+use Rattle.vr_lines.specs.Versions.{line_sectors}
 use Rattle.vr_lines.specs.Words.{only_word, words_of}
 
 -- ---- the line that makes a group
 
--- the mode of a group's files, behind its size: strict, where nothing stands there
-abbrev pub mode_words : List (List ℕ) → Option Mode
-mode_words [] = Some Strict
-mode_words (word ∷ []) = if bytes_eq word (codes "careful") then Some Careful else None
-mode_words _ = None
+-- the version of a group's files, behind their mode: 1, where nothing stands there
+abbrev pub version_words : List (List ℕ) → Option ℕ
+version_words [] = Some 1
+version_words (word ∷ []) = if bytes_eq word (codes "v2") then Some 2 else None
+version_words _ = None
+
+-- files of this mode, and of the version behind it
+abbrev pub kind_of : Mode → List (List ℕ) → Option Kind
+kind_of mode words = option_map (λ version. record { mode = mode; version = version }) (version_words words)
+
+-- what a group's files are, behind its size: `careful` and `v2`, in this order; strict and of version 1, where nothing stands there
+abbrev pub kind_words : List (List ℕ) → Option Kind
+kind_words [] = kind_of Strict []
+kind_words (word ∷ words) = if bytes_eq word (codes "careful") then kind_of Careful words else kind_of Strict (word ∷ words)
 
 -- N from 2 to 6
 abbrev pub size_of : List ℕ → Option ℕ
 size_of word = option_and_then (λ n. if nat_le 2 n then Some n else None) (number_below 7 word)
 
--- `cluster N`, `cluster N careful`
+-- `cluster N`, `cluster N careful`, `cluster N v2`, `cluster N careful v2`
 abbrev pub cluster_line : List (List ℕ) → Option Line
 cluster_line [] = None
-cluster_line (size ∷ words) = option_and_then (λ n. option_map (Cluster n) (mode_words words)) (size_of size)
+cluster_line (size ∷ words) = option_and_then (λ kind. option_map (λ n. Cluster n kind) (size_of size)) (kind_words words)
 
 -- ---- lines of clients and the network
 
@@ -53,20 +64,21 @@ asked_by n r c q =
 abbrev pub is_fitting : Operation → ℕ → Bool
 is_fitting operation request = if is_register operation then request == 0 else not (request == 0)
 
-abbrev pub request_for : Asked → Operation → Option Line
-request_for asked operation =
+-- a request is of the group's version
+abbrev pub request_for : ℕ → Asked → Operation → Option Line
+request_for version asked operation =
     if is_fitting operation asked.request
-    then Some (Request asked.replica (record { version = schedule_version; cluster = 0; client = asked.client; request = asked.request; operation = operation }))
+    then Some (Request asked.replica (record { version = version; cluster = 0; client = asked.client; request = asked.request; operation = operation }))
     else None
 
 -- the operation behind
-abbrev pub behind_asked : Asked → List (List ℕ) → Option Line
-behind_asked asked words = option_and_then (request_for asked) (operation_words schedule_version words)
+abbrev pub behind_asked : ℕ → Asked → List (List ℕ) → Option Line
+behind_asked version asked words = option_and_then (request_for version asked) (operation_words version words)
 
 -- `request R C Q OP`
-abbrev pub request_line : ℕ → List (List ℕ) → Option Line
-request_line n (r ∷ c ∷ q ∷ words) = option_and_then (λ asked. behind_asked asked words) (asked_by n r c q)
-request_line n _ = None
+abbrev pub request_line : ℕ → ℕ → List (List ℕ) → Option Line
+request_line version n (r ∷ c ∷ q ∷ words) = option_and_then (λ asked. behind_asked version asked words) (asked_by n r c q)
+request_line version n _ = None
 
 -- ---- lines that speak of one replica
 
@@ -104,84 +116,88 @@ abbrev pub fuse_line : ℕ → List (List ℕ) → Option Line
 fuse_line n (r ∷ j ∷ code ∷ []) = fused n r j code
 fuse_line n _ = None
 
--- a sector that lines speak of
-abbrev pub sector_of : List ℕ → Option ℕ
-sector_of word = number_below (line_sectors schedule_version) word
+-- a sector that lines of a version speak of
+abbrev pub sector_of : ℕ → List ℕ → Option ℕ
+sector_of version word = number_below (line_sectors version) word
 
-abbrev pub place_of : ℕ → List ℕ → List ℕ → Option Place
-place_of n r s =
-    option_and_then (λ replica. option_map (λ sector. record { replica = replica; sector = sector }) (sector_of s)) (number_below n r)
+abbrev pub place_of : ℕ → ℕ → List ℕ → List ℕ → Option Place
+place_of version n r s =
+    option_and_then (λ replica. option_map (λ sector. record { replica = replica; sector = sector }) (sector_of version s)) (number_below n r)
 
 -- R S
-abbrev pub sector_words : ℕ → List (List ℕ) → Option Place
-sector_words n (r ∷ s ∷ []) = place_of n r s
-sector_words n _ = None
+abbrev pub sector_words : ℕ → ℕ → List (List ℕ) → Option Place
+sector_words version n (r ∷ s ∷ []) = place_of version n r s
+sector_words version n _ = None
 
 -- `damage R S`
-abbrev pub damage_line : ℕ → List (List ℕ) → Option Line
-damage_line n words = option_map (λ p. Damage p.replica p.sector) (sector_words n words)
+abbrev pub damage_line : ℕ → ℕ → List (List ℕ) → Option Line
+damage_line version n words = option_map (λ p. Damage p.replica p.sector) (sector_words version n words)
 
 -- `stale R S`
-abbrev pub stale_line : ℕ → List (List ℕ) → Option Line
-stale_line n words = option_map (λ p. Stale p.replica p.sector) (sector_words n words)
+abbrev pub stale_line : ℕ → ℕ → List (List ℕ) → Option Line
+stale_line version n words = option_map (λ p. Stale p.replica p.sector) (sector_words version n words)
 
 -- `unread R S`
-abbrev pub unread_line : ℕ → List (List ℕ) → Option Line
-unread_line n words = option_map (λ p. Unread p.replica p.sector) (sector_words n words)
+abbrev pub unread_line : ℕ → ℕ → List (List ℕ) → Option Line
+unread_line version n words = option_map (λ p. Unread p.replica p.sector) (sector_words version n words)
 
 -- S isn't T
-abbrev pub misdirected : ℕ → List ℕ → List ℕ → List ℕ → Option Line
-misdirected n r s t =
+abbrev pub misdirected : ℕ → ℕ → List ℕ → List ℕ → List ℕ → Option Line
+misdirected version n r s t =
     option_and_then
     (λ replica. option_and_then
     (λ sector. option_and_then
     (λ other. if sector == other then None else Some (Misdirect replica sector other))
-    (sector_of t))
-    (sector_of s))
+    (sector_of version t))
+    (sector_of version s))
     (number_below n r)
 
 -- `misdirect R S T`
-abbrev pub misdirect_line : ℕ → List (List ℕ) → Option Line
-misdirect_line n (r ∷ s ∷ t ∷ []) = misdirected n r s t
-misdirect_line n _ = None
+abbrev pub misdirect_line : ℕ → ℕ → List (List ℕ) → Option Line
+misdirect_line version n (r ∷ s ∷ t ∷ []) = misdirected version n r s t
+misdirect_line version n _ = None
 
 -- what becomes of a disk
-abbrev pub lost_words : ℕ → List ℕ → List (List ℕ) → Option Line
-lost_words n word words =
+abbrev pub lost_words : ℕ → ℕ → List ℕ → List (List ℕ) → Option Line
+lost_words version n word words =
     if bytes_eq word (codes "fuse") then fuse_line n words
-    else (if bytes_eq word (codes "damage") then damage_line n words
-    else (if bytes_eq word (codes "stale") then stale_line n words
-    else (if bytes_eq word (codes "unread") then unread_line n words
-    else (if bytes_eq word (codes "misdirect") then misdirect_line n words
+    else (if bytes_eq word (codes "damage") then damage_line version n words
+    else (if bytes_eq word (codes "stale") then stale_line version n words
+    else (if bytes_eq word (codes "unread") then unread_line version n words
+    else (if bytes_eq word (codes "misdirect") then misdirect_line version n words
     else None))))
 
 -- by its first word and those behind it
-abbrev pub member_line : ℕ → List ℕ → List (List ℕ) → Option Line
-member_line n word words =
+abbrev pub member_line : ℕ → ℕ → List ℕ → List (List ℕ) → Option Line
+member_line version n word words =
     if bytes_eq word (codes "tick") then tick_line n words
     else (if bytes_eq word (codes "stop") then stop_line n words
     else (if bytes_eq word (codes "start") then start_line n words
-    else lost_words n word words))
+    else lost_words version n word words))
 
 -- ---- all lines
 
--- a line by its first word and those behind it, for a group of n replicas; n is 0 before the first line, which makes the group,
--- and no other line does
-abbrev pub line_behind : ℕ → List ℕ → List (List ℕ) → Option Line
-line_behind n word words =
+-- a line by its first word and those behind it, for a group of n replicas of a version; n is 0 and the version 1 before the first line,
+-- which makes the group, and no other line does
+abbrev pub line_behind : ℕ → ℕ → List ℕ → List (List ℕ) → Option Line
+line_behind version n word words =
     if n == 0 then (if bytes_eq word (codes "cluster") then cluster_line words else None)
-    else (if bytes_eq word (codes "request") then request_line n words
+    else (if bytes_eq word (codes "request") then request_line version n words
     else (if bytes_eq word (codes "deliver") then deliver_line words
-    else member_line n word words))
+    else member_line version n word words))
 
-unfoldable pub line_words : ℕ → List (List ℕ) → Option Line
-line_words n [] = None
-line_words n (word ∷ words) = line_behind n word words
+unfoldable pub line_words : ℕ → ℕ → List (List ℕ) → Option Line
+line_words version n [] = None
+line_words version n (word ∷ words) = line_behind version n word words
 
--- the most bytes that a line has: `request 5 18446744073709551615 4294967295 put KEY VALUE` with 64 and 1,024 bytes
-abbrev pub longest : ℕ
-longest = 1135
+-- the most bytes that a line of a version has: `request 5 18446744073709551615 4294967295 put KEY VALUE` with 64 bytes and 1,024, in version 2 3,000
+abbrev pub longest : ℕ → ℕ
+longest version = by_version version 1135 3111
 
--- the line that these bytes spell, without its end
-unfoldable pub parse : ℕ → List ℕ → Option Line
-parse n bytes = if nat_lt longest (length bytes) then None else line_words n (words_of bytes)
+-- and a line of any version
+abbrev pub longest_line : ℕ
+longest_line = longest 2
+
+-- the line of a version that these bytes spell, without its end
+unfoldable pub parse : ℕ → ℕ → List ℕ → Option Line
+parse version n bytes = if nat_lt (longest version) (length bytes) then None else line_words version n (words_of bytes)

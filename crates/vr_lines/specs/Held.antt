@@ -11,6 +11,10 @@ pub record Held : Type 0 where
   -- the line that was given last
   pub line : List ℕ
 
+-- there is room for so many bytes: the longest line of any version, with its end
+abbrev pub room : ℕ
+room = 3112
+
 -- the bytes from one place on, up to another
 abbrev pub between : ℕ → ℕ → List ℕ → List ℕ
 between from to buffer = take (to - from) (drop from buffer)
@@ -21,7 +25,7 @@ pub record Fills (left left' : Option (List ℕ)) (old new : List ℕ) (count : 
   pub size : length piece ≡ count
   pub consumed : Consumes left left' piece
   pub behind : new ≡ old ++ piece
-  pub fits : length new ≤ 1136
+  pub fits : length new ≤ room
   pub end : count ≡ 0 → IsAtEnd left'
 
 -- a line that has ended, or at the end of the source what has not
@@ -33,13 +37,13 @@ IsGiven ended old new =
 -- what comes next of these bytes
 abbrev pub Gives : Bool → List ℕ → Held → Next → Type 0
 Gives ended old new next.Line = IsGiven ended old new
-Gives ended old new next.TooLong = (whole_lines old ≡ []) × (length old ≡ 1136) × (new.bytes ≡ old)
+Gives ended old new next.TooLong = (whole_lines old ≡ []) × (length old ≡ room) × (new.bytes ≡ old)
 Gives ended old new next.End = (ended ≡ true) × (old ≡ []) × (new.bytes ≡ old)
-Gives ended old new next.More = (ended ≡ false) × (whole_lines old ≡ []) × (length old < 1136) × (new.bytes ≡ old)
+Gives ended old new next.More = (ended ≡ false) × (whole_lines old ≡ []) × (length old < room) × (new.bytes ≡ old)
 
 -- the same of a source whose lines have at most so many bytes
 abbrev pub GivesWithin : ℕ → Bool → List ℕ → Held → Next → Type 0
 GivesWithin longest ended old new next.Line = IsGiven ended old new × (length new.line ≤ longest)
-GivesWithin longest ended old new next.TooLong = (whole_lines (take (longest + 1) old) ≡ []) × (longest < length old) × (length old ≤ 1136) × (new.bytes ≡ old)
+GivesWithin longest ended old new next.TooLong = (whole_lines (take (longest + 1) old) ≡ []) × (longest < length old) × (length old ≤ room) × (new.bytes ≡ old)
 GivesWithin longest ended old new next.End = (ended ≡ true) × (old ≡ []) × (new.bytes ≡ old)
 GivesWithin longest ended old new next.More = (ended ≡ false) × (whole_lines old ≡ []) × (length old ≤ longest) × (new.bytes ≡ old)

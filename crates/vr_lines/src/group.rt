@@ -1,25 +1,46 @@
 //! The line that makes a group.
 ghost use Rattle.std.specs.Prelude.{◌≡◌};
-ghost use Rattle.vr_lines.specs.Grammar.{cluster_line, mode_words, size_of};
+ghost use Rattle.vr_lines.specs.Grammar.{cluster_line, kind_words, size_of, version_words};
 ghost use Rattle.vr_lines.specs.Words.{words_left};
 
 use crate::Line;
 use crate::number::read_below;
 use crate::words::{Words, is_word};
-use vr_base::Mode;
+use vr_base::{Kind, Mode, Version};
 
-/// The mode of a group's files, behind its size: strict, where nothing stands there.
-fn read_mode(words: Words<'_>) -> Option<Mode>
-    ensures { result ≡ mode_words (words_left words.entry) }
+/// The version of a group's files, behind their mode: 1, where nothing stands there.
+fn read_version(words: Words<'_>) -> Option<Version>
+    ensures { result ≡ version_words (words_left words.entry) }
 {
     if words.is_end() {
-        return Some(Mode::Strict);
+        return Some(Version::new(1));
     }
-    if is_word(words.only()?, "careful") {
-        Some(Mode::Careful)
+    if is_word(words.only()?, "v2") {
+        Some(Version::new(2))
     } else {
         None
     }
+}
+
+/// What a group's files are, behind its size: strict and of version 1, where nothing stands there.
+fn read_kind(words: Words<'_>) -> Option<Kind>
+    ensures { result ≡ kind_words (words_left words.entry) }
+{
+    let Some((word, behind)) = words.first() else {
+        return Some(Kind::of_mode(Mode::Strict));
+    };
+    if is_word(word, "careful") {
+        let version = read_version(behind)?;
+        return Some(Kind {
+            mode: Mode::Careful,
+            version,
+        });
+    }
+    let version = read_version(words)?;
+    Some(Kind {
+        mode: Mode::Strict,
+        version,
+    })
 }
 
 /// N, from 2 to 6.
@@ -30,12 +51,12 @@ fn read_size(word: &[u8]) -> Option<u8>
     if n >= 2 { Some(n as u8) } else { None }
 }
 
-/// `cluster N` and `cluster N careful` behind the first word.
+/// `cluster N`, `cluster N careful`, `cluster N v2` and `cluster N careful v2` behind the first word.
 pub fn read_cluster(words: Words<'_>) -> Option<Line>
     ensures { result ≡ cluster_line (words_left words.entry) }
 {
     let (size, words) = words.first()?;
+    let kind = read_kind(words)?;
     let n = read_size(size)?;
-    let mode = read_mode(words)?;
-    Some(Line::Cluster { n, mode })
+    Some(Line::Cluster { n, kind })
 }

@@ -17,6 +17,6 @@ pub use line::Line;
 pub use lines::{Lines, Next};
 pub use number::{read_below, read_number};
 pub use operation::parse_operation;
-pub use parsing::{LONGEST, LineFault, parse_line};
+pub use parsing::{LineFault, parse_line};
 pub use reading::Found;
-pub use versions::{line_sectors, schedule_version};
+pub use versions::{LONGEST, line_sectors};

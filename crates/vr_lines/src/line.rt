@@ -1,15 +1,15 @@
 //! What a line is.
 
-use vr_base::Mode;
+use vr_base::Kind;
 use vr_msg::Request;
 
 /// What happens to a group. Replicas are those of the group, and sectors those of a disk.
 #[derive(Debug, Drop, PartialEq, Eq)]
 pub enum Line {
-    /// A group of so many replicas, 2 to 6, begins, each on a new file of this mode.
+    /// A group of so many replicas, 2 to 6, begins, each on a new file of this kind.
     Cluster {
         n: u8,
-        mode: Mode,
+        kind: Kind,
     },
     /// A client asks a replica.
     Request {

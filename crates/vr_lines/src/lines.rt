@@ -3,20 +3,20 @@ ghost use Rattle.std.specs.Prelude.{◌≡◌, ◌<◌, ◌-◌, ◌++◌, [], N
 ghost use Rattle.std.specs.Io.KnownBytes.{Keeps};
 ghost use Rattle.vr_base.specs.Causes.{HasCause};
 ghost use Rattle.vr_lines.specs.Cuts.{whole_lines, IsEnd};
-ghost use Rattle.vr_lines.specs.Held.{Fills, Gives, GivesWithin};
+ghost use Rattle.vr_lines.specs.Held.{Fills, Gives, GivesWithin, room};
 
 use crate::LONGEST;
 use memchr::memchr;
 use std::marker::Model;
 use vr_edge::{ReadFailed, Source};
 
-/// The longest line, with its end.
-const ROOM: usize = 1136;
+/// The longest line of any version, with its end.
+const ROOM: usize = 3112;
 
 /// The end of a line.
 const LF: u8 = b'\n';
 
-/// What has come of a source and wasn't given yet: never more than the longest line.
+/// What has come of a source and wasn't given yet: never more than the longest line of any version.
 #[derive(Drop)]
 pub struct Lines {
     buffer: [u8; ROOM],
@@ -32,13 +32,13 @@ pub struct Lines {
 
 impl Model for Lines {
     ghost use Rattle.std.specs.Prelude.{◌≡◌, ◌≤◌, length};
-    ghost use Rattle.vr_lines.specs.Held.{Held, between};
+    ghost use Rattle.vr_lines.specs.Held.{Held, between, room};
 
     ghost Value = { Held };
 
     ghost view = { λ l. record { bytes = between l.start l.end l.buffer; line = between l.from l.to l.buffer } };
 
-    ghost invariant = { λ l. (length l.buffer ≡ 1136) × (l.start ≤ l.end) × (l.end ≤ 1136) × (l.from ≤ l.to) × (l.to ≤ 1136) };
+    ghost invariant = { λ l. (length l.buffer ≡ room) × (l.start ≤ l.end) × (l.end ≤ room) × (l.from ≤ l.to) × (l.to ≤ room) };
 }
 
 /// What comes next of a source.
@@ -79,7 +79,7 @@ impl Lines {
 
     /// Takes so many bytes of a piece as there is room for, and returns how many. The line that was given last is lent no more.
     pub fn push(&mut self, piece: &[u8]) -> usize
-        ensures count { result ≡ min (length piece.now) (1136 - length self.old.bytes) }
+        ensures count { result ≡ min (length piece.now) (room - length self.old.bytes) }
         ensures bytes { self.new.bytes ≡ self.old.bytes ++ take result piece.now }
     {
         let held = self.end - self.start;
@@ -94,7 +94,7 @@ impl Lines {
     /// Reads more of a source behind what wasn't given yet, as much as there is room for, and returns how many bytes. The line that was
     /// given last is lent no more.
     pub fn fill<S: Source>(&mut self, source: &mut S) -> Result<usize, ReadFailed>
-        requires { length self.old.bytes < 1136 }
+        requires { length self.old.bytes < room }
         ensures filled { IfOk result (λ count. Fills (S.left source.old) (S.left source.new) self.old.bytes self.new.bytes count) }
         ensures kept { OnErr result ((self.new.bytes ≡ self.old.bytes) × Keeps (S.left source.old) (S.left source.new)) }
         ensures cause { HasCause (S.faults source.old) (S.faults source.new) result }

@@ -5,7 +5,8 @@ ghost use Rattle.vr_lines.specs.Words.{words_left};
 
 use crate::number::{read_below, read_number};
 use crate::words::{Words, is_word};
-use crate::{Line, line_sectors, schedule_version};
+use crate::{Line, line_sectors};
+use vr_base::Version;
 
 /// A sector of a replica's disk.
 #[derive(Clone, Copy)]
@@ -73,55 +74,55 @@ fn read_fuse(n: u8, words: Words<'_>) -> Option<Line>
     read_fused(n, r, j, words.only()?)
 }
 
-/// A sector that lines speak of.
-fn read_sector(word: &[u8]) -> Option<u32>
-    ensures { result ≡ sector_of word.now }
+/// A sector that lines of this version speak of.
+fn read_sector(word: &[u8], version: Version) -> Option<u32>
+    ensures { result ≡ sector_of version word.now }
 {
-    Some(read_below(u64::from(line_sectors(schedule_version())), word)? as u32)
+    Some(read_below(u64::from(line_sectors(version)), word)? as u32)
 }
 
 /// R and S.
-fn read_place(n: u8, words: Words<'_>) -> Option<Place>
-    ensures { result ≡ sector_words n (words_left words.entry) }
+fn read_place(n: u8, words: Words<'_>, version: Version) -> Option<Place>
+    ensures { result ≡ sector_words version n (words_left words.entry) }
 {
     let (r, words) = words.first()?;
     let s = words.only()?;
     let replica = read_below(u64::from(n), r)? as u8;
-    let sector = read_sector(s)?;
+    let sector = read_sector(s, version)?;
     Some(Place { replica, sector })
 }
 
 /// `damage R S` behind its first word.
-fn read_damage(n: u8, words: Words<'_>) -> Option<Line>
-    ensures { result ≡ damage_line n (words_left words.entry) }
+fn read_damage(n: u8, words: Words<'_>, version: Version) -> Option<Line>
+    ensures { result ≡ damage_line version n (words_left words.entry) }
 {
-    let Place { replica, sector } = read_place(n, words)?;
+    let Place { replica, sector } = read_place(n, words, version)?;
     Some(Line::Damage { replica, sector })
 }
 
 /// `stale R S` behind its first word.
-fn read_stale(n: u8, words: Words<'_>) -> Option<Line>
-    ensures { result ≡ stale_line n (words_left words.entry) }
+fn read_stale(n: u8, words: Words<'_>, version: Version) -> Option<Line>
+    ensures { result ≡ stale_line version n (words_left words.entry) }
 {
-    let Place { replica, sector } = read_place(n, words)?;
+    let Place { replica, sector } = read_place(n, words, version)?;
     Some(Line::Stale { replica, sector })
 }
 
 /// `unread R S` behind its first word.
-fn read_unread(n: u8, words: Words<'_>) -> Option<Line>
-    ensures { result ≡ unread_line n (words_left words.entry) }
+fn read_unread(n: u8, words: Words<'_>, version: Version) -> Option<Line>
+    ensures { result ≡ unread_line version n (words_left words.entry) }
 {
-    let Place { replica, sector } = read_place(n, words)?;
+    let Place { replica, sector } = read_place(n, words, version)?;
     Some(Line::Unread { replica, sector })
 }
 
 /// A misdirected write of these words.
-fn read_misdirected(n: u8, r: &[u8], s: &[u8], t: &[u8]) -> Option<Line>
-    ensures { result ≡ misdirected n r.now s.now t.now }
+fn read_misdirected(n: u8, r: &[u8], s: &[u8], t: &[u8], version: Version) -> Option<Line>
+    ensures { result ≡ misdirected version n r.now s.now t.now }
 {
     let replica = read_below(u64::from(n), r)? as u8;
-    let sector = read_sector(s)?;
-    let other = read_sector(t)?;
+    let sector = read_sector(s, version)?;
+    let other = read_sector(t, version)?;
     if sector == other {
         None
     } else {
@@ -134,36 +135,36 @@ fn read_misdirected(n: u8, r: &[u8], s: &[u8], t: &[u8]) -> Option<Line>
 }
 
 /// `misdirect R S T` behind its first word.
-fn read_misdirect(n: u8, words: Words<'_>) -> Option<Line>
-    ensures { result ≡ misdirect_line n (words_left words.entry) }
+fn read_misdirect(n: u8, words: Words<'_>, version: Version) -> Option<Line>
+    ensures { result ≡ misdirect_line version n (words_left words.entry) }
 {
     let (r, words) = words.first()?;
     let (s, words) = words.first()?;
-    read_misdirected(n, r, s, words.only()?)
+    read_misdirected(n, r, s, words.only()?, version)
 }
 
 /// What becomes of a disk, by the first word and those behind it.
-fn read_lost(n: u8, word: &[u8], words: Words<'_>) -> Option<Line>
-    ensures { result ≡ lost_words n word.now (words_left words.entry) }
+fn read_lost(n: u8, word: &[u8], words: Words<'_>, version: Version) -> Option<Line>
+    ensures { result ≡ lost_words version n word.now (words_left words.entry) }
 {
     if is_word(word, "fuse") {
         read_fuse(n, words)
     } else if is_word(word, "damage") {
-        read_damage(n, words)
+        read_damage(n, words, version)
     } else if is_word(word, "stale") {
-        read_stale(n, words)
+        read_stale(n, words, version)
     } else if is_word(word, "unread") {
-        read_unread(n, words)
+        read_unread(n, words, version)
     } else if is_word(word, "misdirect") {
-        read_misdirect(n, words)
+        read_misdirect(n, words, version)
     } else {
         None
     }
 }
 
-/// A line that speaks of one replica of a group of `n`, by its first word and those behind it.
-pub fn read_member(n: u8, word: &[u8], words: Words<'_>) -> Option<Line>
-    ensures { result ≡ member_line n word.now (words_left words.entry) }
+/// A line of this version that speaks of one replica of a group of `n`, by its first word and those behind it.
+pub fn read_member(n: u8, word: &[u8], words: Words<'_>, version: Version) -> Option<Line>
+    ensures { result ≡ member_line version n word.now (words_left words.entry) }
 {
     if is_word(word, "tick") {
         read_tick(n, words)
@@ -172,6 +173,6 @@ pub fn read_member(n: u8, word: &[u8], words: Words<'_>) -> Option<Line>
     } else if is_word(word, "start") {
         read_start(n, words)
     } else {
-        read_lost(n, word, words)
+        read_lost(n, word, words, version)
     }
 }

@@ -10,12 +10,10 @@ use crate::group::read_cluster;
 use crate::member::read_member;
 use crate::number::read_number;
 use crate::request::read_request;
+use crate::versions::line_limit;
 use crate::words::{Words, is_word};
 use std::alloc::{AllocError, Global};
-
-/// The most bytes that a line has, without its end: those of
-/// `request 5 18446744073709551615 4294967295 put KEY VALUE` with a key of 64 bytes and a value of 1,024.
-pub const LONGEST: usize = 1135;
+use vr_base::Version;
 
 /// Why bytes are no line.
 #[derive(Clone, Copy, Debug, PartialEq, Eq)]
@@ -42,14 +40,15 @@ fn read_deliver(words: Words<'_>) -> Option<Line>
     Some(Line::Deliver(read_number(words.only()?)?))
 }
 
-/// A line by its first word and those behind it: before there is a group, the one that makes it.
+/// A line of this version by its first word and those behind it: before there is a group, the one that makes it.
 fn read_behind(
     alloc: Global,
     n: u8,
     word: &[u8],
     words: Words<'_>,
+    version: Version,
 ) -> Result<Option<Line>, AllocError>
-    ensures { IfOk result (λ line. line ≡ line_behind n word.now (words_left words.entry)) }
+    ensures { IfOk result (λ line. line ≡ line_behind version n word.now (words_left words.entry)) }
 {
     if n == 0 {
         if is_word(word, "cluster") {
@@ -58,43 +57,53 @@ fn read_behind(
             Ok(None)
         }
     } else if is_word(word, "request") {
-        read_request(alloc, n, words)
+        read_request(alloc, n, words, version)
     } else if is_word(word, "deliver") {
         Ok(read_deliver(words))
     } else {
-        Ok(read_member(n, word, words))
+        Ok(read_member(n, word, words, version))
     }
 }
 
 #[tactic(auto, unfolding(crate::specs::Grammar::line_words))]
-fn read_words(alloc: Global, n: u8, words: Words<'_>) -> Result<Option<Line>, AllocError>
-    ensures { IfOk result (λ line. line ≡ line_words n (words_left words.entry)) }
+fn read_words(
+    alloc: Global,
+    n: u8,
+    words: Words<'_>,
+    version: Version,
+) -> Result<Option<Line>, AllocError>
+    ensures { IfOk result (λ line. line ≡ line_words version n (words_left words.entry)) }
 {
     match words.first() {
-        Some((word, words)) => read_behind(alloc, n, word, words),
+        Some((word, words)) => read_behind(alloc, n, word, words, version),
         None => Ok(None),
     }
 }
 
 #[tactic(auto, unfolding(crate::specs::Grammar::parse))]
-fn read_line(alloc: Global, n: u8, line: &[u8]) -> Result<Option<Line>, AllocError>
-    ensures { IfOk result (λ read. read ≡ parse n line.now) }
+fn read_line(
+    alloc: Global,
+    n: u8,
+    line: &[u8],
+    version: Version,
+) -> Result<Option<Line>, AllocError>
+    ensures { IfOk result (λ read. read ≡ parse version n line.now) }
 {
-    if line.len() > LONGEST {
+    if line.len() > line_limit(version) {
         return Ok(None);
     }
-    read_words(alloc, n, Words::of(line))
+    read_words(alloc, n, Words::of(line), version)
 }
 
-/// The line that these bytes spell, without its end, for a group of `n` replicas; `n` is 0 before the
-/// first line, which is `Cluster`.
+/// The line that these bytes spell, without its end, for a group of `n` replicas of this version. Before the
+/// first line, which is `Cluster`, `n` is 0, and the version is taken to be 1.
 #[tactic(auto, using(std::proofs::lemmas::Grind::common_steps, crate::proofs::Fitting::parsed_fits))]
-pub fn parse_line(alloc: Global, n: u8, line: &[u8]) -> Result<Line, LineFault>
-    ensures line { IfOk result (λ l. parse n line.now ≡ Some l) }
-    ensures fits { IfOk result (λ l. IsLineOf n l) }
-    ensures fault { result ≡ Err LineFault.NotALine → parse n line.now ≡ None }
+pub fn parse_line(alloc: Global, n: u8, line: &[u8], version: Version) -> Result<Line, LineFault>
+    ensures line { IfOk result (λ l. parse version n line.now ≡ Some l) }
+    ensures fits { IfOk result (λ l. IsLineOf version n l) }
+    ensures fault { result ≡ Err LineFault.NotALine → parse version n line.now ≡ None }
 {
-    match read_line(alloc, n, line)? {
+    match read_line(alloc, n, line, version)? {
         Some(read) => Ok(read),
         None => Err(LineFault::NotALine),
     }

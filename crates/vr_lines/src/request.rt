@@ -1,15 +1,15 @@
 //! Requests of a schedule.
-ghost use Rattle.std.specs.Prelude.{◌≡◌, IfOk, option_and_then};
+ghost use Rattle.std.specs.Prelude.{◌≡◌, ℕ, IfOk, option_and_then};
 ghost use Rattle.vr_header.specs.Bodies.{IsOperation};
 ghost use Rattle.vr_lines.specs.Grammar.{asked_by, behind_asked, is_fitting, request_for, request_line};
-ghost use Rattle.vr_lines.specs.Versions.{schedule_version};
 ghost use Rattle.vr_lines.specs.Words.{words_left};
 
+use crate::Line;
 use crate::number::{read_below, read_number};
 use crate::operation::read_operation;
 use crate::words::Words;
-use crate::{Line, schedule_version};
 use std::alloc::{AllocError, Global};
+use vr_base::Version;
 use vr_header::Operation;
 use vr_msg::{Request, RequestFields};
 
@@ -49,13 +49,13 @@ fn is_fitting(operation: &Operation, request: u32) -> bool
     }
 }
 
-fn request_for(asked: Asked, operation: Operation) -> Option<Line>
-    requires { IsOperation schedule_version operation }
-    ensures { result ≡ request_for asked operation }
+fn request_for(asked: Asked, operation: Operation, version: Version) -> Option<Line>
+    requires { IsOperation version operation }
+    ensures { result ≡ request_for version asked operation }
 {
     if is_fitting(&operation, asked.request) {
         let request = Request::new(RequestFields {
-            version: schedule_version(),
+            version,
             cluster: 0,
             client: asked.client,
             request: asked.request,
@@ -72,7 +72,7 @@ fn request_for(asked: Asked, operation: Operation) -> Option<Line>
 
 /// The first three words, and those behind them.
 fn read_front<'a>(n: u8, words: Words<'a>) -> Option<(Asked, Words<'a>)>
-    ensures { request_line n (words_left words.entry) ≡ option_and_then (λ p. behind_asked p.0 (words_left p.1)) result }
+    ensures { (version : ℕ) → request_line version n (words_left words.entry) ≡ option_and_then (λ p. behind_asked version p.0 (words_left p.1)) result }
 {
     let (r, words) = words.first()?;
     let (c, words) = words.first()?;
@@ -80,15 +80,20 @@ fn read_front<'a>(n: u8, words: Words<'a>) -> Option<(Asked, Words<'a>)>
     Some((read_asked(n, r, c, q)?, words))
 }
 
-/// `request R C Q OP` behind its first word.
-pub fn read_request(alloc: Global, n: u8, words: Words<'_>) -> Result<Option<Line>, AllocError>
-    ensures { IfOk result (λ line. line ≡ request_line n (words_left words.entry)) }
+/// `request R C Q OP` of this version behind its first word.
+pub fn read_request(
+    alloc: Global,
+    n: u8,
+    words: Words<'_>,
+    version: Version,
+) -> Result<Option<Line>, AllocError>
+    ensures { IfOk result (λ line. line ≡ request_line version n (words_left words.entry)) }
 {
     let Some((asked, words)) = read_front(n, words) else {
         return Ok(None);
     };
-    match read_operation(alloc, words, schedule_version())? {
-        Some(operation) => Ok(request_for(asked, operation)),
+    match read_operation(alloc, words, version)? {
+        Some(operation) => Ok(request_for(asked, operation, version)),
         None => Ok(None),
     }
 }

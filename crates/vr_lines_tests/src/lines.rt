@@ -43,12 +43,12 @@ fn a_line_may_come_byte_by_byte(rt: HostRuntime) {
 
 #[test]
 fn the_longest_line_has_room_and_no_longer_one(rt: HostRuntime) {
-    let long = [b'a'; 1136];
+    let long = [b'a'; 3112];
     let mut lines = Lines::new();
-    takes(&rt, &mut lines, &long[..1135], 1135);
+    takes(&rt, &mut lines, &long[..3111], 3111);
     takes(&rt, &mut lines, b"\nb", 1);
-    gives(&rt, &mut lines, false, &long[..1135]);
-    takes(&rt, &mut lines, &long, 1136);
+    gives(&rt, &mut lines, false, &long[..3111]);
+    takes(&rt, &mut lines, &long, 3112);
     assert_eq!(rt; lines.next(false), Next::TooLong);
     assert_eq!(rt; lines.next(true), Next::TooLong);
     takes(&rt, &mut lines, b"c", 0);

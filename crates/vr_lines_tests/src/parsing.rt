@@ -2,21 +2,30 @@
 
 use std::alloc::Global;
 use std::process::Abort;
-use vr_base::Mode;
+use vr_base::{Kind, Mode, Version};
 use vr_lines::{Line, LineFault, parse_line};
 
-/// What a line of a group of three is read as.
+/// What a line of a group of three of version 1 is read as.
 fn reads(rt: &impl Abort, alloc: Global, line: &[u8], want: Line) {
-    assert_eq!(rt; parse_line(alloc, 3, line), Ok(want), "at {line:?}");
+    reads_of(rt, alloc, Version::new(1), line, want);
 }
 
-/// Of a group of three it is no line.
-fn refused(rt: &impl Abort, alloc: Global, line: &[u8]) {
-    assert_eq!(rt;
-        parse_line(alloc, 3, line),
-        Err(LineFault::NotALine),
-        "at {line:?}"
-    );
+/// The same of a version.
+fn reads_of(rt: &impl Abort, alloc: Global, version: Version, line: &[u8], want: Line) {
+    let read = parse_line(alloc, 3, line, version);
+    assert_eq!(rt; read, Ok(want), "at {line:?}");
+}
+
+/// Of a group of three of this version it is no line.
+fn refused(rt: &impl Abort, alloc: Global, version: Version, line: &[u8]) {
+    let read = parse_line(alloc, 3, line, version);
+    assert_eq!(rt; read, Err(LineFault::NotALine), "at {line:?}");
+}
+
+/// Nor is it one of the other version.
+fn refused_by_both(rt: &impl Abort, alloc: Global, line: &[u8]) {
+    refused(rt, alloc, Version::new(1), line);
+    refused(rt, alloc, Version::new(2), line);
 }
 
 #[test]
@@ -67,8 +76,19 @@ fn lines_of_faults_are_read(rt: HostRuntime) {
 }
 
 #[test]
+fn a_version_decides_which_sectors_there_are(rt: HostRuntime) {
+    let (replica, sector) = (1, 3983);
+    let damage = Line::Damage { replica, sector };
+    let alloc = rt.alloc();
+    reads_of(&rt, alloc, Version::new(2), b"damage 1 3983", damage);
+    refused(&rt, alloc, Version::new(1), b"damage 1 3983");
+    refused(&rt, alloc, Version::new(1), b"damage 1 1424");
+    refused_by_both(&rt, alloc, b"damage 1 3984");
+}
+
+#[test]
 fn other_lines_are_refused(rt: HostRuntime) {
-    let lines: [&[u8]; 12] = [
+    let lines: [&[u8]; 11] = [
         b"tick 3",
         b"tick 01",
         b"tick 1 ",
@@ -77,32 +97,41 @@ fn other_lines_are_refused(rt: HostRuntime) {
         b"fuse 1 0 0",
         b"fuse 1 1000001 0",
         b"fuse 1 6",
-        b"damage 1 1424",
         b"misdirect 1 81 81",
         b"unread  1 0",
         b"stale 1 0\r",
     ];
     for line in lines {
-        refused(&rt, rt.alloc(), line);
+        refused_by_both(&rt, rt.alloc(), line);
     }
 }
 
 /// What the first line of a schedule is read as.
 fn begins(rt: &impl Abort, alloc: Global, line: &[u8], want: Result<Line, LineFault>) {
-    assert_eq!(rt; parse_line(alloc, 0, line), want, "at {line:?}");
+    let read = parse_line(alloc, 0, line, Version::new(1));
+    assert_eq!(rt; read, want, "at {line:?}");
 }
 
 #[test]
 fn the_first_line_makes_a_group(rt: HostRuntime) {
     let alloc = rt.alloc();
-    for (line, n, mode) in [
-        ("cluster 3", 3, Mode::Strict),
-        ("cluster 2 careful", 2, Mode::Careful),
-        ("cluster 6 careful", 6, Mode::Careful),
+    for (line, n, mode, version) in [
+        ("cluster 3", 3, Mode::Strict, Version::new(1)),
+        ("cluster 2 careful", 2, Mode::Careful, Version::new(1)),
+        ("cluster 6 careful", 6, Mode::Careful, Version::new(1)),
+        ("cluster 2 v2", 2, Mode::Strict, Version::new(2)),
+        ("cluster 6 v2", 6, Mode::Strict, Version::new(2)),
+        ("cluster 5 careful v2", 5, Mode::Careful, Version::new(2)),
     ] {
-        begins(&rt, alloc, line.as_bytes(), Ok(Line::Cluster { n, mode }));
-        refused(&rt, alloc, line.as_bytes());
+        let kind = Kind { mode, version };
+        begins(&rt, alloc, line.as_bytes(), Ok(Line::Cluster { n, kind }));
+        refused_by_both(&rt, alloc, line.as_bytes());
     }
+}
+
+#[test]
+fn no_other_line_makes_a_group(rt: HostRuntime) {
+    let alloc = rt.alloc();
     for line in [
         "tick 0",
         "cluster 3  careful",
@@ -112,6 +141,14 @@ fn the_first_line_makes_a_group(rt: HostRuntime) {
         "cluster 3 careful careful",
         "cluster 3 strict",
         "cluster 7 careful",
+        "cluster 1 v2",
+        "cluster 7 v2",
+        "cluster v2",
+        "cluster 3 v1",
+        "cluster 3 v2 careful",
+        "cluster 3 v2 v2",
+        "cluster 3 careful  v2",
+        "cluster 3 careful v2 ",
     ] {
         begins(&rt, alloc, line.as_bytes(), Err(LineFault::NotALine));
     }

@@ -1,6 +1,5 @@
 -- The disk of a member, which lies.
-use Rattle.std.specs.Prelude.{◌≡◌, [], Some, None, false, IfSome}
-use Rattle.std.proofs.Common.{sym}
+use Rattle.std.specs.Prelude.{[], Some, None, false, IfSome}
 use Rattle.vr_disk.specs.DiskState.{Disk, Fate, IsFace}
 use Rattle.vr_lie.specs.Told as lie
 use Rattle.vr_lie.specs.Told.{version_by}
@@ -9,18 +8,14 @@ use Rattle.vr_lying.specs.Told.{lying_in, slots}
 use Rattle.vr_lying.specs.declared.disk.HostDisk.{HostDisk}
 
 abbrev pub told_by : HostDisk → Disk
-told_by m = record (lie.told_by m.lie) { beside = slots 1 (lie.held_by m.lie) (lie.told_by m.lie).beside.name }
+told_by m = record (lie.told_by m.lie) { beside = slots (version_by m.lie) (lie.held_by m.lie) (lie.told_by m.lie).beside.name }
 
 pub told_is_whole : (m : HostDisk) → IfSome (Some (told_by m)) (λ d. IsFace d.face)
 told_is_whole m = lie.told_is_whole m.lie
 
--- as the definitions have it, of a file of version 1
+-- as the definitions have it, of the version of the file on it
 abbrev pub lying_of : HostDisk → Lying
-lying_of m = lying_in 1 (told_by m)
-
--- its version is that of the file on the disk
-pub of_version : (m : HostDisk) → (lying_of m).version ≡ version_by m.lie
-of_version m = sym m.version
+lying_of m = lying_in (version_by m.lie) (told_by m)
 
 -- no call is to fail, and none was cut
 abbrev pub calm : Fate

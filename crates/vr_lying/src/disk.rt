@@ -1,44 +1,53 @@
 //! The disk of a member.
-ghost use Rattle.std.specs.Prelude.{◌≡◌, ◌-◌, ◌<◌, ◌≤◌, [], ◌∷◌, Some, None, false, IfOk, if◌then◌else◌, is_ok};
+ghost use Rattle.std.specs.Prelude.{ℕ, ◌≡◌, ◌-◌, ◌<◌, ◌≤◌, [], ◌∷◌, Some, None, false, IfOk, if◌then◌else◌, is_ok};
+ghost use Rattle.vr_base.specs.Bytes.{name_of};
 ghost use Rattle.vr_base.specs.Causes.{HasCause};
-ghost use Rattle.vr_disk.specs.DiskState.{Attaches, ReadsTo, Runs, Sync, Write};
+ghost use Rattle.vr_disk.specs.DiskState.{Attaches, Runs, Sync, Write, reads};
 ghost use Rattle.vr_lie.specs.Faults.{IsFault};
 ghost use Rattle.vr_lie.specs.Told.{version_by};
 ghost use Rattle.vr_lying.specs.Told.{IsTold};
 ghost use Rattle.vr_world.specs.Lying.{blank_lying, unless_kept_out};
 
 use std::alloc::Global;
-use vr_base::{NoMemory, Sum};
-use vr_disk::{DiskFailed, Room, Sector, SectorDisk};
+use vr_base::{NoMemory, Sum, Version};
+use vr_disk::{DiskFailed, Room, SECTORS, Sector, SectorDisk};
 use vr_lie::{Fault, Faulted, LieDisk};
 
-/// A disk that lies, for a file of version 1, and tells what its slots hold beside what its sectors do.
+/// A disk that lies, for a file of either version, and tells what its slots hold beside what its sectors do.
 #[derive(Drop)]
 pub struct HostDisk {
     lie: LieDisk,
-    ghost version: { version_by lie ≡ 1 },
+    ghost version: { (1 ≤ version_by lie) × (version_by lie ≤ 2) },
 }
 
 impl HostDisk {
     ghost use Rattle.vr_lying.specs.Disks.{calm, lying_of, told_by};
 
-    /// A disk of zeros, of which no call is to fail.
-    pub fn new(alloc: Global) -> Result<HostDisk, NoMemory>
-        ensures lying { IfOk result (λ m. lying_of m ≡ blank_lying) }
+    /// A disk of zeros for a file of this version, of which no call is to fail.
+    pub fn new(alloc: Global, version: Version) -> Result<HostDisk, NoMemory>
+        ensures lying { IfOk result (λ m. lying_of m ≡ blank_lying version) }
         ensures fate { IfOk result (λ m. (told_by m).fate ≡ calm) }
-        ensures told { IfOk result (λ m. IsTold 1 (told_by m)) }
+        ensures told { IfOk result (λ m. IsTold version (told_by m)) }
         ensures faults { IfOk result (λ m. m.lie.disk.faults ≡ 0) }
         ensures read_faults { IfOk result (λ m. m.lie.read_faults ≡ 0) }
     {
         Ok(HostDisk {
-            lie: LieDisk::new(alloc)?,
+            lie: LieDisk::new(alloc, version)?,
         })
+    }
+
+    /// The version of the file that it is for.
+    pub fn version(&self) -> Version
+        ensures { result ≡ version_by self.now.lie }
+    {
+        self.lie.version()
     }
 
     /// The `j`-th write or sync from now on is cut by this code. It takes the place of an earlier fuse.
     pub fn fuse(&mut self, j: u64, code: u64)
         requires { 1 ≤ j }
         ensures told { told_by self.new ≡ record (told_by self.old) { fate = record (told_by self.old).fate { fuse = Some (record { calls = j - 1; code = code }) } } }
+        ensures version { version_by self.new.lie ≡ version_by self.old.lie }
         ensures faults { self.new.lie.disk.faults ≡ self.old.lie.disk.faults }
         ensures read_faults { self.new.lie.read_faults ≡ self.old.lie.read_faults }
     {
@@ -48,6 +57,7 @@ impl HostDisk {
     /// After a fuse has cut a call the next calls go through again.
     pub fn revive(&mut self)
         ensures told { told_by self.new ≡ record (told_by self.old) { fate = record (told_by self.old).fate { dead = false } } }
+        ensures version { version_by self.new.lie ≡ version_by self.old.lie }
         ensures faults { self.new.lie.disk.faults ≡ self.old.lie.disk.faults }
         ensures read_faults { self.new.lie.read_faults ≡ self.old.lie.read_faults }
     {
@@ -61,7 +71,8 @@ impl HostDisk {
         ensures kept_out { result ≡ Faulted.KeptOut → unless_kept_out (lying_of self.old) fault.now ≡ None }
         ensures kept { result ≡ Faulted.KeptOut → lying_of self.new ≡ lying_of self.old }
         ensures fate { (told_by self.new).fate ≡ (told_by self.old).fate }
-        ensures told { IsTold 1 (told_by self.old) → IsTold 1 (told_by self.new) }
+        ensures told { (v : ℕ) → IsTold v (told_by self.old) → IsTold v (told_by self.new) }
+        ensures version { version_by self.new.lie ≡ version_by self.old.lie }
         ensures faults { self.new.lie.disk.faults ≡ self.old.lie.disk.faults }
         ensures read_faults { self.new.lie.read_faults ≡ self.old.lie.read_faults }
     {
@@ -80,27 +91,62 @@ impl SectorDisk for HostDisk {
 
     ghost whole = { told_is_whole };
 
-    fn attach(&mut self, name: &str) -> Result<(), DiskFailed> {
+    fn attach(&mut self, name: &str) -> Result<(), DiskFailed>
+        ensures told { Attaches name.now (Some (told_by self.old)) (Some (told_by self.new)) (is_ok result) }
+        ensures cause { HasCause self.old.lie.disk.faults self.new.lie.disk.faults result }
+        ensures others { self.new.lie.read_faults ≡ self.old.lie.read_faults }
+        ensures version { version_by self.new.lie ≡ version_by self.old.lie }
+    {
         self.lie.attach(name)
     }
 
-    fn read(&mut self, i: u32, to: &mut Sector) -> Result<(), DiskFailed> {
+    fn read(&mut self, i: u32, to: &mut Sector) -> Result<(), DiskFailed>
+        requires { i < SECTORS }
+        ensures told { told_by self.new ≡ told_by self.old }
+        ensures bytes { reads (told_by self.old).face i ≡ (if is_ok result then Some to.new.bytes else None) }
+        ensures cause { HasCause self.old.lie.read_faults self.new.lie.read_faults result }
+        ensures others { self.new.lie.disk.faults ≡ self.old.lie.disk.faults }
+        ensures version { version_by self.new.lie ≡ version_by self.old.lie }
+    {
         self.lie.read(i, to)
     }
 
-    fn write(&mut self, i: u32, from: &Sector) -> Result<(), DiskFailed> {
+    fn write(&mut self, i: u32, from: &Sector) -> Result<(), DiskFailed>
+        requires { i < SECTORS }
+        ensures told { Runs (Write i from.now.bytes ∷ []) (Some (told_by self.old)) (Some (told_by self.new)) (is_ok result) }
+        ensures cause { HasCause self.old.lie.disk.faults self.new.lie.disk.faults result }
+        ensures others { self.new.lie.read_faults ≡ self.old.lie.read_faults }
+        ensures version { version_by self.new.lie ≡ version_by self.old.lie }
+    {
         self.lie.write(i, from)
     }
 
-    fn sync(&mut self) -> Result<(), DiskFailed> {
+    fn sync(&mut self) -> Result<(), DiskFailed>
+        ensures told { Runs (Sync ∷ []) (Some (told_by self.old)) (Some (told_by self.new)) (is_ok result) }
+        ensures cause { HasCause self.old.lie.disk.faults self.new.lie.disk.faults result }
+        ensures others { self.new.lie.read_faults ≡ self.old.lie.read_faults }
+        ensures version { version_by self.new.lie ≡ version_by self.old.lie }
+    {
         self.lie.sync()
     }
 
-    fn name_of(&mut self, room: Room, bytes: &[u8]) -> Sum {
+    fn name_of(&mut self, room: Room, bytes: &[u8]) -> Sum
+        ensures name { result.0 ≡ name_of bytes.now }
+        ensures told { told_by self.new ≡ told_by self.old }
+        ensures faults { self.new.lie.disk.faults ≡ self.old.lie.disk.faults }
+        ensures reads { self.new.lie.read_faults ≡ self.old.lie.read_faults }
+        ensures version { version_by self.new.lie ≡ version_by self.old.lie }
+    {
         self.lie.name_of(room, bytes)
     }
 
-    fn keep_name(&mut self, room: Room, bytes: &[u8], name: Sum) {
+    fn keep_name(&mut self, room: Room, bytes: &[u8], name: Sum)
+        requires { name.0 ≡ name_of bytes.now }
+        ensures told { told_by self.new ≡ told_by self.old }
+        ensures faults { self.new.lie.disk.faults ≡ self.old.lie.disk.faults }
+        ensures reads { self.new.lie.read_faults ≡ self.old.lie.read_faults }
+        ensures version { version_by self.new.lie ≡ version_by self.old.lie }
+    {
         self.lie.keep_name(room, bytes, name);
     }
 }

@@ -25,11 +25,11 @@ use Rattle.vr_rules.proofs.Storing.{kept_applied, kept_moved, head_number}
 use Rattle.vr_rules.proofs.SavesParts.{savable_move, topped_moved}
 use Rattle.vr_rules.proofs.SavesSectors.{sectors_fit}
 use Rattle.vr_rules.specs.Words.{with_checkpoint, is_checkpoint, is_loaded}
-use Rattle.vr_rules.specs.Sectors.{sectors}
 use Rattle.vr_ckpt.specs.Texts.{Texts}
 use Rattle.vr_ckpt.specs.declared.table.PayloadTable.{PayloadTable}
 use Rattle.vr_ckpt.specs.declared.saving.SavedCheckpoint as checkpoint
 use Rattle.vr_ckpt.specs.Places.{IsCheckpoint}
+use Rattle.vr_ckpt.specs.Saves.{saved_checkpoint}
 use Rattle.vr_rules.specs.Sound.{IsNameBytes}
 use Rattle.std.specs.Prelude.{max, min, OnOk, Bool, true, false, ◌&&◌, nat_lt}
 use Rattle.std.proofs.Common.{◌∙◌, ap, Result, Ok, Err}
@@ -70,35 +70,35 @@ one_spent r v e = rw e (omega arith)
 
 pub ready_saved : (r q : Replica) (v : SuperValue) → q ≡ with_saved r → v ≡ value_of r → IsGood v → IsReady r → IsReady q
 unfolding IsReady value_of
-ready_saved r q v e i g h = rw e (record { sound = sound_alike r (with_saved r) refl h.sound; savable = savable_saved r h.savable (subst IsGood i g); idle = h.idle; fits = h.fits; runs = h.runs })
+ready_saved r q v e i g h = rw e (record { sound = sound_alike r (with_saved r) refl h.sound; savable = savable_saved r h.savable (subst IsGood i g); idle = h.idle; fits = h.fits })
 
 pub ready_rested : (r q : Replica) → q ≡ rested r → IsReady r → IsReady q
 unfolding IsReady
-ready_rested r q e h = rw e (record { sound = sound_alike r (rested r) refl h.sound; savable = savable_alike r (rested r) refl h.savable; idle = omega arith; fits = h.fits; runs = h.runs })
+ready_rested r q e h = rw e (record { sound = sound_alike r (rested r) refl h.sound; savable = savable_alike r (rested r) refl h.savable; idle = omega arith; fits = h.fits })
 
 pub ready_stored : (e : Whole) (r q : Replica) → q ≡ stored e r → MayStore e r → IsReady r → IsReady q
 unfolding IsReady MayStore forgetting with_part
 ready_stored e r q i m h =
     let may : May e r = record { above = m.above; window = m.window; header = m.header; is_entry = m.is_entry } in
-    rw i (record { sound = (kept_stored e r h.sound may).sound; savable = savable_stored e r h.sound may h.savable; idle = h.idle; fits = h.fits; runs = h.runs })
+    rw i (record { sound = (kept_stored e r h.sound may).sound; savable = savable_stored e r h.sound may h.savable; idle = h.idle; fits = h.fits })
 
 pub ready_entered : (view : ℕ) (r q : Replica) → q ≡ entered view r → r.view ≤ view → view < 2 ^ 32 → IsReady r → IsReady q
 unfolding IsReady entered
-ready_entered view r q e a b h = rw e (record { sound = (kept_entered view r h.sound a).sound; savable = savable_entered view r b h.savable; idle = omega arith; fits = h.fits; runs = h.runs })
+ready_entered view r q e a b h = rw e (record { sound = (kept_entered view r h.sound a).sound; savable = savable_entered view r b h.savable; idle = omega arith; fits = h.fits })
 
 pub ready_lost : (k : ℕ) (g : Header) (r q : Replica) → q ≡ lost g r → part_at r k ≡ Here g → IsReady r → IsReady q
 unfolding IsReady with_part
-ready_lost k g r q e i h = rw e (record { sound = (kept_lost k g r h.sound i).sound; savable = savable_lost k g r h.sound i h.savable; idle = h.idle; fits = h.fits; runs = h.runs })
+ready_lost k g r q e i h = rw e (record { sound = (kept_lost k g r h.sound i).sound; savable = savable_lost k g r h.sound i h.savable; idle = h.idle; fits = h.fits })
 
 -- the file takes an entry that may be stored
 pub entry_taken : (e : Whole) (r : Replica) → IsReady r → MayStore e r → Takes (version r) e
 unfolding IsReady MayStore
-entry_taken e r h m = let of = m.is_entry.of_version in let runs = h.runs in record { most = omega arith; taken = omega arith }
+entry_taken e r h m = record { most = h.savable.saved.numbers.version.1; taken = m.is_entry.of_version }
 
--- it runs on a file of version 1
-pub runs_one : (r : Replica) → IsReady r → version r ≡ 1
+-- its file is of version 1 or 2
+pub file_version : (r : Replica) → IsReady r → (1 ≤ version r) × (version r ≤ 2)
 unfolding IsReady
-runs_one r h = h.runs
+file_version r h = h.savable.saved.numbers.version
 
 pub in_window : (e : Whole) (r : Replica) → MayStore e r → HasWindow r → (r.first ≤ e.header.op) × (e.header.op - r.first < length r.parts)
 unfolding MayStore
@@ -129,7 +129,7 @@ has_applied e r q i m n t = record { before = r; entry = e; may = m; is = i; op 
 
 -- what is applied leaves a state that the file's version allows
 applied_state : (r : Replica) (e : Whole) → Readiness r → IsEntry e → e.header.version ≤ version r → Fits (version r) (state.applied r.state e).state
-applied_state r e h n t = let one = h.runs in Fits-applied (version r) r.state h.fits e t (omega arith) n.body.fits
+applied_state r e h n t = Fits-applied (version r) r.state h.fits e t h.savable.saved.numbers.version.1 n.body.fits
 
 -- where no checkpoint is due
 pub ready_applied : (q : Replica) → is_checkpoint q.applied ≡ false → HasApplied q → IsReady q
@@ -141,11 +141,11 @@ ready_applied q d h =
     let due : is_checkpoint (r.applied + 1) ≡ false = rw is at d in
     let m = h.may in
     let kept = kept_applied e r m.ready.sound h.op m.known m.loaded (eqb-false ((r.applied + 1) % 32) 0 due) in
-    rw is (record { sound = kept.sound; savable = savable_alike r (applied e r) refl m.ready.savable; idle = m.ready.idle; fits = applied_state r e m.ready h.whole h.takes; runs = m.ready.runs })
+    rw is (record { sound = kept.sound; savable = savable_alike r (applied e r) refl m.ready.savable; idle = m.ready.idle; fits = applied_state r e m.ready h.whole h.takes })
 
 -- where one is made
 pub ready_moved : (c : checkpoint.SavedCheckpoint) (q p : Replica) (cluster : ℕ) (texts : Texts) (op : ℕ) (old : PayloadTable) → is_checkpoint q.applied ≡ true → HasApplied q
-    → c ≡ sectors.save_state cluster texts op old → p ≡ with_checkpoint c q → IsReady p
+    → c ≡ saved_checkpoint cluster texts op old → p ≡ with_checkpoint c q → IsReady p
 unfolding IsReady HasApplied with_checkpoint
 ready_moved c q p cluster texts op old d h s i =
     let r : Replica = h.before in
@@ -154,12 +154,12 @@ ready_moved c q p cluster texts op old d h s i =
     let due : is_checkpoint (r.applied + 1) ≡ true = rw is at d in
     let m = h.may in
     let known = m.known in
-    let roots = sectors_fit.1 in
+    let roots = (sectors_fit (version q)).1 in
     let address : c.root.address < 128 = rw s (roots.address cluster texts op old) in
     let name : IsNameBytes c.root.sum.0 = rw s (roots.name cluster texts op old) in
     let kept = kept_moved c e r m.ready.sound h.op known m.loaded (eqb-true ((r.applied + 1) % 32) 0 due) in
     let savable = savable_move c (applied e r) address name (omega arith) (savable_alike r (applied e r) refl m.ready.savable) (topped_moved c e r m.ready.sound known) in
-    rw (i, is) (record { sound = kept.sound; savable = savable; idle = m.ready.idle; fits = applied_state r e m.ready h.whole h.takes; runs = m.ready.runs })
+    rw (i, is) (record { sound = kept.sound; savable = savable; idle = m.ready.idle; fits = applied_state r e m.ready h.whole h.takes })
 
 -- there is room for the window to move up
 pub room_to_move : (q : Replica) → HasApplied q → (length q.parts + (q.applied - q.checkpoint) ≤ 128) × (length q.ackers + (q.applied - q.checkpoint) ≤ 128)
@@ -247,7 +247,7 @@ pub ready_learned : (c : ℕ) (r q : Replica) → q ≡ learned c r → IsReady 
 unfolding IsReady
 ready_learned c r q e h =
     let known = h.sound.order.known in
-    rw e (record { sound = sound_commit r (max r.commit (min c (head r))) (omega arith) (omega arith) h.sound; savable = savable_alike r (learned c r) refl h.savable; idle = h.idle; fits = h.fits; runs = h.runs })
+    rw e (record { sound = sound_commit r (max r.commit (min c (head r))) (omega arith) (omega arith) h.sound; savable = savable_alike r (learned c r) refl h.savable; idle = h.idle; fits = h.fits })
 
 -- where an entry may be stored is left to what soundness doesn't ask for
 pub store_rested : (e : Whole) (r q : Replica) → q ≡ rested r → MayStore e r → MayStore e q

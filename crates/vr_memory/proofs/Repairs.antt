@@ -79,20 +79,19 @@ ready_advanced r q e h =
       savable = savable_alike r (record r { commit = r.commit + n }) refl h.savable;
       idle = h.idle;
       fits = h.fits;
-      runs = h.runs;
     })
 
 pub ready_turned : (r q : Replica) → q ≡ turned r → IsReady r → IsReady q
 unfolding IsReady
-ready_turned r q e h = rw e (record { sound = sound_alike r (turned r) refl h.sound; savable = savable_alike r (turned r) refl h.savable; idle = h.idle; fits = h.fits; runs = h.runs })
+ready_turned r q e h = rw e (record { sound = sound_alike r (turned r) refl h.sound; savable = savable_alike r (turned r) refl h.savable; idle = h.idle; fits = h.fits })
 
 pub ready_dropped : (name : Name) (r q : Replica) → q ≡ without name r → IsReady r → IsReady q
 unfolding IsReady
-ready_dropped name r q e h = rw e (record { sound = (kept_without name r h.sound).sound; savable = savable_alike r (without name r) refl h.savable; idle = h.idle; fits = h.fits; runs = h.runs })
+ready_dropped name r q e h = rw e (record { sound = (kept_without name r h.sound).sound; savable = savable_alike r (without name r) refl h.savable; idle = h.idle; fits = h.fits })
 
 pub ready_unworn : (name : Name) (r q : Replica) → q ≡ not_worn name r → IsReady r → IsReady q
 unfolding IsReady
-ready_unworn name r q e h = rw e (record { sound = sound_alike r (not_worn name r) refl h.sound; savable = savable_alike r (not_worn name r) refl h.savable; idle = h.idle; fits = h.fits; runs = h.runs })
+ready_unworn name r q e h = rw e (record { sound = sound_alike r (not_worn name r) refl h.sound; savable = savable_alike r (not_worn name r) refl h.savable; idle = h.idle; fits = h.fits })
 
 -- the numbers of a ready replica fit into messages
 pub ready_commit : (r : Replica) → IsReady r → r.commit ≤ 2 ^ 62

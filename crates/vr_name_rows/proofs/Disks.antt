@@ -70,10 +70,10 @@ prepare_there e f n w =
     ap (λ o. option_and_then whole_of (option_map (padded 1) o)) reads ∙ (ap whole_of (padded_is 1 e w.whole w.takes) ∙ whole_again e w.whole)
 
 header_apart : (h : Header) (f : Face) (slot : ℕ) → whole_in 1 (disk.after_all f (header_calls h)) slot ≡ whole_in 1 f slot
-header_apart h f slot = let b = slot_below h in same_entry (header_calls h) f slot (λ k m n. header_spares h k (λ q. omega (arith, q, b, m)))
+header_apart h f slot = let b = slot_below h in same_entry 1 (header_calls h) f slot (λ k m n. header_spares h k (λ q. omega (arith, q, b, m)))
 
 prepare_apart : (e : Whole) (f : Face) (slot : ℕ) → slot ≢ slot_of e.header → whole_in 1 (disk.after_all f (prepare_calls 1 e)) slot ≡ whole_in 1 f slot
-prepare_apart e f slot other = same_entry (prepare_calls 1 e) f slot (λ k m n. prepare_spares e k (apart slot (slot_of e.header) k other m n))
+prepare_apart e f slot other = same_entry 1 (prepare_calls 1 e) f slot (λ k m n. prepare_spares 1 e k (apart slot (slot_of e.header) k other m n))
 
 pub written_there : (again : Bool) (e : Whole) (f : Face) → length f.cells ≡ sectors → IsTaken e → whole_in 1 (written again e f) (slot_of e.header) ≡ Some e
 written_there true e f n w =
@@ -105,10 +105,10 @@ written_reads entries again e d i w p slot x is =
 
 pub value_apart : (old new : SuperValue) (f : Face) (slot : ℕ) → whole_in 1 (disk.after_all f (write_calls old new f)) slot ≡ whole_in 1 f slot
 value_apart old new f slot =
-    same_entry (write_calls old new f) f slot (λ k m n. spares_append k (mend_calls old f) (save_from 0 4 (copy_bytes new)) (mend_spares 4 0 k (copy_bytes old) f (omega arith) (omega (arith, m))) (save_spares 4 0 k (copy_bytes new) (omega arith) (omega (arith, m))))
+    same_entry 1 (write_calls old new f) f slot (λ k m n. spares_append k (mend_calls old f) (save_from 0 4 (copy_bytes new)) (mend_spares 4 0 k (copy_bytes old) f (omega arith) (omega (arith, m))) (save_spares 4 0 k (copy_bytes new) (omega arith) (omega (arith, m))))
 
 pub mend_apart : (v : SuperValue) (f : Face) (slot : ℕ) → whole_in 1 (disk.after_all f (mend_calls v f)) slot ≡ whole_in 1 f slot
-mend_apart v f slot = same_entry (mend_calls v f) f slot (λ k m n. mend_spares 4 0 k (copy_bytes v) f (omega arith) (omega (arith, m)))
+mend_apart v f slot = same_entry 1 (mend_calls v f) f slot (λ k m n. mend_spares 4 0 k (copy_bytes v) f (omega arith) (omega (arith, m)))
 
 -- a disk of these sectors, which hold so
 abbrev first_file : Face → List (Option (List ℕ)) → Lying

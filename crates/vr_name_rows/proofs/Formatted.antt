@@ -33,20 +33,20 @@ use Rattle.law_4_disks.proofs.Effects.{at_slot}
 
 -- ---- header sectors
 
-headers_spare : (n i k : ℕ) → k < header_place i → AllByRecursion (Spares k) (map (λ slot. Write (header_place slot) (sector_of (reserved_header 0 slot))) (range_with_len i n))
+headers_spare : (n i k : ℕ) → k < header_place i → AllByRecursion (Spares k) (map (λ slot. Write (header_place slot) (sector_of (reserved_header 1 0 slot))) (range_with_len i n))
 headers_spare zero i k l = tt
 headers_spare (suc n) i k l = (λ e. omega (arith, e, l), headers_spare n (i + 1) k (omega (arith, l)))
 
-headers_put : (n i slot : ℕ) (f : Face) → length f.cells ≡ sectors → i ≤ slot → slot < i + n → i + n ≤ 64 → reads (after_all f (map (λ slot. Write (header_place slot) (sector_of (reserved_header 0 slot))) (range_with_len i n))) (header_place slot) ≡ Some (sector_of (reserved_header 0 slot))
+headers_put : (n i slot : ℕ) (f : Face) → length f.cells ≡ sectors → i ≤ slot → slot < i + n → i + n ≤ 64 → reads (after_all f (map (λ slot. Write (header_place slot) (sector_of (reserved_header 1 0 slot))) (range_with_len i n))) (header_place slot) ≡ Some (sector_of (reserved_header 1 0 slot))
 headers_put zero i slot f c l m n = absurd (omega (arith, l, m))
 headers_put (suc n) i slot f c l m b =
-    let b0 = sector_of (reserved_header 0 i) in
+    let b0 = sector_of (reserved_header 1 0 i) in
     let g = after f (Write (header_place i) b0) in
     elim (cases_eq slot i) [
       | inl same ↦
-          let rest = map (λ slot. Write (header_place slot) (sector_of (reserved_header 0 slot))) (range_with_len (i + 1) n) in
+          let rest = map (λ slot. Write (header_place slot) (sector_of (reserved_header 1 0 slot))) (range_with_len (i + 1) n) in
           let at : reads (after_all g rest) (header_place i) ≡ Some b0 = ap (λ (c : Cell). c.reads) (frame_all rest g (header_place i) (headers_spare n (i + 1) (header_place i) (omega arith))) ∙ reads_back f (header_place i) b0 (omega (arith, c, b)) in
-          subst (λ (s : ℕ). reads (after_all g rest) (header_place s) ≡ Some (sector_of (reserved_header 0 s))) (sym same) at
+          subst (λ (s : ℕ). reads (after_all g rest) (header_place s) ≡ Some (sector_of (reserved_header 1 0 s))) (sym same) at
       | inr other ↦ headers_put n (i + 1) slot g (length_after_all (Write (header_place i) b0 ∷ []) f ∙ c) (omega (arith, l, other)) (omega (arith, m)) (omega (arith, b))
     ]
 
@@ -56,20 +56,20 @@ later i = save_from 0 4 (copy_bytes (first_value strict 0 3 i))
 abbrev face : ℕ → Face
 face i = after_all zero_face (format_calls strict 0 3 i)
 
-header_there : (i slot : ℕ) → slot < 64 → header_reading (face i) slot ≡ Some (sector_of (reserved_header 0 slot))
+header_there : (i slot : ℕ) → slot < 64 → header_reading (face i) slot ≡ Some (sector_of (reserved_header 1 0 slot))
 unfolding format_calls
 header_there i slot l =
-    let f1 = after_all zero_face zero_prepares in
-    let f2 = after_all f1 (reserved_headers 0) in
-    let count : length f1.cells ≡ sectors = length_after_all zero_prepares zero_face ∙ length-replicate sectors zero_cell in
-    let all : face i ≡ after_all f2 (Sync ∷ later i) = after_all_append zero_prepares (reserved_headers 0 ++ Sync ∷ later i) zero_face ∙ after_all_append (reserved_headers 0) (Sync ∷ later i) f1 in
+    let f1 = after_all zero_face (zero_prepares 1) in
+    let f2 = after_all f1 (reserved_headers 1 0) in
+    let count : length f1.cells ≡ sectors = length_after_all (zero_prepares 1) zero_face ∙ length-replicate sectors zero_cell in
+    let all : face i ≡ after_all f2 (Sync ∷ later i) = after_all_append (zero_prepares 1) (reserved_headers 1 0 ++ Sync ∷ later i) zero_face ∙ after_all_append (reserved_headers 1 0) (Sync ∷ later i) f1 in
     ap (λ (g : Face). reads g (header_place slot)) all
     ∙ (ap (λ (c : Cell). c.reads) (frame_all (Sync ∷ later i) f2 (header_place slot) (tt, save_spares 4 0 (header_place slot) (copy_bytes (first_value strict 0 3 i)) (omega arith) (omega arith)))
     ∙ headers_put 64 0 slot f1 count (omega arith) (omega (arith, l)) (omega arith))
 
-pub header_is : (i slot : ℕ) → slot < 64 → header_in (face i) slot ≡ Some (reserved_header 0 slot)
+pub header_is : (i slot : ℕ) → slot < 64 → header_in (face i) slot ≡ Some (reserved_header 1 0 slot)
 unfolding header_in
-header_is i slot l = ap (option_and_then header_of) (header_there i slot l) ∙ header_again (reserved_header 0 slot) (reserved_is 0 slot (omega arith) l)
+header_is i slot l = ap (option_and_then header_of) (header_there i slot l) ∙ header_again (reserved_header 1 0 slot) (reserved_is 1 0 slot (omega arith, omega arith) (omega arith) l)
 
 -- ---- no slot holds anything
 
@@ -139,15 +139,15 @@ zeros_only : (n i k : ℕ) → AllByRecursion (WritesOnly k zero_sector) (map (�
 zeros_only zero i k = tt
 zeros_only (suc n) i k = (λ e. refl, zeros_only n (i + 1) k)
 
-heads_spare : (n i k : ℕ) → i + n ≤ 64 → 144 ≤ k → AllByRecursion (Spares k) (map (λ slot. Write (header_place slot) (sector_of (reserved_header 0 slot))) (range_with_len i n))
+heads_spare : (n i k : ℕ) → i + n ≤ 64 → 144 ≤ k → AllByRecursion (Spares k) (map (λ slot. Write (header_place slot) (sector_of (reserved_header 1 0 slot))) (range_with_len i n))
 heads_spare zero i k l m = tt
 heads_spare (suc n) i k l m = (λ e. omega (arith, e, l, m), heads_spare n (i + 1) k (omega (arith, l)) m)
 
 format_blank : (i slot : ℕ) → KeepsBlank slot (format_calls strict 0 3 i)
 unfolding format_calls
 format_blank i slot k m n =
-    only_append k zero_sector zero_prepares (reserved_headers 0 ++ Sync ∷ later i) (zeros_only 256 144 k)
-    (only_spared k (reserved_headers 0 ++ Sync ∷ later i) (spares_append k (reserved_headers 0) (Sync ∷ later i) (heads_spare 64 0 k (omega arith) (omega (arith, m))) (tt, save_spares 4 0 k (copy_bytes (first_value strict 0 3 i)) (omega arith) (omega (arith, m)))))
+    only_append k zero_sector (zero_prepares 1) (reserved_headers 1 0 ++ Sync ∷ later i) (zeros_only 256 144 k)
+    (only_spared k (reserved_headers 1 0 ++ Sync ∷ later i) (spares_append k (reserved_headers 1 0) (Sync ∷ later i) (heads_spare 64 0 k (omega arith) (omega (arith, m))) (tt, save_spares 4 0 k (copy_bytes (first_value strict 0 3 i)) (omega arith) (omega (arith, m)))))
 
 zero_blank : (slot : ℕ) → slot < 64 → IsBlank slot zero_face
 zero_blank slot l = record {
@@ -200,9 +200,9 @@ copy_long i = length-append (name_of (named_bytes (first_value strict 0 3 i))) (
 pub copies_there : (i c : ℕ) → c < 4 → copy_reading (face i) c ≡ Some (copy_bytes (first_value strict 0 3 i))
 unfolding format_calls
 copies_there i c l =
-    let f1 = after_all zero_face zero_prepares in
-    let f2 = after_all f1 (reserved_headers 0) in
+    let f1 = after_all zero_face (zero_prepares 1) in
+    let f2 = after_all f1 (reserved_headers 1 0) in
     let f3 = after f2 Sync in
-    let all : face i ≡ after_all f3 (later i) = after_all_append zero_prepares (reserved_headers 0 ++ Sync ∷ later i) zero_face ∙ after_all_append (reserved_headers 0) (Sync ∷ later i) f1 in
-    let count : length f3.cells ≡ sectors = length_after_all (reserved_headers 0) f1 ∙ (length_after_all zero_prepares zero_face ∙ length-replicate sectors zero_cell) in
+    let all : face i ≡ after_all f3 (later i) = after_all_append (zero_prepares 1) (reserved_headers 1 0 ++ Sync ∷ later i) zero_face ∙ after_all_append (reserved_headers 1 0) (Sync ∷ later i) f1 in
+    let count : length f3.cells ≡ sectors = length_after_all (reserved_headers 1 0) f1 ∙ (length_after_all (zero_prepares 1) zero_face ∙ length-replicate sectors zero_cell) in
     ap (λ (g : Face). copy_reading g c) all ∙ copies_read 4 0 (copy_bytes (first_value strict 0 3 i)) f3 (copy_long i) count (omega arith) (λ c m. absurd (omega arith)) c l

@@ -10,7 +10,7 @@ use Rattle.vr_header.specs.Names.{root_header}
 use Rattle.vr_header.specs.Spelling.{named_bytes}
 use Rattle.vr_rules.specs.Replica.{Replica}
 use Rattle.vr_rules.specs.Steps.{Effect}
-use Rattle.vr_rules.specs.Opening.{fresh}
+use Rattle.vr_rules.specs.Opening.{IsKind, fresh}
 use Rattle.vr_world.specs.Lying.{Lying, hazards}
 use Rattle.vr_world.specs.Group.{fresh_group}
 use Rattle.vr_world.specs.World.{Happening, Host, World, fresh_host, fresh_world, happens}
@@ -30,8 +30,11 @@ use Rattle.vr_name_rows.proofs.Disks.{IsOf, Plain}
 abbrev pub blank_disk : ℕ → Lying
 blank_disk i = hazards.formatted strict 0 3 i
 
+pub strict_kind : IsKind strict
+strict_kind = (omega arith, omega arith)
+
 pub beside : AreBeside (fresh_world hazards strict 3) (fresh_group (λ i. strict) 0 3)
-beside = subst (λ (w : World Lying). AreBeside w (fresh_group (λ i. strict) 0 3)) (sym (schedules_begin strict 3)) (fresh_beside (λ i. strict) 0 3 (omega arith) (omega arith) (omega arith))
+beside = subst (λ (w : World Lying). AreBeside w (fresh_group (λ i. strict) 0 3)) (sym (schedules_begin strict 3)) (fresh_beside (λ i. strict) 0 3 (λ i l. strict_kind) (omega arith) (omega arith) (omega arith))
 
 face_of : (i : ℕ) → slice_get (fresh_world hazards strict 3).members i ≡ Some (fresh_host hazards strict 3 i) → IsFace (blank_disk i).face
 face_of i at = (((beside.each i (fresh_host hazards strict 3 i) at).2).running (fresh strict 0 3 i) refl).0.calm.face

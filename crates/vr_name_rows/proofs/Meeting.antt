@@ -21,6 +21,7 @@ use Rattle.vr_name_rows.specs.Rows as rows
 use Rattle.vr_name_rows.specs.Rows.{AcknowledgedMeetsAll, MeetsAll, PlainPathMeetsAll, TornPrepareMeetsAll}
 use Rattle.vr_name_rows.proofs.Denied.{acknowledged_never}
 use Rattle.vr_name_rows.proofs.Happenings.{acknowledged_lines, plain_lines, puts, registers, torn_lines}
+use Rattle.vr_name_rows.proofs.Lines.{strict_kind}
 use Rattle.vr_name_rows.proofs.Path.{plain_never}
 use Rattle.vr_name_rows.proofs.TornRow.{torn_never}
 
@@ -42,17 +43,17 @@ torn_is = refl
 
 -- ---- lines of a group of three, and requests that can be asked
 
-plain_of : AreLinesOf 3 plain_lines
+plain_of : AreLinesOf 1 3 plain_lines
 unfolding AreLinesOf
-plain_of = (omega arith, (omega arith, (omega arith, (omega arith, (omega arith, (omega arith, tt))))))
+plain_of = ((omega arith, refl), (omega arith, (omega arith, ((omega arith, refl), (omega arith, (omega arith, tt))))))
 
-acknowledged_of : AreLinesOf 3 acknowledged_lines
+acknowledged_of : AreLinesOf 1 3 acknowledged_lines
 unfolding AreLinesOf
-acknowledged_of = (omega arith, (omega arith, (omega arith, ((omega arith, omega arith), ((omega arith, omega arith), (omega arith, (omega arith, (omega arith, (omega arith, (omega arith, (omega arith, (omega arith, (omega arith, (omega arith, (omega arith, (omega arith, (omega arith, (omega arith, tt))))))))))))))))))
+acknowledged_of = ((omega arith, refl), (omega arith, (omega arith, ((omega arith, omega arith), ((omega arith, omega arith), (omega arith, (omega arith, (omega arith, (omega arith, (omega arith, (omega arith, (omega arith, (omega arith, (omega arith, (omega arith, (omega arith, (omega arith, (omega arith, tt))))))))))))))))))
 
-torn_of : AreLinesOf 3 torn_lines
+torn_of : AreLinesOf 1 3 torn_lines
 unfolding AreLinesOf
-torn_of = (omega arith, ((omega arith, omega arith, omega arith), (omega arith, (omega arith, (omega arith, (omega arith, (omega arith, (omega arith, (omega arith, (omega arith, (omega arith, tt)))))))))))
+torn_of = ((omega arith, refl), ((omega arith, omega arith, omega arith), (omega arith, (omega arith, (omega arith, (omega arith, (omega arith, (omega arith, (omega arith, (omega arith, (omega arith, tt)))))))))))
 
 registers_asked : IsAsked registers
 registers_asked = record { form = record { first = (λ e. refl, λ e. refl); fits = tt }; client = omega arith; request = omega arith; version = (omega arith, omega arith) }
@@ -89,7 +90,7 @@ plain_all = record {
   group = omega arith;
   played = refl;
   names = plain_names;
-  log = lines_keep strict 3 plain_lines (omega arith) (omega arith) (omega arith) plain_of plain_asked plain_names;
+  log = lines_keep strict 1 3 plain_lines strict_kind (omega arith) (omega arith) (omega arith) plain_of plain_asked plain_names;
 }
 
 acknowledged_all : MeetsAll (of_three acknowledged_lines)
@@ -97,7 +98,7 @@ acknowledged_all = record {
   group = omega arith;
   played = refl;
   names = acknowledged_names;
-  log = lines_keep strict 3 acknowledged_lines (omega arith) (omega arith) (omega arith) acknowledged_of acknowledged_asked acknowledged_names;
+  log = lines_keep strict 1 3 acknowledged_lines strict_kind (omega arith) (omega arith) (omega arith) acknowledged_of acknowledged_asked acknowledged_names;
 }
 
 torn_all : MeetsAll (of_three torn_lines)
@@ -105,7 +106,7 @@ torn_all = record {
   group = omega arith;
   played = refl;
   names = torn_names;
-  log = lines_keep strict 3 torn_lines (omega arith) (omega arith) (omega arith) torn_of torn_asked torn_names;
+  log = lines_keep strict 1 3 torn_lines strict_kind (omega arith) (omega arith) (omega arith) torn_of torn_asked torn_names;
 }
 
 pub plain_path_meets_all : PlainPathMeetsAll

@@ -16,7 +16,7 @@ use Rattle.vr_name_rows.proofs.Found.{Looks, all_quiet, found_all, of_op, starts
 
 -- a slot that has had no entry
 abbrev pub reserved : ℕ → Slot
-reserved slot = record { header = Some (reserved_header 0 slot); entry = None; blank = false }
+reserved slot = record { header = Some (reserved_header 1 0 slot); entry = None; blank = false }
 
 -- slot 1 is another one
 abbrev pub but_first : Slot → ℕ → Slot

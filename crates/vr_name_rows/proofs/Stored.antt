@@ -64,7 +64,7 @@ none_read d slot p = elim (whole_in 1 d.face slot) as (λ o. whole_in 1 d.face s
 pub blank_look : (i slot : ℕ) → Plain [] (blank_disk i) → slot < 64 → look (blank_disk i) slot ≡ reserved slot
 blank_look i slot p l =
     ap (λ h. record { header = h; entry = whole_in 1 (blank_disk i).face slot; blank = false }) (header_is i slot l)
-    ∙ ap (λ e. record { header = Some (reserved_header 0 slot); entry = e; blank = false }) (none_read (blank_disk i) slot p)
+    ∙ ap (λ e. record { header = Some (reserved_header 1 0 slot); entry = e; blank = false }) (none_read (blank_disk i) slot p)
 
 -- ---- what is written
 
@@ -79,7 +79,7 @@ written_header f n =
 
 other_header : (f : Face) (slot : ℕ) → slot < 64 → slot ≢ 1 → header_in (after_all f (new_calls 1 first)) slot ≡ header_in f slot
 other_header f slot l other =
-    same_header (new_calls 1 first) f slot (spares_append (header_place slot) (prepare_calls 1 first) (header_calls first_header) (prepare_spares first (header_place slot) (inl (omega (arith, l)))) (header_spares first_header (header_place slot) (λ q. other (omega (arith, q)))))
+    same_header (new_calls 1 first) f slot (spares_append (header_place slot) (prepare_calls 1 first) (header_calls first_header) (prepare_spares 1 first (header_place slot) (inl (omega (arith, l)))) (header_spares first_header (header_place slot) (λ q. other (omega (arith, q)))))
 
 stored_look : (i slot : ℕ) → Plain [] (blank_disk i) → slot < 64 → look (stored i) slot ≡ but_first kept_slot slot
 stored_look i slot p l =

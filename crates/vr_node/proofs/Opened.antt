@@ -1,20 +1,13 @@
 -- A member is made, or found again.
-use Rattle.std.proofs.Common.{◌≡◌, List, [], Option, Some, None, Result, Ok, Err, refl, subst, sym}
-use Rattle.vr_base.specs.Kinds.{of_mode}
+use Rattle.std.proofs.Common.{◌≡◌, List, [], Option, Some, None, Result, Err, refl, subst, sym}
 use Rattle.vr_base.specs.declared.kind.Kind.{Kind}
 use Rattle.vr_base.specs.declared.table.Config.{Config}
 use Rattle.vr_disk.specs.DiskState.{Disk}
 use Rattle.vr_msg.specs.declared.output.Output.{Output}
 use Rattle.vr_node.specs.Opening.{Opening}
-use Rattle.vr_replica.specs.Making.{Made}
 use Rattle.vr_replica.specs.Recovering.{Recovered}
-use Rattle.vr_replica.specs.FreshFault.{FreshFault}
-use Rattle.vr_replica.specs.FreshFault.TheVariants as made
 use Rattle.vr_replica.specs.Refusal.TheVariants as found
 use Rattle.vr_replica.specs.Running.{Running}
-use Rattle.vr_replica.specs.Formatting.{format_calls}
-use Rattle.vr_replica.specs.Opening.{blank}
-use Rattle.vr_replica.specs.Replica.{Replica}
 use Rattle.vr_status.specs.declared.status.Status.{Status}
 use Rattle.vr_status.specs.declared.status.Status.TheVariants as status
 use Rattle.vr_replica.specs.Halt.TheVariants as halt
@@ -40,14 +33,3 @@ found_wanting c d d' out e r = subst (λ o. Recovered c d d' [] o (Err (found.Ha
 -- one that is made anew puts out nothing
 pub made_out : (kind : Kind) (c : Config) (d d' : Option Disk) (out : List Output) (r : Result Running Status) → out ≡ [] → Opening (Some kind) c d d' [] r → Opening (Some kind) c d d' out r
 made_out kind c d d' out r e o = subst (λ x. Opening (Some kind) c d d' x r) (sym e) o
-
--- all files are of one version, so that a file of this kind is one of its mode
-pub made_as : (kind : Kind) (c : Config) (d d' : Option Disk) (r : Result Replica FreshFault) → Made (of_mode kind.mode) c d d' r → Made kind c d d' r
-unfolding format_calls blank
-made_as kind c d d' (Ok r) m = record { is = m.is }
-made_as kind c d d' (Err made.Occupied) m = record { is = m.is }
-made_as kind c d d' (Err made.DiskFault) m = record { is = m.is }
-made_as kind c d d' (Err made.NoMemory) m = record { is = m.is }
-
-pub made_fault : (kind : Kind) (c : Config) (d d' : Option Disk) (why : FreshFault) → why ≡ made.DiskFault → Made (of_mode kind.mode) c d d' (Err why) → Made kind c d d' (Err made.DiskFault)
-made_fault kind c d d' why e m = made_as kind c d d' (Err made.DiskFault) (subst (λ (x : FreshFault). Made (of_mode kind.mode) c d d' (Err x)) e m)

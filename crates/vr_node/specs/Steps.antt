@@ -1,5 +1,5 @@
 -- What a member of a group does at an event.
-use Rattle.std.specs.Prelude.{◌≡◌, [], Err, Ok}
+use Rattle.std.specs.Prelude.{◌≤◌, [], Err, Ok}
 use Rattle.vr_node.specs.declared.node.Node.{Node}
 use Rattle.vr_replica.specs.Replica.{version}
 use Rattle.vr_replica.specs.Rules.{react}
@@ -10,9 +10,10 @@ use Rattle.vr_replica.specs.Does.{Does}
 use Rattle.vr_replica.specs.Halt as replica
 use Rattle.vr_replica.specs.Halt.TheVariants as halt
 
--- one step of the rules, whole, on a file of version 1: replica, disk and outputs are those that the rules give
+-- one step of the rules, whole, on a file of the replica's version, which is 1 or 2: replica, disk and outputs are those that the rules give
 abbrev pub steps : Doing Node
-steps node disk event outputs node' disk' = (version node.replica.memory ≡ 1) × Does (react event) node.replica.memory node'.replica.memory disk disk' [] outputs (Ok tt)
+steps node disk event outputs node' disk' =
+    ((1 ≤ version node.replica.memory) × (version node.replica.memory ≤ 2)) × Does (react event) node.replica.memory node'.replica.memory disk disk' [] outputs (Ok tt)
 
 -- why a replica's step stopped, by what the loop hears
 abbrev pub why_of : Halt → replica.Halt

@@ -12,7 +12,6 @@ use vr_replica::{FreshFault, Halt, Refusal, Replica};
 use vr_status::Status;
 
 /// A member that is made anew, on a file of this kind.
-#[tactic(auto, using(crate::proofs::Opened::made_as))]
 fn make_member<D: SectorDisk>(
     alloc: Global,
     disk: &mut D,
@@ -25,7 +24,7 @@ fn make_member<D: SectorDisk>(
     ensures cause { CountsFault Status.DiskFault (D.faults disk.old) (D.faults disk.new) result }
     ensures opened { Opening (Some kind) config.now (D.told disk.old) (D.told disk.new) [] result }
 {
-    match Replica::fresh(alloc, disk, config, kind.mode) {
+    match Replica::fresh(alloc, disk, config, kind) {
         Ok(replica) => Ok(replica),
         Err(FreshFault::Occupied) => Err(Status::Occupied),
         Err(FreshFault::DiskFault) => Err(Status::DiskFault),

@@ -69,7 +69,6 @@ ready_counted a r q e h =
       savable = savable_alike r (acknowledged a r) refl h.savable;
       idle = h.idle;
       fits = h.fits;
-      runs = h.runs;
     })
 
 pub saved_counted : (a : PrepareOk) (r q : Replica) → q ≡ acknowledged a r → q.saved ≡ r.saved

@@ -1,5 +1,5 @@
 -- A replica as it begins, and what it does once its Parts are found.
-use Rattle.std.proofs.Common.{arith, ◌≡◌, ◌<◌, ◌+◌, ◌-◌, ◌^◌, ◌∙◌, inr, refl, sym, subst, Bool, List, [], ◌++◌, Option, true, false, Result, Ok}
+use Rattle.std.proofs.Common.{arith, ◌≡◌, ◌≤◌, ◌<◌, ◌+◌, ◌-◌, ◌^◌, ◌∙◌, inr, refl, sym, subst, Bool, List, [], ◌++◌, Option, true, false, Result, Ok}
 use Rattle.std.specs.Prelude.{nat_le}
 use Rattle.std.proofs.lemmas.Bool.{and_parts, eqb-true, ltb-false}
 use Rattle.vr_disk.specs.DiskState.{Disk}
@@ -11,7 +11,7 @@ use Rattle.std.proofs.Common.{cond, append-nil}
 use Rattle.vr_journal.specs.Steps.{when, says}
 use Rattle.vr_journal.specs.Words.{with_saved, save}
 use Rattle.vr_journal.specs.Opening.{blank, in_next_view, leave_view, heard_itself, announce, going_on, resuming}
-use Rattle.vr_journal.proofs.Slots.{value_is, least_two}
+use Rattle.vr_journal.proofs.Slots.{value_is}
 use Rattle.vr_journal.proofs.Openings.{partly_blank, kept_next}
 use Rattle.vr_journal.specs.Found.{Lists}
 use Rattle.vr_journal.proofs.SavesFound.{lists_head, list_size}
@@ -24,13 +24,13 @@ use Rattle.vr_journal.specs.Ready.{IsReady, MayLoad}
 use Rattle.vr_opening.specs.Finding.{IsOpeningOld}
 use Rattle.vr_journal.proofs.Stepping.{does_by, does_quiet, change_by_then, says_by}
 
-pub opening_blank : (v : SuperValue) (r : Replica) → r ≡ blank v → IsGood v → v.fields.version ≡ 1 → IsOpeningOld 0 r
+pub opening_blank : (v : SuperValue) (r : Replica) → r ≡ blank v → IsGood v → 2 ≤ v.fields.n → IsOpeningOld 0 r
 unfolding IsOpeningOld blank
-opening_blank v r e g one =
-    let w = value_is v g (least_two v g one) in
+opening_blank v r e g two =
+    let w = value_is v g two in
     rw e (record {
       good = g;
-      version = one;
+      several = two;
       partly = partly_blank v;
       top = λ same some. inr (subst (λ j. Lists j v.headers) same (lists_head v w (list_size v g some)));
     })
@@ -54,7 +54,7 @@ opened_next r q h l e =
     let same = same_views r l in
     let low = h.ready.savable.log_view in
     rw e (record {
-      ready = record { sound = (kept_next r h.ready.sound).sound; savable = savable_next r (omega arith) h.ready.savable; idle = h.ready.idle; fits = h.ready.fits; runs = h.ready.runs };
+      ready = record { sound = (kept_next r h.ready.sound).sound; savable = savable_next r (omega arith) h.ready.savable; idle = h.ready.idle; fits = h.ready.fits };
       applied = h.applied;
     })
 
@@ -73,7 +73,7 @@ leave_none r d o l = does_by _ r r d d o o (Ok tt) (rw l (does_quiet r d o))
 pub ready_heard : (r q : Replica) → IsReady r → q ≡ heard_itself r → IsReady q
 unfolding IsReady
 ready_heard r q h e =
-    rw e (record { sound = sound_alike r (heard_itself r) refl h.sound; savable = savable_alike r (heard_itself r) refl h.savable; idle = h.idle; fits = h.fits; runs = h.runs })
+    rw e (record { sound = sound_alike r (heard_itself r) refl h.sound; savable = savable_alike r (heard_itself r) refl h.savable; idle = h.idle; fits = h.fits })
 
 told_view : (b : Bool) (r : Replica) (d : Option Disk) (o o2 : List Output) → o2 ≡ o ++ cond b (send_to_all start_view_change r) [] → Does (when b (says (send_to_all start_view_change))) r r d d o o2 (Ok tt)
 told_view true r d o o2 e = says_by (send_to_all start_view_change) r d o o2 e

@@ -17,7 +17,7 @@ use Rattle.vr_journal.specs.Replica.{Replica, forgetting, part_at, version}
 use Rattle.vr_journal.specs.Steps.{change, each}
 use Rattle.vr_journal.specs.Sound.{IsSavable}
 use Rattle.vr_journal.specs.Opening.{recover_old, recover_op, recover_parts, old_headers, blank, first_listed, clouded, clouded_at, was_stored}
-use Rattle.vr_journal.proofs.Slots.{Value, value_is, least_two}
+use Rattle.vr_journal.proofs.Slots.{Value, value_is}
 use Rattle.vr_journal.specs.Found.{Partly}
 use Rattle.vr_journal.proofs.Openings.{partly_spans, partly_clouded, opened_forgetting}
 use Rattle.vr_journal.proofs.SavesFound.{clouded_known, found_topped, savable_found, savable_forgetting}
@@ -172,11 +172,11 @@ partly_window v n r w p = subst HasWindow (sym p.is) (window_blank v r.parts w p
 
 pub window_opening : (n : ℕ) (r : Replica) → IsOpening n r → HasWindow r
 unfolding IsOpening
-window_opening n r h = partly_window r.saved n r (value_is r.saved h.good (least_two r.saved h.good h.version)) h.partly
+window_opening n r h = partly_window r.saved n r (value_is r.saved h.good h.several) h.partly
 
 pub window_clouded : (n : ℕ) (r q : Replica) → IsOpening n r → q ≡ clouded r.saved r → HasWindow q
 unfolding IsOpening
-window_clouded n r q h e = let w = value_is r.saved h.good (least_two r.saved h.good h.version) in rw e (partly_window r.saved n (clouded r.saved r) w (partly_clouded r.saved n r w h.partly))
+window_clouded n r q h e = let w = value_is r.saved h.good h.several in rw e (partly_window r.saved n (clouded r.saved r) w (partly_clouded r.saved n r w h.partly))
 
 idle_blank : (v : SuperValue) (ps : List Part) → (record (blank v) { parts = ps }).idle ≤ 9
 unfolding blank
@@ -190,25 +190,16 @@ forgetting_fits : (r : Replica) → Fits (version r) r.state → Fits (version (
 unfolding forgetting
 forgetting_fits r h = h
 
-forgetting_runs : (r : Replica) → version r ≡ 1 → version (forgetting r) ≡ 1
-unfolding forgetting
-forgetting_runs r h = h
-
 blank_fits : (v : SuperValue) (ps : List Part) → Fits (version (record (blank v) { parts = ps })) (record (blank v) { parts = ps }).state
 unfolding blank
 blank_fits v ps = Fits-empty v.fields.version
-
-blank_runs : (v : SuperValue) (ps : List Part) → v.fields.version ≡ 1 → version (record (blank v) { parts = ps }) ≡ 1
-unfolding blank
-blank_runs v ps e = e
 
 pub opened_ready : (c : ℕ) (r q p : Replica) → IsOpening (c + 64) r → c ≡ r.saved.fields.checkpoint → q ≡ clouded r.saved r → p ≡ forgetting q → MayLoad p
 unfolding IsOpening MayLoad IsReady
 opened_ready c r q p h e i j =
     let v : SuperValue = r.saved in
     let n : ℕ = c + 64 in
-    let two = least_two v h.good h.version in
-    let w = value_is v h.good two in
+    let w = value_is v h.good h.several in
     let window = w.window in
     let last : v.fields.head ≤ n = omega arith in
     let x : Replica = clouded v r in
@@ -218,8 +209,7 @@ opened_ready c r q p h e i j =
     let savable : IsSavable x = subst IsSavable (sym found.is) (savable_found v x.parts h.good (subst Topped found.is top)) in
     let idle : x.idle ≤ 9 = subst (λ (y : Replica). y.idle ≤ 9) (sym found.is) (idle_blank v x.parts) in
     let fits : Fits (version x) x.state = subst (λ (y : Replica). Fits (version y) y.state) (sym found.is) (blank_fits v x.parts) in
-    let runs : version x ≡ 1 = subst (λ (y : Replica). version y ≡ 1) (sym found.is) (blank_runs v x.parts h.version) in
     rw (j, i) (record {
-      ready = record { sound = opened.sound; savable = savable_forgetting x savable (topped_forgetting x (partly_spans v n x w found) top); idle = forgetting_idle x idle; fits = forgetting_fits x fits; runs = forgetting_runs x runs };
+      ready = record { sound = opened.sound; savable = savable_forgetting x savable (topped_forgetting x (partly_spans v n x w found) top); idle = forgetting_idle x idle; fits = forgetting_fits x fits };
       applied = opened.applied;
     })

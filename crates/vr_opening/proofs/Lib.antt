@@ -3,6 +3,8 @@ pub mod Olds
 pub mod Clouds
 pub mod Begins
 pub mod Recovers
+pub mod Alone
+pub mod Opens
 pub mod Makes
 pub mod First
 pub mod Calls

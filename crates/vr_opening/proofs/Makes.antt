@@ -1,9 +1,7 @@
 -- A new member is made on its disk.
 use Rattle.vr_ckpt.proofs.Fitting.{Fits-empty}
 use Rattle.vr_ckpt.specs.Fitting.{Fits}
-use Rattle.vr_base.specs.Kinds.{of_mode}
 use Rattle.vr_base.specs.declared.kind.Kind.{Kind}
-use Rattle.vr_base.specs.declared.mode.Mode.{Mode}
 use Rattle.std.proofs.Common.{arith, ℕ, ◌≡◌, ◌<◌, ◌≤◌, ◌^◌, ◌∙◌, refl, sym, ap, subst, Bool, true, false, List, Option, Some, None, Ok, Err}
 use Rattle.std.specs.Prelude.{IfSome, is_some}
 use Rattle.vr_base.specs.declared.table.Config.{Config}
@@ -12,14 +10,14 @@ use Rattle.vr_disk.specs.DiskState.{Disk}
 use Rattle.vr_super.specs.declared.opening.Found.{Found}
 use Rattle.vr_super.specs.Copies.{SuperValue, IsGood}
 use Rattle.vr_super.specs.Opens.{file_kind, good_copies, opened, found_of}
-use Rattle.vr_journal.specs.Opening.{fresh, blank, first_value}
+use Rattle.vr_journal.specs.Opening.{IsKind, fresh, blank, first_value}
 use Rattle.vr_journal.specs.Replica.{Replica, forgetting, version}
 use Rattle.vr_journal.specs.Replica.{head}
 use Rattle.vr_journal.specs.Sound.{IsSound, IsSavable}
-use Rattle.vr_journal.proofs.Slots.{value_is, least_two}
+use Rattle.vr_journal.proofs.Slots.{value_is}
 use Rattle.vr_journal.proofs.Openings.{partly_blank, opened_forgetting}
 use Rattle.vr_journal.proofs.SavesFound.{found_topped, savable_found}
-use Rattle.vr_opening.proofs.First.{first_good}
+use Rattle.vr_opening.proofs.First.{first_good, size_of}
 use Rattle.vr_journal.specs.Ready.{IsReady}
 use Rattle.vr_opening.specs.declared.new_member.FreshFault.TheVariants.{Occupied, DiskFault, NoMemory}
 use Rattle.vr_opening.specs.Making.{Agrees, Formats, Made}
@@ -48,33 +46,24 @@ pub fresh_so : (kind : Kind) (cluster n index : ℕ) (r : Replica) → r ≡ fre
 unfolding blank
 fresh_so kind cluster n index r e = e ∙ ap (λ (k : Kind). fresh k cluster n index) (sym (ap (λ (x : Replica). file_kind x.saved.fields) e))
 
-formats_so : (mode : Mode) (c : Config) (r : Replica) (d d' : Option Disk) (ok : Bool) → r ≡ fresh (of_mode mode) c.cluster c.n c.replica → Formats (file_kind r.saved.fields) c d d' ok → Formats (of_mode mode) c d d' ok
+formats_so : (kind : Kind) (c : Config) (r : Replica) (d d' : Option Disk) (ok : Bool) → r ≡ fresh kind c.cluster c.n c.replica → Formats (file_kind r.saved.fields) c d d' ok → Formats kind c d d' ok
 unfolding blank
-formats_so mode c r d d' ok e = subst (λ (k : Kind). Formats k c d d' ok) (ap (λ (x : Replica). file_kind x.saved.fields) e)
+formats_so kind c r d d' ok e = subst (λ (k : Kind). Formats k c d d' ok) (ap (λ (x : Replica). file_kind x.saved.fields) e)
 
-made : (mode : Mode) (c : Config) (d d1 d' : Option Disk) (b : Bool) (r : Replica) → Agrees d b → b ≡ false → d1 ≡ d → r ≡ fresh (of_mode mode) c.cluster c.n c.replica → Formats (file_kind r.saved.fields) c d1 d' true → Made (of_mode mode) c d d' (Ok r)
-made mode c d d1 d' b r a e s i h =
-    let f : Formats (of_mode mode) c d1 d' true = formats_so mode c r d1 d' true i h in
+pub made : (kind : Kind) (c : Config) (d d1 d' : Option Disk) (b : Bool) (r : Replica) → Agrees d b → b ≡ false → d1 ≡ d → r ≡ fresh kind c.cluster c.n c.replica → Formats (file_kind r.saved.fields) c d1 d' true → Made kind c d d' (Ok r)
+made kind c d d1 d' b r a e s i h =
+    let f : Formats kind c d1 d' true = formats_so kind c r d1 d' true i h in
     record { is = (rw e at a, i, rw s at f) }
 
-stopped : (mode : Mode) (c : Config) (d d1 d' : Option Disk) (b : Bool) (r : Replica) → Agrees d b → b ≡ false → d1 ≡ d → r ≡ fresh (of_mode mode) c.cluster c.n c.replica → Formats (file_kind r.saved.fields) c d1 d' false → Made (of_mode mode) c d d' (Err DiskFault)
-stopped mode c d d1 d' b r a e s i h =
-    let f : Formats (of_mode mode) c d1 d' false = formats_so mode c r d1 d' false i h in
+pub stopped : (kind : Kind) (c : Config) (d d1 d' : Option Disk) (b : Bool) (r : Replica) → Agrees d b → b ≡ false → d1 ≡ d → r ≡ fresh kind c.cluster c.n c.replica → Formats (file_kind r.saved.fields) c d1 d' false → Made kind c d d' (Err DiskFault)
+stopped kind c d d1 d' b r a e s i h =
+    let f : Formats kind c d1 d' false = formats_so kind c r d1 d' false i h in
     record { is = (rw e at a, rw s at f) }
 
 -- the value that it formats its disk with
 pub fresh_value : (c : Config) (r : Replica) (v : SuperValue) → v ≡ r.saved → r ≡ fresh (file_kind r.saved.fields) c.cluster c.n c.replica → v ≡ first_value (file_kind v.fields) c.cluster c.n c.replica
 fresh_value c r v s e =
     s ∙ (fresh_saved (file_kind r.saved.fields) c.cluster c.n c.replica r e ∙ ap (λ (w : SuperValue). first_value (file_kind w.fields) c.cluster c.n c.replica) (sym s))
-
--- the same two, of a kind by another name
-pub made_of : (kind : Kind) (mode : Mode) (c : Config) (d d1 d' : Option Disk) (b : Bool) (r : Replica) → kind ≡ of_mode mode → Agrees d b → b ≡ false → d1 ≡ d → r ≡ fresh kind c.cluster c.n c.replica
-    → Formats (file_kind r.saved.fields) c d1 d' true → Made (of_mode mode) c d d' (Ok r)
-made_of kind mode c d d1 d' b r k a e s i h = made mode c d d1 d' b r a e s (subst (λ (x : Kind). r ≡ fresh x c.cluster c.n c.replica) k i) h
-
-pub stopped_of : (kind : Kind) (mode : Mode) (c : Config) (d d1 d' : Option Disk) (b : Bool) (r : Replica) → kind ≡ of_mode mode → Agrees d b → b ≡ false → d1 ≡ d → r ≡ fresh kind c.cluster c.n c.replica
-    → Formats (file_kind r.saved.fields) c d1 d' false → Made (of_mode mode) c d d' (Err DiskFault)
-stopped_of kind mode c d d1 d' b r k a e s i h = stopped mode c d d1 d' b r a e s (subst (λ (x : Kind). r ≡ fresh x c.cluster c.n c.replica) k i) h
 
 -- nothing is forgotten of a replica that knows nothing
 fresh_forgets : (kind : Kind) (cluster n index : ℕ) → forgetting (fresh kind cluster n index) ≡ fresh kind cluster n index
@@ -87,22 +76,17 @@ fresh_idle kind cluster n index = omega arith
 
 fresh_state : (kind : Kind) (cluster n index : ℕ) → Fits (version (fresh kind cluster n index)) (fresh kind cluster n index).state
 unfolding blank
-fresh_state kind cluster n index = Fits-empty 1
+fresh_state kind cluster n index = Fits-empty kind.version
 
-fresh_version : (kind : Kind) (cluster n index : ℕ) → version (fresh kind cluster n index) ≡ 1
-unfolding blank
-fresh_version kind cluster n index = refl
-
-pub fresh_ready : (kind : Kind) (cluster n index : ℕ) (r : Replica) → cluster < 2 ^ 64 → index < 256 → n < 256 → is_some (quorums_of n) ≡ true → index < n → r ≡ fresh kind cluster n index → IsReady r
+pub fresh_ready : (kind : Kind) (cluster n index : ℕ) (r : Replica) → IsKind kind → cluster < 2 ^ 64 → index < 256 → n < 256 → is_some (quorums_of n) ≡ true → index < n → r ≡ fresh kind cluster n index → IsReady r
 unfolding IsReady
-fresh_ready kind cluster n index r a b c s m e =
+fresh_ready kind cluster n index r k a b c s m e =
     let v : SuperValue = first_value kind cluster n index in
-    let g : IsGood v = first_good kind cluster n index a b c s m in
-    let two = least_two v g refl in
-    let w = value_is v g two in
+    let g : IsGood v = first_good kind cluster n index k a b c s m in
+    let w = value_is v g (size_of n s).0 in
     let x : Replica = blank v in
     let part = partly_blank v in
     let top = found_topped v 0 x w part (omega arith) (λ i j. absurd (omega (arith, j))) in
     let sound : IsSound x = subst IsSound (fresh_forgets kind cluster n index) (opened_forgetting v 0 x w part (omega arith)).sound in
     let savable : IsSavable x = savable_found v x.parts g top in
-    rw e (record { sound = sound; savable = savable; idle = fresh_idle kind cluster n index; fits = fresh_state kind cluster n index; runs = fresh_version kind cluster n index })
+    rw e (record { sound = sound; savable = savable; idle = fresh_idle kind cluster n index; fits = fresh_state kind cluster n index })

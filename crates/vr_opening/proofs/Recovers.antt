@@ -1,24 +1,20 @@
 -- A replica is recovered from its disk.
 use Rattle.vr_base.specs.Kinds.{strict}
-use Rattle.std.proofs.Common.{ℕ, ◌≡◌, ◌∙◌, inl, inr, refl, sym, ap, subst, cond, List, Bool, true, false, Option, Some, None, Result, Ok, Err, rules, map}
-use Rattle.std.specs.Prelude.{IfSome, IsSome, is_some, not, ◌==◌}
-use Rattle.std.specs.Option.{option_and_then, option_map, option_map_or}
-use Rattle.std.proofs.lemmas.Bool.{eqb-true}
+use Rattle.std.proofs.Common.{ℕ, ◌≡◌, ◌≤◌, ◌∙◌, refl, sym, ap, subst, cond, List, Bool, true, false, Option, Some, None, Result, Ok, Err, rules, map}
+use Rattle.std.specs.Prelude.{IfSome, IsSome, is_some}
+use Rattle.std.specs.Option.{option_and_then, option_map_or}
+use Rattle.std.proofs.lemmas.Bool.{ltb-false}
+use Rattle.std.specs.Prelude.{◌||◌}
 use Rattle.vr_base.specs.declared.table.Config.{Config}
 use Rattle.vr_disk.specs.DiskState.{Disk, Face, Runs, RunsFrom}
 use Rattle.vr_msg.specs.declared.output.Output.{Output}
 use Rattle.vr_super.specs.Calls.{mend_calls}
-use Rattle.vr_super.specs.Copies.{SuperValue, value_of, version_at}
-use Rattle.vr_super.proofs.Best.{opened_among}
-use Rattle.vr_super.proofs.Format.{versioned}
-use Rattle.vr_super.proofs.Keeping.{among_good}
+use Rattle.vr_super.specs.Copies.{SuperValue}
 use Rattle.vr_super.specs.Opens as superblock
-use Rattle.vr_super.specs.Opens.{good_copies, found_as, found_of, opened}
-use Rattle.vr_super.specs.declared.opening.Found.{Found}
+use Rattle.vr_super.specs.Opens.{good_copies}
 use Rattle.vr_super.specs.Recovers.{RecoversFrom, copy_verdict}
 use Rattle.vr_super.specs.declared.recovering.CopyVerdict.{CopyVerdict}
 use Rattle.vr_super.specs.declared.recovering.SuperFault.TheVariants as fault
-use Rattle.vr_journal.specs.Sectors.{runnable}
 use Rattle.vr_journal.specs.Replica.{Replica}
 use Rattle.vr_journal.specs.Steps.{Word, Mend}
 use Rattle.vr_journal.specs.Opening.{blank, opening, first_value}
@@ -27,7 +23,7 @@ use Rattle.vr_journal.specs.Halt.TheVariants.{DiskFault, NoMemory}
 use Rattle.vr_opening.specs.declared.reopen.Refusal.{Refusal}
 use Rattle.vr_opening.specs.declared.reopen.Refusal.TheVariants.{Lost, OtherMember, Halted}
 use Rattle.vr_journal.specs.Does.{Does, Performs}
-use Rattle.vr_opening.specs.Recovering.{after_mend, all_good, DoesTo, config_of, is_foreign, is_other, lost_verdicts, opens, LosesValue, MendsValue, BeginsWith, StopsMending, LeavesUnmended, FindsValue, IsOther, IsAsked, StopsAsked, Recovered, RecoveredAny}
+use Rattle.vr_opening.specs.Recovering.{after_mend, all_good, DoesTo, config_of, is_few, is_left, is_left_in, is_other, lost_verdicts, opens_as, runs_as, LosesValue, MendsValue, BeginsWith, StopsMending, LeavesUnmended, FindsValue, IsOther, IsAsked, StopsAsked, Recovered, RecoveredAny}
 use Rattle.vr_journal.proofs.Stepping.{does_no_memory, effect_then, effect_stopped}
 
 pub begun_wanted : (v : SuperValue) (d : Option Disk) (o : List Output) → DoesTo (after_mend v) (blank v) d d o o (Err NoMemory)
@@ -57,116 +53,100 @@ begun_stopped v r q d d' o o' halt e h =
 mends : (v : SuperValue) (r : Replica) (d d' : Option Disk) (ok : Bool) → RunsFrom (mend_calls v) d d' ok → Performs (λ r. Mend v) r d d' ok
 mends v r d d' ok h = record { silent = refl; ran = h }
 
-runs_of : (v : SuperValue) (d d' : Option Disk) → MendsValue v d d' → RunsFrom (mend_calls v) d d' true
-runs_of v None d' m = m.untold refl
-runs_of v (Some x) d' m = (m.told x refl).1
+runs_of : (wanted : Option ℕ) (v : SuperValue) (d d' : Option Disk) → MendsValue wanted v d d' → RunsFrom (mend_calls v) d d' true
+runs_of wanted v None d' m = m.untold refl
+runs_of wanted v (Some x) d' m = (m.told x refl).1
 
-opens_of : (v : SuperValue) (d d' : Option Disk) → MendsValue v d d' → IfSome d (λ x. opens x.face ≡ Some v)
-opens_of v None d' m = tt
-opens_of v (Some x) d' m = (m.told x refl).0
+opens_of : (wanted : Option ℕ) (v : SuperValue) (d d' : Option Disk) → MendsValue wanted v d d' → IfSome d (λ x. opens_as wanted x.face ≡ Some v)
+opens_of wanted v None d' m = tt
+opens_of wanted v (Some x) d' m = (m.told x refl).0
 
-mended_then : (v : SuperValue) (q : Replica) (d d1 d2 : Option Disk) (o o' : List Output) (res : Result (Unit {0}) Halt) → MendsValue v d d1 → Does (after_mend v) (blank v) q d1 d2 o o' res → Does (opening v) (blank v) q d d2 o o' res
+mended_then : (wanted : Option ℕ) (v : SuperValue) (q : Replica) (d d1 d2 : Option Disk) (o o' : List Output) (res : Result (Unit {0}) Halt) → MendsValue wanted v d d1 → Does (after_mend v) (blank v) q d1 d2 o o' res → Does (opening v) (blank v) q d d2 o o' res
 unfolding opening
-mended_then v q d d1 d2 o o' res m h = effect_then (λ r. Mend v) (after_mend v) (blank v) q d d1 d2 o o' res (mends v (blank v) d d1 true (runs_of v d d1 m)) h
+mended_then wanted v q d d1 d2 o o' res m h = effect_then (λ r. Mend v) (after_mend v) (blank v) q d d1 d2 o o' res (mends v (blank v) d d1 true (runs_of wanted v d d1 m)) h
 
--- ---- the version of the file
+-- ---- values that are left alone
 
--- by the bytes that it opens as
-other_by : (f : Face) (o : Option (List ℕ)) → opened (good_copies f) ≡ o
-    → option_map_or (λ (x : Found). is_other x.version) (option_map (found_as (good_copies f)) o) false ≡ option_map_or (λ (v : SuperValue). is_other v.fields.version) (option_and_then value_of o) false
-other_by f None e = refl
-other_by f (Some b) e =
-    elim (value_of b) as (λ w. value_of b ≡ w → is_other (version_at b) ≡ option_map_or (λ (v : SuperValue). is_other v.fields.version) w false) [
-      | None ↦ λ w. absurd (among_good f b (opened_among b (good_copies f) e) w)
-      | Some v ↦ λ w. sym (ap is_other (versioned b v w))
-    ] refl
+or_parts : (a b : Bool) → (a || b) ≡ false → (a ≡ false) × (b ≡ false)
+or_parts true b e = absurd cc
+or_parts false b e = (refl, e)
 
-other_is : (f : Face) (o : Option Found) → o ≡ found_of (good_copies f) → option_map_or (λ (x : Found). is_other x.version) o false ≡ is_foreign f
-unfolding superblock.opens found_of
-other_is f o e = ap (λ (o : Option Found). option_map_or (λ (x : Found). is_other x.version) o false) e ∙ other_by f (opened (good_copies f)) refl
-
--- of a disk that may tell
-pub found_foreign : (t : Option Disk) (o : Option Found) (b : Bool) → IfSome t (λ d. o ≡ found_of (good_copies d.face)) → b ≡ option_map_or (λ (x : Found). is_other x.version) o false → IfSome t (λ d. b ≡ is_foreign d.face)
-found_foreign None o b h e = tt
-found_foreign (Some d) o b h e = e ∙ other_is d.face o h
-
--- where the file isn't of another version, the value of its superblock opens
-run_some : (o : Option SuperValue) (v : SuperValue) → option_map_or (λ (x : SuperValue). is_other x.fields.version) o false ≡ false → o ≡ Some v → option_and_then runnable o ≡ Some v
-run_some None v n e = absurd cc
-run_some (Some w) v n e =
-    elim (w.fields.version == 1) as (λ t. not t ≡ false → cond t (Some w) None ≡ Some v) [
-      | true ↦ λ n. e
-      | false ↦ λ n. absurd cc
+-- where it isn't, the value of the superblock opens
+run_some : (wanted : Option ℕ) (o : Option SuperValue) (v : SuperValue) → option_map_or (is_left wanted) o false ≡ false → o ≡ Some v → option_and_then (runs_as wanted) o ≡ Some v
+run_some wanted None v n e = absurd cc
+run_some wanted (Some w) v n e =
+    elim (is_left wanted w) as (λ t. t ≡ false → cond t None (Some w) ≡ Some v) [
+      | true ↦ λ n. absurd cc
+      | false ↦ λ n. e
     ] n
 
 -- where it is, none does
-run_none : (o : Option SuperValue) → option_map_or (λ (x : SuperValue). is_other x.fields.version) o false ≡ true → (option_and_then runnable o ≡ None) × (is_some o ≡ true)
-run_none None e = absurd cc
-run_none (Some w) e =
-    elim (w.fields.version == 1) as (λ t. not t ≡ true → (cond t (Some w) None ≡ None) × (true ≡ true)) [
-      | true ↦ λ e. absurd cc
-      | false ↦ λ e. (refl, refl)
+run_none : (wanted : Option ℕ) (o : Option SuperValue) → option_map_or (is_left wanted) o false ≡ true → (option_and_then (runs_as wanted) o ≡ None) × (is_some o ≡ true)
+run_none wanted None e = absurd cc
+run_none wanted (Some w) e =
+    elim (is_left wanted w) as (λ t. t ≡ true → (cond t None (Some w) ≡ None) × (true ≡ true)) [
+      | true ↦ λ e. (refl, refl)
+      | false ↦ λ e. absurd cc
     ] e
 
 verdicts_of : (b c : Bool) (f : Face) → b ≡ c → cond c all_good (map copy_verdict (good_copies f)) ≡ cond b all_good (map copy_verdict (good_copies f))
 verdicts_of b c f e = ap (λ (t : Bool). cond t all_good (map copy_verdict (good_copies f))) (sym e)
 
-pub foreign_lost : (d d' : Option Disk) (b : Bool) → IfSome d (λ x. b ≡ is_foreign x.face) → b ≡ true → d' ≡ d → LosesValue d d' all_good
-foreign_lost None d' b h e s = record { untold = λ x. s; told = λ x e. absurd cc }
-foreign_lost (Some y) d' b h e s =
-    let n = run_none (superblock.opens y.face) (sym h ∙ e) in
+pub left_lost : (wanted : Option ℕ) (d d' : Option Disk) (b : Bool) → IfSome d (λ x. b ≡ is_left_in wanted x.face) → b ≡ true → d' ≡ d → LosesValue wanted d d' all_good
+left_lost wanted None d' b h e s = record { untold = λ x. s; told = λ x e. absurd cc }
+left_lost wanted (Some y) d' b h e s =
+    let n = run_none wanted (superblock.opens y.face) (sym h ∙ e) in
     record {
       untold = λ x. absurd cc;
-      told = λ x i. let same : y ≡ x = search rules in subst (λ (z : Disk). (opens z.face ≡ None) × (d' ≡ Some z) × (all_good ≡ lost_verdicts z.face)) same (n.0, s, verdicts_of (is_some (superblock.opens y.face)) true y.face n.1);
+      told = λ x i. let same : y ≡ x = search rules in subst (λ (z : Disk). (opens_as wanted z.face ≡ None) × (d' ≡ Some z) × (all_good ≡ lost_verdicts z.face)) same (n.0, s, verdicts_of (is_some (superblock.opens y.face)) true y.face n.1);
     }
 
-pub foreign_not : (d d' : Option Disk) (b : Bool) → IfSome d (λ x. b ≡ is_foreign x.face) → b ≡ false → d' ≡ d → IfSome d' (λ x. is_foreign x.face ≡ false)
-foreign_not None d' b h e s = rw s tt
-foreign_not (Some y) d' b h e s = rw s (sym h ∙ e)
+pub left_not : (wanted : Option ℕ) (d d' : Option Disk) (b : Bool) → IfSome d (λ x. b ≡ is_left_in wanted x.face) → b ≡ false → d' ≡ d → IfSome d' (λ x. is_left_in wanted x.face ≡ false)
+left_not wanted None d' b h e s = rw s tt
+left_not wanted (Some y) d' b h e s = rw s (sym h ∙ e)
 
 -- ---- what is found of the superblock
 
-pub found_one : (v : SuperValue) (b : Bool) → b ≡ (v.fields.version == 1) → b ≡ true → v.fields.version ≡ 1
-found_one v b e t = eqb-true v.fields.version 1 (sym e ∙ t)
+pub found_several : (wanted : Option ℕ) (v : SuperValue) (b : Bool) → b ≡ is_left wanted v → b ≡ false → 2 ≤ v.fields.n
+found_several wanted v b e t = ltb-false v.fields.n 2 (or_parts (is_other wanted v.fields.version) (is_few v.fields.n) (sym e ∙ t)).1
 
-pub found_value : (v : SuperValue) (d d' : Option Disk) → IfSome d (λ x. is_foreign x.face ≡ false) → RecoversFrom d d' (Ok v) → MendsValue v d d'
-found_value v None d' n h = record { untold = λ e. h; told = λ x e. cc }
-found_value v (Some y) d' n h = record {
+pub found_value : (wanted : Option ℕ) (v : SuperValue) (d d' : Option Disk) → IfSome d (λ x. is_left_in wanted x.face ≡ false) → RecoversFrom d d' (Ok v) → MendsValue wanted v d d'
+found_value wanted v None d' n h = record { untold = λ e. h; told = λ x e. cc }
+found_value wanted v (Some y) d' n h = record {
   untold = λ e. cc;
-  told = λ x e. let same : y ≡ x = search rules in subst (λ (z : Disk). (opens z.face ≡ Some v) × Runs (mend_calls v z.face) (Some z) d' true) same (run_some (superblock.opens y.face) v n h.0, h.1);
+  told = λ x e. let same : y ≡ x = search rules in subst (λ (z : Disk). (opens_as wanted z.face ≡ Some v) × Runs (mend_calls v z.face) (Some z) d' true) same (run_some wanted (superblock.opens y.face) v n h.0, h.1);
 }
 
 -- only a disk that doesn't tell answers so
-pub found_other : (v : SuperValue) (b : Bool) (d d' : Option Disk) → IfSome d (λ x. is_foreign x.face ≡ false) → RecoversFrom d d' (Ok v) → b ≡ (v.fields.version == 1) → b ≡ false → LosesValue d d' all_good
-found_other v b None d' n h e t = record { untold = λ e. h; told = λ x e. cc }
-found_other v b (Some y) d' n h e t =
-    let other : true ≡ is_other v.fields.version = ap not (sym t ∙ e) in
-    let bad : true ≡ false = other ∙ (sym (ap (λ (o : Option SuperValue). option_map_or (λ (x : SuperValue). is_other x.fields.version) o false) h.0) ∙ n) in
+pub found_left : (wanted : Option ℕ) (v : SuperValue) (b : Bool) (d d' : Option Disk) → IfSome d (λ x. is_left_in wanted x.face ≡ false) → RecoversFrom d d' (Ok v) → b ≡ is_left wanted v → b ≡ true → LosesValue wanted d d' all_good
+found_left wanted v b None d' n h e t = record { untold = λ e. h; told = λ x e. cc }
+found_left wanted v b (Some y) d' n h e t =
+    let bad : true ≡ false = sym t ∙ (e ∙ (sym (ap (λ (o : Option SuperValue). option_map_or (is_left wanted) o false) h.0) ∙ n)) in
     cc
 
-pub lost : (vs : List CopyVerdict) (d d' : Option Disk) → RecoversFrom d d' (Err (fault.Lost vs)) → LosesValue d d' vs
-lost vs None d' h = record { untold = λ e. h; told = λ x e. cc }
-lost vs (Some y) d' h =
+pub lost : (wanted : Option ℕ) (vs : List CopyVerdict) (d d' : Option Disk) → RecoversFrom d d' (Err (fault.Lost vs)) → LosesValue wanted d d' vs
+lost wanted vs None d' h = record { untold = λ e. h; told = λ x e. cc }
+lost wanted vs (Some y) d' h =
     let none : is_some (superblock.opens y.face) ≡ false = ap is_some h.0 in
     record {
       untold = λ e. cc;
-      told = λ x e. let same : y ≡ x = search rules in subst (λ (z : Disk). (opens z.face ≡ None) × (d' ≡ Some z) × (vs ≡ lost_verdicts z.face)) same (ap (option_and_then runnable) h.0, h.1, h.2 ∙ verdicts_of (is_some (superblock.opens y.face)) false y.face none);
+      told = λ x e. let same : y ≡ x = search rules in subst (λ (z : Disk). (opens_as wanted z.face ≡ None) × (d' ≡ Some z) × (vs ≡ lost_verdicts z.face)) same (ap (option_and_then (runs_as wanted)) h.0, h.1, h.2 ∙ verdicts_of (is_some (superblock.opens y.face)) false y.face none);
     }
 
 any_value : SuperValue
 any_value = first_value strict 0 0 0
 
-pub mend_faulted : (d d' : Option Disk) → IfSome d (λ x. is_foreign x.face ≡ false) → RecoversFrom d d' (Err fault.DiskFault) → LeavesUnmended d d' DiskFault
-mend_faulted None d' n h = record { value = any_value; opens = tt; stops = h }
-mend_faulted (Some y) d' n h = record { value = h.value; opens = run_some (superblock.opens y.face) h.value n h.opens; stops = h.ran }
+pub mend_faulted : (wanted : Option ℕ) (d d' : Option Disk) → IfSome d (λ x. is_left_in wanted x.face ≡ false) → RecoversFrom d d' (Err fault.DiskFault) → LeavesUnmended wanted d d' DiskFault
+mend_faulted wanted None d' n h = record { value = any_value; opens = tt; stops = h }
+mend_faulted wanted (Some y) d' n h = record { value = h.value; opens = run_some wanted (superblock.opens y.face) h.value n h.opens; stops = h.ran }
 
 some_value : (o : Option SuperValue) → IsSome o → (v : SuperValue) × (o ≡ Some v)
 some_value None h = absurd cc
 some_value (Some v) h = (v, refl)
 
-pub mend_wanted : (d d' : Option Disk) → IfSome d (λ x. is_foreign x.face ≡ false) → RecoversFrom d d' (Err fault.NoMemory) → LeavesUnmended d d' NoMemory
-mend_wanted None d' n h = record { value = any_value; opens = tt; stops = h }
-mend_wanted (Some y) d' n h = let t = some_value (superblock.opens y.face) h.0 in record { value = t.0; opens = run_some (superblock.opens y.face) t.0 n t.1; stops = h.1 }
+pub mend_wanted : (wanted : Option ℕ) (d d' : Option Disk) → IfSome d (λ x. is_left_in wanted x.face ≡ false) → RecoversFrom d d' (Err fault.NoMemory) → LeavesUnmended wanted d d' NoMemory
+mend_wanted wanted None d' n h = record { value = any_value; opens = tt; stops = h }
+mend_wanted wanted (Some y) d' n h = let t = some_value (superblock.opens y.face) h.0 in record { value = t.0; opens = run_some wanted (superblock.opens y.face) t.0 n t.1; stops = h.1 }
 
 -- a stop in the mending is one of the whole opening
 stopped_mending : (v : SuperValue) (d d' : Option Disk) (o : List Output) (halt : Halt) → StopsMending v d d' halt → DoesTo (opening v) (blank v) d d' o o (Err halt)
@@ -174,34 +154,34 @@ unfolding opening
 stopped_mending v d d' o DiskFault h = effect_stopped (λ r. Mend v) (after_mend v) (blank v) (blank v) d d' o o (mends v (blank v) d d' false h)
 stopped_mending v d d' o NoMemory h = rw h (does_no_memory (opening v) (blank v) (blank v) d o o)
 
-pub recovered : (asked found : Config) (v : SuperValue) (q : Replica) (d d1 d2 : Option Disk) (o o' : List Output) → found ≡ config_of v → found ≡ asked → MendsValue v d d1 → DoesTo (after_mend v) (blank v) d1 d2 o o' (Ok q)
+pub recovered : (asked found : Config) (v : SuperValue) (q : Replica) (d d1 d2 : Option Disk) (o o' : List Output) → found ≡ config_of v → found ≡ asked → MendsValue None v d d1 → DoesTo (after_mend v) (blank v) d1 d2 o o' (Ok q)
     → IsAsked asked d d2 o o' q
-recovered asked found v q d d1 d2 o o' e i m h = record { value = v; named = sym e ∙ i; opens = opens_of v d d1 m; step = mended_then v q d d1 d2 o o' (Ok tt) m h }
+recovered asked found v q d d1 d2 o o' e i m h = record { value = v; named = sym e ∙ i; opens = opens_of None v d d1 m; step = mended_then None v q d d1 d2 o o' (Ok tt) m h }
 
-pub halted : (asked found : Config) (v : SuperValue) (d d1 d2 : Option Disk) (o o' : List Output) (halt : Halt) → found ≡ config_of v → found ≡ asked → MendsValue v d d1 → DoesTo (after_mend v) (blank v) d1 d2 o o' (Err halt)
+pub halted : (asked found : Config) (v : SuperValue) (d d1 d2 : Option Disk) (o o' : List Output) (halt : Halt) → found ≡ config_of v → found ≡ asked → MendsValue None v d d1 → DoesTo (after_mend v) (blank v) d1 d2 o o' (Err halt)
     → StopsAsked asked d d2 o o' halt
 halted asked found v d d1 d2 o o' halt e i m h = record {
   value = v;
-  opens = opens_of v d d1 m;
-  step = λ x. mended_then v (blank v) d d1 d2 o o' (Err halt) m h;
+  opens = opens_of None v d d1 m;
+  step = λ x. mended_then None v (blank v) d d1 d2 o o' (Err halt) m h;
   other = λ not. absurd (not (sym e ∙ i));
 }
 
-pub halted_any : (v : SuperValue) (d d1 d2 : Option Disk) (o o' : List Output) (halt : Halt) → MendsValue v d d1 → DoesTo (after_mend v) (blank v) d1 d2 o o' (Err halt) → BeginsWith opening d d2 o o' (Err halt)
-halted_any v d d1 d2 o o' halt m h = record { value = v; opens = opens_of v d d1 m; step = mended_then v (blank v) d d1 d2 o o' (Err halt) m h }
+pub halted_any : (version : ℕ) (v : SuperValue) (d d1 d2 : Option Disk) (o o' : List Output) (halt : Halt) → MendsValue (Some version) v d d1 → DoesTo (after_mend v) (blank v) d1 d2 o o' (Err halt) → BeginsWith (Some version) opening d d2 o o' (Err halt)
+halted_any version v d d1 d2 o o' halt m h = record { value = v; opens = opens_of (Some version) v d d1 m; step = mended_then (Some version) v (blank v) d d1 d2 o o' (Err halt) m h }
 
-pub other_member : (asked found : Config) (v : SuperValue) (d d' : Option Disk) → found ≡ config_of v → (found ≡ asked → ⊥) → MendsValue v d d' → IsOther asked found d d'
+pub other_member : (asked found : Config) (v : SuperValue) (d d' : Option Disk) → found ≡ config_of v → (found ≡ asked → ⊥) → MendsValue None v d d' → IsOther asked found d d'
 other_member asked found v d d' e n m = record { value = v; mended = m; named = e; other = n }
 
-pub refused : (asked : Config) (d d' : Option Disk) (o : List Output) (x : Refusal) → FindsValue d d' (Err x) → Recovered asked d d' o o (Err x)
+pub refused : (asked : Config) (d d' : Option Disk) (o : List Output) (x : Refusal) → FindsValue None d d' (Err x) → Recovered asked d d' o o (Err x)
 refused asked d d' o (Lost vs) h = h
 refused asked d d' o (OtherMember found) h = absurd h
 refused asked d d' o (Halted halt) h = record { value = h.value; opens = h.opens; step = λ e. stopped_mending h.value d d' o halt h.stops; other = λ not. h.stops }
 
-pub recovered_any : (v : SuperValue) (q : Replica) (d d1 d2 : Option Disk) (o o' : List Output) → MendsValue v d d1 → DoesTo (after_mend v) (blank v) d1 d2 o o' (Ok q) → BeginsWith opening d d2 o o' (Ok q)
-recovered_any v q d d1 d2 o o' m h = record { value = v; opens = opens_of v d d1 m; step = mended_then v q d d1 d2 o o' (Ok tt) m h }
+pub recovered_any : (version : ℕ) (v : SuperValue) (q : Replica) (d d1 d2 : Option Disk) (o o' : List Output) → MendsValue (Some version) v d d1 → DoesTo (after_mend v) (blank v) d1 d2 o o' (Ok q) → BeginsWith (Some version) opening d d2 o o' (Ok q)
+recovered_any version v q d d1 d2 o o' m h = record { value = v; opens = opens_of (Some version) v d d1 m; step = mended_then (Some version) v q d d1 d2 o o' (Ok tt) m h }
 
-pub refused_any : (d d' : Option Disk) (o : List Output) (x : Refusal) → FindsValue d d' (Err x) → RecoveredAny d d' o o (Err x)
-refused_any d d' o (Lost vs) h = h
-refused_any d d' o (OtherMember found) h = absurd h
-refused_any d d' o (Halted halt) h = record { value = h.value; opens = h.opens; step = stopped_mending h.value d d' o halt h.stops }
+pub refused_any : (version : ℕ) (d d' : Option Disk) (o : List Output) (x : Refusal) → FindsValue (Some version) d d' (Err x) → RecoveredAny version d d' o o (Err x)
+refused_any version d d' o (Lost vs) h = h
+refused_any version d d' o (OtherMember found) h = absurd h
+refused_any version d d' o (Halted halt) h = record { value = h.value; opens = h.opens; step = stopped_mending h.value d d' o halt h.stops }

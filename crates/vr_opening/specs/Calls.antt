@@ -6,15 +6,15 @@ use Rattle.vr_disk.specs.Regions.{header_place, prepare_place, prepare_sectors}
 use Rattle.vr_rings.specs.Slots.{sector_of}
 use Rattle.vr_journal.specs.Formatting.{reserved_header, zero_sector}
 
--- the sector behind the prepares of version 1
-abbrev pub prepares_end : ℕ
-prepares_end = prepare_place 1 0 + 64 * prepare_sectors 1
+-- the sector behind the prepares of a file of this version
+abbrev pub prepares_end : ℕ → ℕ
+prepares_end v = prepare_place v 0 + 64 * prepare_sectors v
 
 abbrev pub zero_call : ℕ → Call
 zero_call i = Write i zero_sector
 
-abbrev pub reserved_call : ℕ → ℕ → Call
-reserved_call cluster slot = Write (header_place slot) (sector_of (reserved_header cluster slot))
+abbrev pub reserved_call : ℕ → ℕ → ℕ → Call
+reserved_call v cluster slot = Write (header_place slot) (sector_of (reserved_header v cluster slot))
 
 -- those from a number on, up to another one
 unfoldable pub calls_from : (ℕ → Call) → ℕ → ℕ → List Call

@@ -1,6 +1,6 @@
 -- A replica is recovered from its disk.
-use Rattle.std.specs.Prelude.{ℕ, ◌≡◌, ◌≢◌, ◌==◌, Bool, not, true, false, if◌then◌else◌, List, [], ◌∷◌, map, Option, Some, None, IfSome, is_some, Result, Ok, Err}
-use Rattle.std.specs.Option.{option_map_or}
+use Rattle.std.specs.Prelude.{ℕ, ◌≡◌, ◌≢◌, ◌==◌, ◌||◌, not, Bool, true, false, nat_lt, if◌then◌else◌, List, [], ◌∷◌, map, Option, Some, None, IfSome, is_some, Result, Ok, Err}
+use Rattle.std.specs.Option.{option_and_then, option_map_or}
 use Rattle.vr_base.specs.declared.table.Config.{Config}
 use Rattle.vr_disk.specs.DiskState.{Disk, Face, Runs, RunsFrom}
 use Rattle.vr_msg.specs.declared.output.Output.{Output}
@@ -11,7 +11,6 @@ use Rattle.vr_super.specs.Opens.{good_copies}
 use Rattle.vr_super.specs.Recovers.{copy_verdict}
 use Rattle.vr_super.specs.declared.recovering.CopyVerdict.{CopyVerdict}
 use Rattle.vr_super.specs.declared.recovering.CopyVerdict.TheVariants.{Good}
-use Rattle.vr_journal.specs.Sectors.{sectors}
 use Rattle.vr_journal.specs.Replica.{Replica}
 use Rattle.vr_journal.specs.Steps.{Word, ◌⨾◌}
 use Rattle.vr_journal.specs.Opening.{recover_parts, resuming, opening, blank}
@@ -33,39 +32,56 @@ DoesTo w r d d' o o' (Err halt) = Does w r r d d' o o' (Err halt)
 abbrev pub config_of : SuperValue → Config
 config_of v = record { cluster = v.fields.cluster; replica = v.fields.replica; n = v.fields.n }
 
--- the value that a disk opens as: none where no two good copies agree, and none where its file is of another version than 1
+-- groups of so few members don't run yet
+abbrev pub is_few : ℕ → Bool
+is_few n = nat_lt n 2
+
+-- a file of another version than the one that is asked for, where one is
+abbrev pub is_other : Option ℕ → ℕ → Bool
+is_other None version = false
+is_other (Some wanted) version = not (version == wanted)
+
+-- a value that is left alone
+abbrev pub is_left : Option ℕ → SuperValue → Bool
+is_left wanted v = is_other wanted v.fields.version || is_few v.fields.n
+
+abbrev pub runs_as : Option ℕ → SuperValue → Option SuperValue
+runs_as wanted v = if is_left wanted v then None else Some v
+
+-- the value that a disk opens as, in a file of the version that is asked for: none where no two good copies agree, and none where its
+-- file is of another version or its group has fewer than two members
+abbrev pub opens_as : Option ℕ → Face → Option SuperValue
+opens_as wanted f = option_and_then (runs_as wanted) (superblock.opens f)
+
+-- in a file of either version
 abbrev pub opens : Face → Option SuperValue
-opens f = sectors.opens f
+opens f = opens_as None f
 
--- replicas don't run on files of this version
-abbrev pub is_other : ℕ → Bool
-is_other version = not (version == 1)
-
--- two good copies agree, on a value of such a version
-abbrev pub is_foreign : Face → Bool
-is_foreign f = option_map_or (λ v. is_other v.fields.version) (superblock.opens f) false
+-- two good copies agree, on a value that is left alone
+abbrev pub is_left_in : Option ℕ → Face → Bool
+is_left_in wanted f = option_map_or (is_left wanted) (superblock.opens f) false
 
 abbrev pub all_good : List CopyVerdict
 all_good = Good ∷ Good ∷ Good ∷ Good ∷ []
 
--- which copies are good, where no two good ones agree; those of a file of another version are all called so
+-- which copies are good, where no two good ones agree; those of a value that is left alone are all called so
 abbrev pub lost_verdicts : Face → List CopyVerdict
 lost_verdicts f = if is_some (superblock.opens f) then all_good else map copy_verdict (good_copies f)
 
 -- no value opens, and no call is made
-pub record LosesValue (d d' : Option Disk) (verdicts : List CopyVerdict) : Type 0 where
+pub record LosesValue (wanted : Option ℕ) (d d' : Option Disk) (verdicts : List CopyVerdict) : Type 0 where
   pub untold : d ≡ None → d' ≡ None
-  pub told : (x : Disk) → d ≡ Some x → (opens x.face ≡ None) × (d' ≡ Some x) × (verdicts ≡ lost_verdicts x.face)
+  pub told : (x : Disk) → d ≡ Some x → (opens_as wanted x.face ≡ None) × (d' ≡ Some x) × (verdicts ≡ lost_verdicts x.face)
 
 -- the value that opens is mended
-pub record MendsValue (v : SuperValue) (d d' : Option Disk) : Type 0 where
+pub record MendsValue (wanted : Option ℕ) (v : SuperValue) (d d' : Option Disk) : Type 0 where
   pub untold : d ≡ None → d' ≡ None
-  pub told : (x : Disk) → d ≡ Some x → (opens x.face ≡ Some v) × Runs (mend_calls v x.face) (Some x) d' true
+  pub told : (x : Disk) → d ≡ Some x → (opens_as wanted x.face ≡ Some v) × Runs (mend_calls v x.face) (Some x) d' true
 
 -- a word for the value that opens; where the disk tells nothing, for any
-pub record BeginsWith (w : SuperValue → Word Face) (d d' : Option Disk) (o o' : List Output) (result : Result Replica Halt) : Type 0 where
+pub record BeginsWith (wanted : Option ℕ) (w : SuperValue → Word Face) (d d' : Option Disk) (o o' : List Output) (result : Result Replica Halt) : Type 0 where
   pub value : SuperValue
-  pub opens : IfSome d (λ x. opens x.face ≡ Some value)
+  pub opens : IfSome d (λ x. opens_as wanted x.face ≡ Some value)
   pub step : DoesTo (w value) (blank value) d d' o o' result
 
 -- a stop before a value is mended: a call of the mending failed; or memory was wanted, before the first of them
@@ -74,21 +90,21 @@ StopsMending v d d' DiskFault = RunsFrom (mend_calls v) d d' false
 StopsMending v d d' NoMemory = d' ≡ d
 
 -- the value that opens isn't mended, or not wholly; where the disk tells nothing, any value
-pub record LeavesUnmended (d d' : Option Disk) (halt : Halt) : Type 0 where
+pub record LeavesUnmended (wanted : Option ℕ) (d d' : Option Disk) (halt : Halt) : Type 0 where
   pub value : SuperValue
-  pub opens : IfSome d (λ x. opens x.face ≡ Some value)
+  pub opens : IfSome d (λ x. opens_as wanted x.face ≡ Some value)
   pub stops : StopsMending value d d' halt
 
-abbrev pub FindsValue : Option Disk → Option Disk → Result SuperValue Refusal → Type 0
-FindsValue d d' (Ok v) = MendsValue v d d'
-FindsValue d d' (Err (Lost verdicts)) = LosesValue d d' verdicts
-FindsValue d d' (Err (OtherMember found)) = ⊥
-FindsValue d d' (Err (Halted halt)) = LeavesUnmended d d' halt
+abbrev pub FindsValue : Option ℕ → Option Disk → Option Disk → Result SuperValue Refusal → Type 0
+FindsValue wanted d d' (Ok v) = MendsValue wanted v d d'
+FindsValue wanted d d' (Err (Lost verdicts)) = LosesValue wanted d d' verdicts
+FindsValue wanted d d' (Err (OtherMember found)) = ⊥
+FindsValue wanted d d' (Err (Halted halt)) = LeavesUnmended wanted d d' halt
 
 -- the value is that of another member
 pub record IsOther (asked found : Config) (d d' : Option Disk) : Type 0 where
   pub value : SuperValue
-  pub mended : MendsValue value d d'
+  pub mended : MendsValue None value d d'
   pub named : found ≡ config_of value
   pub other : found ≢ asked
 
@@ -108,13 +124,13 @@ pub record StopsAsked (asked : Config) (d d' : Option Disk) (o o' : List Output)
 
 abbrev pub Recovered : Config → Option Disk → Option Disk → List Output → List Output → Result Replica Refusal → Type 0
 Recovered asked d d' o o' (Ok r) = IsAsked asked d d' o o' r
-Recovered asked d d' o o' (Err (Lost verdicts)) = LosesValue d d' verdicts
+Recovered asked d d' o o' (Err (Lost verdicts)) = LosesValue None d d' verdicts
 Recovered asked d d' o o' (Err (OtherMember found)) = IsOther asked found d d'
 Recovered asked d d' o o' (Err (Halted halt)) = StopsAsked asked d d' o o' halt
 
--- the same for any member: the replica is that of the value that opens
-abbrev pub RecoveredAny : Option Disk → Option Disk → List Output → List Output → Result Replica Refusal → Type 0
-RecoveredAny d d' o o' (Ok r) = BeginsWith opening d d' o o' (Ok r)
-RecoveredAny d d' o o' (Err (Lost verdicts)) = LosesValue d d' verdicts
-RecoveredAny d d' o o' (Err (OtherMember found)) = ⊥
-RecoveredAny d d' o o' (Err (Halted halt)) = BeginsWith opening d d' o o' (Err halt)
+-- the same for any member, in a file of this version: the replica is that of the value that opens
+abbrev pub RecoveredAny : ℕ → Option Disk → Option Disk → List Output → List Output → Result Replica Refusal → Type 0
+RecoveredAny version d d' o o' (Ok r) = BeginsWith (Some version) opening d d' o o' (Ok r)
+RecoveredAny version d d' o o' (Err (Lost verdicts)) = LosesValue (Some version) d d' verdicts
+RecoveredAny version d d' o o' (Err (OtherMember found)) = ⊥
+RecoveredAny version d d' o o' (Err (Halted halt)) = BeginsWith (Some version) opening d d' o o' (Err halt)

@@ -1,5 +1,5 @@
 //! The calls that format a disk.
-ghost use Rattle.std.specs.Prelude.{◌≡◌, ◌<◌, ◌∷◌, [], is_ok};
+ghost use Rattle.std.specs.Prelude.{◌≡◌, ◌<◌, ◌≤◌, ◌∷◌, [], is_ok};
 ghost use Rattle.vr_base.specs.Bytes.{name_of};
 ghost use Rattle.vr_base.specs.Causes.{HasCause};
 ghost use Rattle.vr_disk.specs.DiskState.{Runs, Write};
@@ -12,43 +12,47 @@ ghost use Rattle.vr_opening.specs.Calls.{prepares_end, reserved_call};
 
 use vr_base::{Config, Sum, Version, checksum};
 use vr_disk::{
-    DiskFailed, DiskFault, SLOTS, Sector, SectorDisk, header_place, prepare_place, prepare_sectors,
+    DiskFailed, DiskFault, SECTORS, SLOTS, Sector, SectorDisk, header_place, prepare_place,
+    prepare_sectors,
 };
 use vr_header::{Command, Header, Size};
 use vr_rings::sector_of;
 use vr_super::Super;
 
-// The first sector of the prepares of version 1.
-fn prepares_begin() -> u32
-    ensures { result ≡ prepare_place 1 0 }
+// The first sector of the prepares of a file of this version.
+fn prepares_begin(version: Version) -> u32
+    ensures place { result ≡ prepare_place version 0 }
+    ensures within { result ≤ SECTORS }
 {
-    prepare_place(0, Version::new(1))
+    prepare_place(0, version)
 }
 
 // The sector behind them.
-fn prepares_end() -> u32
-    ensures { result ≡ prepares_end }
+#[tactic(auto, using(crate::proofs::Calls::prepares_within))]
+fn prepares_end(version: Version) -> u32
+    ensures place { result ≡ prepares_end version }
+    ensures within { result ≤ SECTORS }
 {
-    prepares_begin() + SLOTS * prepare_sectors(Version::new(1))
+    prepares_begin(version) + SLOTS * prepare_sectors(version)
 }
 
 // Writes zeros to them.
 #[tactic(auto, using(crate::proofs::Calls::zeros_begin, crate::proofs::Calls::zeros_go, crate::proofs::Calls::zeros_stop, crate::proofs::Calls::zeros_end))]
-fn write_zeros<D: SectorDisk>(disk: &mut D) -> Result<(), DiskFailed>
-    ensures runs { Runs zero_prepares (D.told disk.old) (D.told disk.new) (is_ok result) }
+fn write_zeros<D: SectorDisk>(disk: &mut D, version: Version) -> Result<(), DiskFailed>
+    ensures runs { Runs (zero_prepares version) (D.told disk.old) (D.told disk.new) (is_ok result) }
     ensures cause { HasCause (D.faults disk.old) (D.faults disk.new) result }
 {
     let zeros = Sector { bytes: [0; 512] };
-    for i in prepares_begin()..prepares_end() {
+    for i in prepares_begin(version)..prepares_end(version) {
         disk.write(i, &zeros)?;
     }
     Ok(())
 }
 
-// The header of a slot that has no entry yet, where the name of no bytes is known.
-fn reserved_header(cluster: u64, slot: u32, body: Sum) -> Header
+// The header of a slot that has no entry yet, in a file of this version, where the name of no bytes is known.
+fn reserved_header(version: Version, cluster: u64, slot: u32, body: Sum) -> Header
     requires { body.0 ≡ name_of [] }
-    ensures { result ≡ reserved_header cluster slot }
+    ensures { result ≡ reserved_header version cluster slot }
 {
     let none = Sum([0; 16]);
     Header {
@@ -64,7 +68,7 @@ fn reserved_header(cluster: u64, slot: u32, body: Sum) -> Header
         size: Size::new(128),
         command: Command::Reserved,
         replica: 0,
-        version: Version::new(1),
+        version,
         kind: 0,
         aux: 0,
     }
@@ -73,42 +77,48 @@ fn reserved_header(cluster: u64, slot: u32, body: Sum) -> Header
 // Writes the header of a slot that has no entry yet.
 fn reserve<D: SectorDisk>(
     disk: &mut D,
+    version: Version,
     cluster: u64,
     slot: u32,
     body: Sum,
 ) -> Result<(), DiskFailed>
     requires slot { slot < 64 }
     requires body { body.0 ≡ name_of [] }
-    ensures runs { Runs (reserved_call cluster slot ∷ []) (D.told disk.old) (D.told disk.new) (is_ok result) }
+    ensures runs { Runs (reserved_call version cluster slot ∷ []) (D.told disk.old) (D.told disk.new) (is_ok result) }
     ensures cause { HasCause (D.faults disk.old) (D.faults disk.new) result }
 {
-    let sector = sector_of(&reserved_header(cluster, slot, body));
+    let sector = sector_of(&reserved_header(version, cluster, slot, body));
     disk.write(header_place(slot), &sector)
 }
 
 // Writes the headers of all slots.
 #[tactic(auto, using(crate::proofs::Calls::headers_begin, crate::proofs::Calls::headers_go, crate::proofs::Calls::headers_stop, crate::proofs::Calls::headers_end))]
-fn reserve_all<D: SectorDisk>(disk: &mut D, cluster: u64) -> Result<(), DiskFailed>
-    ensures runs { Runs (reserved_headers cluster) (D.told disk.old) (D.told disk.new) (is_ok result) }
+fn reserve_all<D: SectorDisk>(
+    disk: &mut D,
+    version: Version,
+    cluster: u64,
+) -> Result<(), DiskFailed>
+    ensures runs { Runs (reserved_headers version cluster) (D.told disk.old) (D.told disk.new) (is_ok result) }
     ensures cause { HasCause (D.faults disk.old) (D.faults disk.new) result }
 {
     let none = checksum(&[]);
     for slot in 0..64u32 {
-        reserve(disk, cluster, slot, none)?;
+        reserve(disk, version, cluster, slot, none)?;
     }
     Ok(())
 }
 
-/// Formats the disk of a member of a new group, whose first value this is: zeros to the prepares, a header to each slot, one sync,
-/// and the four copies of the value.
+/// Formats the disk of a member of a new group, whose first value this is, for a file of the value's version: zeros to the prepares, a
+/// header to each slot, one sync, and the four copies of the value.
 #[tactic(auto, using(vr_disk::proofs::Running::Runs_then, vr_disk::proofs::Running::Runs_stopped))]
 pub fn format<D: SectorDisk>(disk: &mut D, config: &Config, value: &Super) -> Result<(), DiskFault>
     requires { value.now ≡ first_value (file_kind value.now.fields) config.now.cluster config.now.n config.now.replica }
     ensures runs { Runs (format_calls (file_kind value.now.fields) config.now.cluster config.now.n config.now.replica) (D.told disk.old) (D.told disk.new) (is_ok result) }
     ensures cause { HasCause (D.faults disk.old) (D.faults disk.new) result }
 {
-    write_zeros(disk)?;
-    reserve_all(disk, config.cluster)?;
+    let version = value.fields().version;
+    write_zeros(disk, version)?;
+    reserve_all(disk, version, config.cluster)?;
     disk.sync()?;
     vr_super::write_copies(disk, value)
 }

@@ -4,6 +4,7 @@
 mod begin;
 mod finding;
 mod formatting;
+mod lone;
 mod looking;
 mod new_member;
 mod new_value;

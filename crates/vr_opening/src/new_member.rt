@@ -7,7 +7,6 @@ ghost use Rattle.vr_disk.specs.DiskState.{Runs};
 ghost use Rattle.vr_journal.specs.Ready.{IsReady};
 ghost use Rattle.vr_journal.specs.Formatting.{format_calls};
 ghost use Rattle.vr_journal.specs.Opening.{fresh};
-ghost use Rattle.vr_base.specs.Kinds.{of_mode};
 ghost use Rattle.vr_super.specs.Opens.{file_kind, good_copies, opened};
 ghost use Rattle.vr_opening.specs.Making.{Made};
 ghost use Rattle.vr_opening.specs.declared.new_member.FreshFault.TheVariants as FreshFault;
@@ -15,7 +14,7 @@ ghost use Rattle.vr_opening.specs.declared.new_member.FreshFault.TheVariants as 
 use crate::formatting::format;
 use crate::new_value::first_value;
 use std::alloc::Global;
-use vr_base::{Config, Kind, Mode, NoMemory};
+use vr_base::{Config, Kind, NoMemory};
 use vr_disk::{DiskFault, SectorDisk};
 use vr_journal::Replica;
 use vr_super::opens;
@@ -67,25 +66,25 @@ fn write_format<D: SectorDisk>(
     format(disk, config, replica.saved())
 }
 
-/// The replica of a member of a new group, whose disk is formatted for a file of this mode: `Occupied` exactly where two good copies
+/// The replica of a member of a new group, whose disk is formatted for a file of this kind: `Occupied` exactly where two good copies
 /// of a superblock agree, and then nothing is written.
 #[tactic(auto, using(crate::proofs::Makes::occupied, crate::proofs::Makes::wanted, crate::proofs::Makes::fresh_so))]
 pub fn fresh<D: SectorDisk>(
     alloc: Global,
     disk: &mut D,
     config: &Config,
-    mode: Mode,
+    kind: Kind,
 ) -> Result<Replica, FreshFault>
     requires size { is_some (quorums_of config.now.n) ≡ true }
     requires member { config.now.replica < config.now.n }
     ensures ready { IfOk result IsReady }
     ensures cause { CountsFault FreshFault.DiskFault (D.faults disk.old) (D.faults disk.new) result }
-    ensures made { Made (of_mode mode) config.now (D.told disk.old) (D.told disk.new) result }
+    ensures made { Made kind config.now (D.told disk.old) (D.told disk.new) result }
 {
     if is_occupied(disk) {
         return Err(FreshFault::Occupied);
     }
-    match make_member(alloc, *config, Kind::of_mode(mode)) {
+    match make_member(alloc, *config, kind) {
         Err(_) => Err(FreshFault::NoMemory),
         Ok(replica) => match write_format(disk, config, &replica) {
             Ok(()) => Ok(replica),

@@ -1,15 +1,16 @@
 //! The value with which a member begins.
 ghost use Rattle.std.specs.Prelude.{◌≡◌, ◌<◌, ◌^◌, IfOk, is_some, true};
 ghost use Rattle.vr_base.specs.Groups.{quorums_of};
-ghost use Rattle.vr_journal.specs.Opening.{first_value};
+ghost use Rattle.vr_journal.specs.Opening.{IsKind, first_value};
 
 use std::alloc::Global;
-use vr_base::{Config, Kind, NoMemory, Seq, Sum, Version};
+use vr_base::{Config, Kind, NoMemory, Seq, Sum};
 use vr_super::{Fields, Super};
 
-// Its numbers: each file is made of version 1.
+// Its numbers, for a file of this kind.
 fn first_fields(config: Config, kind: Kind) -> Fields
     ensures value { result ≡ (first_value kind config.cluster config.n config.replica).fields }
+    ensures kind { IsKind kind }
     ensures cluster { config.cluster < 2 ^ 64 }
     ensures replica { config.replica < 256 }
     ensures n { config.n < 256 }
@@ -26,7 +27,7 @@ fn first_fields(config: Config, kind: Kind) -> Fields
         head: 0,
         replica: config.replica,
         n: config.n,
-        version: Version::new(1),
+        version: kind.version,
         mode: kind.mode,
     }
 }

@@ -1,27 +1,27 @@
 //! A replica is recovered from its disk.
-ghost use Rattle.std.specs.Prelude.{◌≡◌, ◌≢◌, ◌==◌, true, false, IfOk, IfErr, IfSome, Ok};
-ghost use Rattle.std.specs.Option.{option_map_or};
+ghost use Rattle.std.specs.Prelude.{◌≡◌, ◌≢◌, ◌≤◌, true, false, IfOk, IfErr, IfSome, Ok};
 ghost use Rattle.vr_disk.specs.Counts.{CountsFault};
 ghost use Rattle.vr_opening.specs.declared.reopen.Refusal.TheVariants as Refusal;
 ghost use Rattle.vr_journal.specs.Does.{Caused};
 ghost use Rattle.vr_journal.specs.Ready.{IsReady};
 ghost use Rattle.vr_opening.specs.Finding.{IsOpeningOld};
 ghost use Rattle.vr_journal.specs.Opening.{blank};
-ghost use Rattle.vr_opening.specs.Recovering.{after_mend, DoesTo, config_of, FindsValue, is_foreign, is_other, Recovered, RecoveredAny};
+ghost use Rattle.vr_opening.specs.Recovering.{after_mend, DoesTo, config_of, FindsValue, is_left_in, Recovered, RecoveredAny};
 ghost use Rattle.vr_journal.specs.Halt.TheVariants as Halt;
 
 use crate::begin::open_mended;
+use crate::lone::{is_left, is_left_in};
 use std::alloc::Global;
-use vr_base::Config;
+use vr_base::{Config, Version};
 use vr_disk::SectorDisk;
 use vr_journal::{Halt, Replica};
 use vr_msg::Outbox;
-use vr_super::{CopyVerdict, Found, Super, SuperFault};
+use vr_super::{CopyVerdict, Super, SuperFault};
 
 // The replica of a value that makes a good copy, before it looks at its disk.
 #[tactic(auto, using(crate::proofs::Begins::opening_blank))]
 fn begun(alloc: Global, value: Super) -> Result<Replica, Halt>
-    requires { value.fields.version ≡ 1 }
+    requires { 2 ≤ value.fields.n }
     ensures blank { IfOk result (λ r. r ≡ blank value) }
     ensures opening { IfOk result (λ r. IsOpeningOld 0 r) }
     ensures err { IfErr result (λ e. e ≡ Halt.NoMemory) }
@@ -41,7 +41,7 @@ fn open_value<D: SectorDisk>(
     value: Super,
     out: &mut Outbox,
 ) -> Result<Replica, Halt>
-    requires { value.fields.version ≡ 1 }
+    requires { 2 ≤ value.fields.n }
     ensures ready { IfOk result IsReady }
     ensures cause { Caused (D.faults disk.old) (D.faults disk.new) result }
     ensures step { DoesTo (after_mend value) (blank value) (D.told disk.old) (D.told disk.new) out.old out.new result }
@@ -58,7 +58,8 @@ fn open_value<D: SectorDisk>(
 /// Why a disk gives no replica.
 #[derive(Clone, Copy, Debug, PartialEq, Eq)]
 pub enum Refusal {
-    /// No two good copies of the superblock agree; or the file is of another version than 1, and then all are called good.
+    /// No two good copies of the superblock agree; or its value is left alone, and then all are called good: its group has fewer than two members, or its
+    /// file is of another version than is asked for.
     Lost([CopyVerdict; 4]),
     /// The disk is that of another member: of this one.
     OtherMember(Config),
@@ -78,48 +79,25 @@ fn config_of(value: &Super) -> Config
     }
 }
 
-// Whether what was found is of another version than 1.
-fn is_other(found: &Option<Found>) -> bool
-    ensures { result ≡ option_map_or (λ x. is_other x.version) found.now false }
-{
-    match found {
-        Some(found) => found.version.get() != 1,
-        None => false,
-    }
-}
-
-// Whether the disk's file is.
-#[tactic(auto, using(crate::proofs::Recovers::found_foreign))]
-fn is_foreign<D: SectorDisk>(disk: &mut D) -> bool
-    ensures told { D.told disk.new ≡ D.told disk.old }
-    ensures faults { D.faults disk.new ≡ D.faults disk.old }
-    ensures value { IfSome (D.told disk.old) (λ d. result ≡ is_foreign d.face) }
-{
-    is_other(&vr_super::opens(disk))
-}
-
-// Whether a value is of version 1.
-fn is_run(value: &Super) -> bool
-    ensures { result ≡ (value.now.fields.version == 1) }
-{
-    value.fields().version.get() == 1
-}
-
-// What stood in the way of the superblock's value, where the file isn't of another version than 1. A disk that answers otherwise the
-// second time is judged by its second answer.
-#[tactic(auto, using(crate::proofs::Recovers::found_value, crate::proofs::Recovers::found_other, crate::proofs::Recovers::found_one, crate::proofs::Recovers::lost, crate::proofs::Recovers::mend_faulted, crate::proofs::Recovers::mend_wanted))]
-fn mended_value<D: SectorDisk>(alloc: Global, disk: &mut D) -> Result<Super, Refusal>
-    requires { IfSome (D.told disk.old) (λ d. is_foreign d.face ≡ false) }
-    ensures version { IfOk result (λ v. v.fields.version ≡ 1) }
+// What stood in the way of the superblock's value, where it isn't left alone. A disk that answers otherwise the second time is judged by its
+// second answer.
+#[tactic(auto, using(crate::proofs::Recovers::found_value, crate::proofs::Recovers::found_left, crate::proofs::Recovers::found_several, crate::proofs::Recovers::lost, crate::proofs::Recovers::mend_faulted, crate::proofs::Recovers::mend_wanted))]
+fn mended_value<D: SectorDisk>(
+    alloc: Global,
+    disk: &mut D,
+    wanted: &Option<Version>,
+) -> Result<Super, Refusal>
+    requires { IfSome (D.told disk.old) (λ d. is_left_in wanted.now d.face ≡ false) }
+    ensures several { IfOk result (λ v. 2 ≤ v.fields.n) }
     ensures cause { CountsFault (Refusal.Halted Halt.DiskFault) (D.faults disk.old) (D.faults disk.new) result }
-    ensures value { FindsValue (D.told disk.old) (D.told disk.new) result }
+    ensures value { FindsValue wanted.now (D.told disk.old) (D.told disk.new) result }
 {
     match vr_super::recover(alloc, disk) {
         Ok(value) => {
-            if is_run(&value) {
-                Ok(value)
-            } else {
+            if is_left(&value, wanted) {
                 Err(Refusal::Lost([CopyVerdict::Good; 4]))
+            } else {
+                Ok(value)
             }
         }
         Err(SuperFault::Lost(verdicts)) => Err(Refusal::Lost(verdicts)),
@@ -128,17 +106,22 @@ fn mended_value<D: SectorDisk>(alloc: Global, disk: &mut D) -> Result<Super, Ref
     }
 }
 
-// What stood in the way of the superblock's value. The copies of a file of another version aren't mended.
-#[tactic(auto, using(crate::proofs::Recovers::foreign_lost, crate::proofs::Recovers::foreign_not))]
-fn find_value<D: SectorDisk>(alloc: Global, disk: &mut D) -> Result<Super, Refusal>
-    ensures version { IfOk result (λ v. v.fields.version ≡ 1) }
+// What stood in the way of the superblock's value, in a file of the version that is asked for. The copies of one that is left alone aren't
+// mended.
+#[tactic(auto, using(crate::proofs::Recovers::left_lost, crate::proofs::Recovers::left_not))]
+fn find_value<D: SectorDisk>(
+    alloc: Global,
+    disk: &mut D,
+    wanted: &Option<Version>,
+) -> Result<Super, Refusal>
+    ensures several { IfOk result (λ v. 2 ≤ v.fields.n) }
     ensures cause { CountsFault (Refusal.Halted Halt.DiskFault) (D.faults disk.old) (D.faults disk.new) result }
-    ensures value { FindsValue (D.told disk.old) (D.told disk.new) result }
+    ensures value { FindsValue wanted.now (D.told disk.old) (D.told disk.new) result }
 {
-    if is_foreign(disk) {
+    if is_left_in(disk, wanted) {
         Err(Refusal::Lost([CopyVerdict::Good; 4]))
     } else {
-        mended_value(alloc, disk)
+        mended_value(alloc, disk, wanted)
     }
 }
 
@@ -163,7 +146,7 @@ pub fn recover<D: SectorDisk>(
     ensures cause { CountsFault (Refusal.Halted Halt.DiskFault) (D.faults disk.old) (D.faults disk.new) result }
     ensures step { Recovered asked.now (D.told disk.old) (D.told disk.new) out.old out.new result }
 {
-    match find_value(alloc, disk) {
+    match find_value(alloc, disk, &None) {
         Err(refusal) => Err(refusal),
         Ok(value) => {
             let found = config_of(&value);
@@ -179,18 +162,19 @@ pub fn recover<D: SectorDisk>(
     }
 }
 
-/// The replica of a disk, whatever member's disk it is: `OtherMember` never comes.
+/// The replica of a disk whose file is of this version, whatever member's disk it is: `OtherMember` never comes.
 #[tactic(auto, using(crate::proofs::Recovers::recovered_any, crate::proofs::Recovers::halted_any, crate::proofs::Recovers::refused_any))]
 pub fn recover_any<D: SectorDisk>(
     alloc: Global,
     disk: &mut D,
+    version: Version,
     out: &mut Outbox,
 ) -> Result<Replica, Refusal>
     ensures ready { IfOk result IsReady }
     ensures cause { CountsFault (Refusal.Halted Halt.DiskFault) (D.faults disk.old) (D.faults disk.new) result }
-    ensures step { RecoveredAny (D.told disk.old) (D.told disk.new) out.old out.new result }
+    ensures step { RecoveredAny version (D.told disk.old) (D.told disk.new) out.old out.new result }
 {
-    match find_value(alloc, disk) {
+    match find_value(alloc, disk, &Some(version)) {
         Err(refusal) => Err(refusal),
         Ok(value) => match open_value(alloc, disk, value, out) {
             Ok(replica) => Ok(replica),

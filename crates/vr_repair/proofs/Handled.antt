@@ -1,31 +1,29 @@
 -- What the whole step of a copy that comes leaves: words that write no slot keep what the slots read as.
-use Rattle.std.proofs.Common.{arith, ◌≡◌, ◌<◌, ◌+◌, ◌%◌, refl, ◌∙◌, ℕ, zero, suc, Bool, true, false, cond, List, [], ◌∷◌, ◌++◌, Option, Some, None}
+use Rattle.std.proofs.Common.{arith, ◌≡◌, ◌<◌, ◌%◌, refl, ◌∙◌, ℕ, zero, suc, Bool, true, false, cond, List, [], ◌∷◌, ◌++◌, Option, Some, None}
 use Rattle.std.specs.Prelude.{All, ◌&&◌, not}
 use Rattle.std.proofs.lemmas.Nat.{mod_below}
 use Rattle.std.proofs.lemmas.List.Elements.{All-nil, All-cons, All-append, All-map, All-head, All-tail}
 use Rattle.vr_disk.specs.DiskState as disk
-use Rattle.vr_disk.specs.DiskState.{Face, Sync}
-use Rattle.vr_disk.proofs.Together.{spares_append}
+use Rattle.vr_disk.specs.DiskState.{Call, Face, Sync}
 use Rattle.vr_header.specs.declared.header.Header.{Header}
 use Rattle.vr_header.specs.declared.part.Part.{Part}
 use Rattle.vr_header.specs.declared.part.Part.TheVariants.{Here}
 use Rattle.vr_header.specs.Made.{Whole}
 use Rattle.vr_ckpt.specs.declared.name.Name.{Name}
 use Rattle.vr_ckpt.specs.Grid.{block_calls, put_calls}
-use Rattle.vr_super.specs.Calls.{mend_calls, save_from, write_calls}
-use Rattle.vr_super.specs.Copies.{copy_bytes}
+use Rattle.vr_super.specs.Calls.{mend_calls, write_calls}
 use Rattle.vr_ckpt.specs.Saves.{blocks_calls, save_calls, written}
 use Rattle.vr_rings.specs.Slots.{whole_in}
 use Rattle.vr_msg.specs.declared.output.Output.{Output}
 use Rattle.vr_journal.specs.Ready.{MayStore}
 use Rattle.vr_journal.specs.Deciding.{first_of}
 use Rattle.vr_journal.specs.Rule.TheVariants.{EntryTaken, Ignored}
-use Rattle.vr_journal.specs.Replica.{Replica, part_at}
+use Rattle.vr_journal.specs.Replica.{Replica, part_at, version}
 use Rattle.vr_journal.specs.Rules.{on_give_block, on_give_prepare, put_block}
-use Rattle.vr_journal.specs.Sectors.{calls_of, sectors}
+use Rattle.vr_journal.specs.Sectors.{calls_by, sectors_by}
 use Rattle.vr_journal.specs.Steps.{Effect, Write, Rewrite, Save, Mend, Checkpoint, PutBlock, Say, Setting, Word, ◌⨾◌, after_all, by, change, does, naming, quiet, reading, says, times, when}
 use Rattle.vr_journal.specs.Words.{apply, apply_entry, apply_next, entry_of, lost, make_checkpoint, or_lost, resend, save, with_entry, with_entry_at, write}
-use Rattle.vr_journal.proofs.FitDisks.{blocks_spare, block_spares, mend_spares, same_entry, save_spares}
+use Rattle.vr_journal.proofs.FitDisks.{SparesSlots, checkpoint_slots, mend_slots, put_slots, same_entry, save_slots}
 use Rattle.vr_journal.proofs.Halves.{after_both}
 use Rattle.vr_repair.specs.Laws.{TakenBlocksRead, TakenEntriesRead}
 use Rattle.vr_repair.proofs.Repaired.{blocks_repaired, entries_repaired}
@@ -38,25 +36,26 @@ IsDry (Write again e) = ⊥
 IsDry (Rewrite h) = ⊥
 IsDry _ = Unit {0}
 
-dry_effect : (e : Effect) (f : Face) (slot : ℕ) → IsDry e → slot < 64 → whole_in 1 (disk.after_all f (calls_of e f)) slot ≡ whole_in 1 f slot
-unfolding put_calls save_calls
-dry_effect (Write again e) f slot h l = absurd h
-dry_effect (Rewrite e) f slot h l = absurd h
-dry_effect (Save old new) f slot h l =
-    same_entry (write_calls old new f) f slot
-    (λ k a b. spares_append k (mend_calls old f) (save_from 0 4 (copy_bytes new)) (mend_spares 4 0 k (copy_bytes old) f (omega arith) (omega (arith, a))) (save_spares 4 0 k (copy_bytes new) (omega arith) (omega (arith, a))))
-dry_effect (Mend v) f slot h l = same_entry (mend_calls v f) f slot (λ k a b. mend_spares 4 0 k (copy_bytes v) f (omega arith) (omega (arith, a)))
-dry_effect (Checkpoint cluster texts op old) f slot h l =
-    same_entry (blocks_calls (written cluster texts op old) ++ Sync ∷ []) f slot
-    (λ k a b. spares_append k (blocks_calls (written cluster texts op old)) (Sync ∷ []) (blocks_spare (written cluster texts op old) k (omega (arith, b, l))) (tt, tt))
-dry_effect (PutBlock name block) f slot h l =
-    same_entry (block_calls name.address block ++ Sync ∷ []) f slot (λ k a b. spares_append k (block_calls name.address block) (Sync ∷ []) (block_spares name.address k block (omega (arith, b, l))) (tt, tt))
-dry_effect (Say o) f slot h l = refl
+-- calls that spare the slots leave what one reads as
+spared : (v : ℕ) (cs : List Call) (f : Face) (slot : ℕ) → SparesSlots v cs → slot < 64 → whole_in v (disk.after_all f cs) slot ≡ whole_in v f slot
+spared v cs f slot s l = same_entry v cs f slot (λ k a b. s.prepare slot k (record { few = l; low = a; high = b }))
 
-dry_all : (es : List Effect) (f : Face) (slot : ℕ) → All IsDry es → slot < 64 → whole_in 1 (after_all sectors f es) slot ≡ whole_in 1 f slot
+dry_effect : (v : ℕ) (e : Effect) (f : Face) (slot : ℕ) → IsDry e → slot < 64 → whole_in v (disk.after_all f (calls_by v e f)) slot ≡ whole_in v f slot
+unfolding put_calls save_calls
+dry_effect v (Write again e) f slot h l = absurd h
+dry_effect v (Rewrite e) f slot h l = absurd h
+dry_effect v (Save old new) f slot h l = spared v (write_calls old new f) f slot (save_slots v old new f) l
+dry_effect v (Mend value) f slot h l = spared v (mend_calls value f) f slot (mend_slots v value f) l
+dry_effect v (Checkpoint cluster texts op old) f slot h l =
+    let bs = written cluster texts op old in
+    spared v (blocks_calls bs ++ Sync ∷ []) f slot (checkpoint_slots v bs) l
+dry_effect v (PutBlock name block) f slot h l = spared v (block_calls name.address block ++ Sync ∷ []) f slot (put_slots v name.address block) l
+dry_effect v (Say o) f slot h l = refl
+
+dry_all : (v : ℕ) (es : List Effect) (f : Face) (slot : ℕ) → All IsDry es → slot < 64 → whole_in v (after_all (sectors_by v) f es) slot ≡ whole_in v f slot
 unfolding after_all
-dry_all [] f slot h l = refl
-dry_all (e ∷ es) f slot h l = dry_all es (disk.after_all f (calls_of e f)) slot (All-tail IsDry e es h) l ∙ dry_effect e f slot (All-head IsDry e es h) l
+dry_all v [] f slot h l = refl
+dry_all v (e ∷ es) f slot h l = dry_all v es (disk.after_all f (calls_by v e f)) slot (All-tail IsDry e es h) l ∙ dry_effect v e f slot (All-head IsDry e es h) l
 
 -- ---- words that write no slot
 
@@ -153,14 +152,15 @@ taken_of true false c d e = absurd cc
 taken_of false b c d e = absurd cc
 
 -- an entry that is written, and then words that write no slot
-kept_behind : (e : Whole) (w : Word Face) (r : Replica) (f : Face) → Dry w → whole_in 1 (after_all sectors f (write e sectors r f).script) (e.header.op % 64) ≡ Some e
-    → whole_in 1 (after_all sectors f ((write e ⨾ w) sectors r f).script) (e.header.op % 64) ≡ Some e
+kept_behind : (v : ℕ) (e : Whole) (w : Word Face) (r : Replica) (f : Face) → Dry w → whole_in v (after_all (sectors_by v) f (write e (sectors_by v) r f).script) (e.header.op % 64) ≡ Some e
+    → whole_in v (after_all (sectors_by v) f ((write e ⨾ w) (sectors_by v) r f).script) (e.header.op % 64) ≡ Some e
 unfolding ◌⨾◌
-kept_behind e w r f d h =
-    let a = write e sectors r f in
-    let g = after_all sectors f a.script in
-    let b = w sectors a.replica g in
-    rw (after_both sectors f a.script b.script) (dry_all b.script g (e.header.op % 64) (d.every sectors a.replica g) (mod_below e.header.op 64 (omega arith)) ∙ h)
+kept_behind v e w r f d h =
+    let s : Setting Face = sectors_by v in
+    let a = write e s r f in
+    let g = after_all s f a.script in
+    let b = w s a.replica g in
+    rw (after_both s f a.script b.script) (dry_all v b.script g (e.header.op % 64) (d.every s a.replica g) (mod_below e.header.op 64 (omega arith)) ∙ h)
 
 pub entries_taken : TakenEntriesRead
 unfolding on_give_prepare by
@@ -168,23 +168,23 @@ entries_taken g r f ready whole face rest rule =
     let e = g.entry in
     let t = taken_of _ _ _ _ rule in
     let may : MayStore e r = may_take e r ready t.0 t.1 in
-    rw rule (kept_behind e (resend e ⨾ apply) r f (dry_then _ _ (dry_resend e) dry_apply) (entries_repaired e r f ready may whole face rest).reads)
+    rw rule (kept_behind (version r) e (resend e ⨾ apply) r f (dry_then _ _ (dry_resend e) dry_apply) (entries_repaired e r f ready may whole face rest).reads)
 
 -- ---- the step of a give_block
 
 -- an effect, and what comes behind it
-does_first : (e : Replica → Effect) (v w : Word Face) (r : Replica) (f : Face) → (rest : List Effect) × ((((does e ⨾ v) ⨾ w) sectors r f).script ≡ e r ∷ rest)
+does_first : (s : Setting Face) (e : Replica → Effect) (v w : Word Face) (r : Replica) (f : Face) → (rest : List Effect) × ((((does e ⨾ v) ⨾ w) s r f).script ≡ e r ∷ rest)
 unfolding ◌⨾◌ does
-does_first e v w r f =
-    let a = (does e ⨾ v) sectors r f in
-    ((v sectors r (after_all sectors f (e r ∷ []))).script ++ (w sectors a.replica (after_all sectors f a.script)).script, refl)
+does_first s e v w r f =
+    let a = (does e ⨾ v) s r f in
+    ((v s r (after_all s f (e r ∷ []))).script ++ (w s a.replica (after_all s f a.script)).script, refl)
 
-put_first : (name : Name) (block : List ℕ) (r : Replica) (f : Face) → (rest : List Effect) × (((put_block name block ⨾ apply) sectors r f).script ≡ PutBlock name block ∷ rest)
+put_first : (s : Setting Face) (name : Name) (block : List ℕ) (r : Replica) (f : Face) → (rest : List Effect) × (((put_block name block ⨾ apply) s r f).script ≡ PutBlock name block ∷ rest)
 unfolding put_block
-put_first name block r f = does_first (λ q. PutBlock name block) _ apply r f
+put_first s name block r f = does_first s (λ q. PutBlock name block) _ apply r f
 
 pub blocks_taken : TakenBlocksRead
 unfolding on_give_block reading by
 blocks_taken g name r f face rest rule found =
-    let p = put_first name g.block r f in
+    let p = put_first (sectors_by (version r)) name g.block r f in
     record { rest = p.0; first = rw (rule, found) p.1; reads = (blocks_repaired name g.block r f (is_put g r.missing name found) face rest).reads }

@@ -1,6 +1,6 @@
 -- What a copy that comes makes good.
 use Rattle.vr_ckpt.specs.Places.{grid_size}
-use Rattle.std.proofs.Common.{arith, ◌≡◌, ◌≤◌, ◌<◌, ◌+◌, ◌-◌, ◌∙◌, refl, subst, ℕ, Bool, true, false, not, cond, filter, set, List, [], ◌∷◌, Some, None, is_some}
+use Rattle.std.proofs.Common.{arith, ◌≡◌, ◌≤◌, ◌<◌, ◌+◌, ◌-◌, ◌∙◌, refl, sym, subst, ℕ, Bool, true, false, not, cond, filter, set, List, [], ◌∷◌, Some, None, is_some}
 use Rattle.std.specs.Prelude.{find, ◌==◌}
 use Rattle.std.proofs.lemmas.Bool.{lt-ltb}
 use Rattle.vr_disk.specs.DiskState as disk
@@ -19,7 +19,7 @@ use Rattle.vr_journal.specs.Replica.{Replica, head, part_at, version, with_part}
 use Rattle.vr_journal.specs.Sectors.{block_in}
 use Rattle.vr_journal.specs.Steps.{◌⨾◌, after_all, change, does}
 use Rattle.vr_journal.specs.Words.{may_be_stored, stored, write}
-use Rattle.vr_journal.proofs.Memory.{entry_taken, runs_one}
+use Rattle.vr_journal.proofs.Memory.{entry_taken}
 use Rattle.vr_journal.proofs.Heads.{Spans, forgetting_at, head_within, with_part_at, with_part_spans}
 use Rattle.vr_journal.proofs.Keeping.{spans_of}
 use Rattle.vr_repair.specs.Laws.{BlocksAreRepaired, EntriesAreRepaired}
@@ -41,23 +41,22 @@ stored_here e r h m =
     let parts = s.parts in
     forgetting_at q k (omega (arith, top, above, reach)) ∙ with_part_at k (Here e.header) r (omega (arith, above, reach)) (omega (arith, window, parts))
 
--- the replica that has stored it still has its version
-pub still_taken : (e : Whole) (r q : Replica) → IsReady r → MayStore e r → IsReady q → e.header.version ≤ version q
-unfolding IsReady
-still_taken e r q h m k = let taken = (entry_taken e r h m).taken in let runs = k.runs in omega arith
+-- the file of a replica that keeps its version still takes it
+pub still_taken : (e : Whole) (r q : Replica) → IsReady r → MayStore e r → version q ≡ version r → e.header.version ≤ version q
+still_taken e r q h m same = subst (λ v. e.header.version ≤ v) (sym same) (entry_taken e r h m).taken
 
 calm : Fate
 calm = record { fuse = None; made = 0; failing = []; dead = false }
 
-entry_reads : (again : Bool) (e : Whole) (f : Face) → IsWhole e → Takes 1 e → IsFace f → f.waiting ≡ [] → whole_in 1 (disk.after_all f (cond again (again_calls 1 e) (new_calls 1 e))) (slot_of e.header) ≡ Some e
-entry_reads true e f w t h rest = (again_leaves 1 e (Some (record { face = f; fate = calm; beside = nothing_beside })) h w t rest).done.whole
-entry_reads false e f w t h rest = (new_leaves 1 e (Some (record { face = f; fate = calm; beside = nothing_beside })) h w t rest).done.whole
+entry_reads : (v : ℕ) (again : Bool) (e : Whole) (f : Face) → IsWhole e → Takes v e → IsFace f → f.waiting ≡ [] → whole_in v (disk.after_all f (cond again (again_calls v e) (new_calls v e))) (slot_of e.header) ≡ Some e
+entry_reads v true e f w t h rest = (again_leaves v e (Some (record { face = f; fate = calm; beside = nothing_beside })) h w t rest).done.whole
+entry_reads v false e f w t h rest = (new_leaves v e (Some (record { face = f; fate = calm; beside = nothing_beside })) h w t rest).done.whole
 
 pub entries_repaired : EntriesAreRepaired
 unfolding write ◌⨾◌ does change after_all
 entries_repaired e r f h m w face rest = record {
   here = stored_here e r h m;
-  reads = entry_reads (may_be_stored (part_at r e.header.op)) e f w (subst (λ n. Takes n e) (runs_one r h) (entry_taken e r h m)) face rest;
+  reads = entry_reads (version r) (may_be_stored (part_at r e.header.op)) e f w (entry_taken e r h m) face rest;
 }
 
 -- ---- blocks

@@ -12,16 +12,16 @@ use Rattle.vr_header.specs.declared.part.Part.TheVariants.{Here}
 use Rattle.vr_header.specs.Made.{Whole}
 use Rattle.vr_journal.specs.Ready.{IsReady, MayStore}
 use Rattle.vr_rings.specs.Slots.{IsWhole}
-use Rattle.vr_journal.specs.Replica.{Replica, part_at}
+use Rattle.vr_journal.specs.Replica.{Replica, part_at, version}
 use Rattle.vr_journal.specs.Rules.{on_give_block, on_give_prepare, without}
-use Rattle.vr_journal.specs.Sectors.{sectors}
+use Rattle.vr_journal.specs.Sectors.{sectors_by}
 use Rattle.vr_journal.specs.Steps.{Effect, PutBlock, after_all}
 use Rattle.vr_journal.specs.Words.{write}
 
--- an entry that is stored is known to be, and its slot reads as it
+-- an entry that is stored is known to be, and its slot reads as it, on a file of the replica's version
 pub record EntryRepaired (e : Whole) (r : Replica) (f : Face) : Type 0 where
-  pub here : part_at (write e sectors r f).replica e.header.op ≡ Here e.header
-  pub reads : sectors.entry (after_all sectors f (write e sectors r f).script) (e.header.op % 64) ≡ Some e
+  pub here : part_at (write e (sectors_by (version r)) r f).replica e.header.op ≡ Here e.header
+  pub reads : (sectors_by (version r)).entry (after_all (sectors_by (version r)) f (write e (sectors_by (version r)) r f).script) (e.header.op % 64) ≡ Some e
 
 abbrev pub EntriesAreRepaired : Type 0
 EntriesAreRepaired = (e : Whole) (r : Replica) (f : Face) → IsReady r → MayStore e r → IsWhole e → IsFace f → f.waiting ≡ [] → EntryRepaired e r f
@@ -29,7 +29,7 @@ EntriesAreRepaired = (e : Whole) (r : Replica) (f : Face) → IsReady r → MayS
 -- a block that is put isn't missing any more, and reads under its name
 pub record BlockRepaired (name : Name) (block : List ℕ) (r : Replica) (f : Face) : Type 0 where
   pub gone : find (λ m. m.address == name.address) (without name r).missing ≡ None
-  pub reads : sectors.block (after_all sectors f (PutBlock name block ∷ [])) name ≡ Some block
+  pub reads : (sectors_by (version r)).block (after_all (sectors_by (version r)) f (PutBlock name block ∷ [])) name ≡ Some block
 
 abbrev pub BlocksAreRepaired : Type 0
 BlocksAreRepaired = (name : Name) (block : List ℕ) (r : Replica) (f : Face) → is_some (named name block) ≡ true → IsFace f → f.waiting ≡ [] → BlockRepaired name block r f
@@ -40,13 +40,13 @@ BlocksAreRepaired = (name : Name) (block : List ℕ) (r : Replica) (f : Face) �
 abbrev pub TakenEntriesRead : Type 0
 TakenEntriesRead =
     (g : GivePrepare) (r : Replica) (f : Face) → IsReady r → IsWhole g.entry → IsFace f → f.waiting ≡ [] → first_of (give_prepare_table g r) ≡ EntryTaken
-    → sectors.entry (after_all sectors f (on_give_prepare g sectors r f).script) (g.entry.header.op % 64) ≡ Some g.entry
+    → (sectors_by (version r)).entry (after_all (sectors_by (version r)) f (on_give_prepare g (sectors_by (version r)) r f).script) (g.entry.header.op % 64) ≡ Some g.entry
 
 -- a block that comes and is taken: it is put first, and reads under its name before anything is loaded or applied
 pub record TakenBlock (g : GiveBlock) (name : Name) (r : Replica) (f : Face) : Type 0 where
   pub rest : List Effect
-  pub first : (on_give_block g sectors r f).script ≡ PutBlock name g.block ∷ rest
-  pub reads : sectors.block (after_all sectors f (PutBlock name g.block ∷ [])) name ≡ Some g.block
+  pub first : (on_give_block g (sectors_by (version r)) r f).script ≡ PutBlock name g.block ∷ rest
+  pub reads : (sectors_by (version r)).block (after_all (sectors_by (version r)) f (PutBlock name g.block ∷ [])) name ≡ Some g.block
 
 abbrev pub TakenBlocksRead : Type 0
 TakenBlocksRead =

@@ -1,5 +1,5 @@
 -- The request of each line that is read can be asked.
-use Rattle.std.proofs.Common.{◌≡◌, ◌<◌, ◌^◌, ℕ, List, [], ◌∷◌, true, eqb, refl, arith, Some, None}
+use Rattle.std.proofs.Common.{◌≡◌, ◌<◌, ◌≤◌, ◌^◌, ℕ, List, [], ◌∷◌, true, eqb, refl, arith, Some, None}
 use Rattle.std.specs.Prelude.{◌↔◌, codes, length, nat_lt}
 use Rattle.std.specs.Option.{IfSome, option_map}
 use Rattle.std.specs.Str.{bytes_eq}
@@ -7,10 +7,9 @@ use Rattle.std.proofs.lemmas.Bool.Decides.{nat_tests}
 use Rattle.vr_header.specs.Bodies.{IsOperation}
 use Rattle.vr_header.specs.declared.operation.Operation.{Operation}
 use Rattle.vr_header.specs.declared.operation.Operation.TheVariants as operation
-use Rattle.vr_lines.specs.Grammar.{asked_by, behind_asked, cluster_line, damage_line, deliver_line, fuse_line, is_fitting, line_behind, line_words, longest, lost_words, member_line, misdirect_line, mode_words, parse, replica_word, request_for, request_line, sector_of, sector_words, size_of, stale_line, start_line, stop_line, tick_line, unread_line}
+use Rattle.vr_lines.specs.Grammar.{asked_by, behind_asked, cluster_line, damage_line, deliver_line, fuse_line, is_fitting, line_behind, line_words, longest, lost_words, member_line, misdirect_line, kind_words, parse, replica_word, request_for, request_line, sector_of, sector_words, size_of, stale_line, start_line, stop_line, tick_line, unread_line}
 use Rattle.vr_lines.specs.Numbers.{digits_on, number_below, number_of, with_digit}
 use Rattle.vr_lines.specs.Operations.{operation_words}
-use Rattle.vr_lines.specs.Versions.{schedule_version}
 use Rattle.vr_lines.specs.Words.{only_word, words_of}
 use Rattle.vr_lines.specs.declared.line.Line.{Line}
 use Rattle.vr_lines.specs.declared.line.Line.TheVariants.{Cluster, Request, Deliver, Tick, Stop, Start, Fuse, Misdirect}
@@ -58,20 +57,20 @@ fits_form a (operation.Put key value) e = (λ same. absurd cc, λ zero. absurd (
 fits_form a (operation.Get key) e = (λ same. absurd cc, λ zero. absurd (grind (arith, nat_tests)))
 fits_form a (operation.Delete key) e = (λ same. absurd cc, λ zero. absurd (grind (arith, nat_tests)))
 
-request_fits : (a : Asked) (o : Operation) → IsNumbered a → IsOperation schedule_version o → IfSome (request_for a o) HasAsked
-request_fits a o is of =
-    either HasAsked (is_fitting o a.request) (Some (Request a.replica (record { version = schedule_version; cluster = 0; client = a.client; request = a.request; operation = o }))) None
-    (λ e. (record { form = record { first = fits_form a o e; fits = of }; client = is.client; request = is.request; version = (omega arith, omega arith) }, omega arith)) (λ e. tt)
+request_fits : (version : ℕ) (a : Asked) (o : Operation) → (1 ≤ version) × (version ≤ 2) → IsNumbered a → IsOperation version o → IfSome (request_for version a o) HasAsked
+request_fits version a o files is of =
+    either HasAsked (is_fitting o a.request) (Some (Request a.replica (record { version = version; cluster = 0; client = a.client; request = a.request; operation = o }))) None
+    (λ e. (record { form = record { first = fits_form a o e; fits = of }; client = is.client; request = is.request; version = files }, omega arith)) (λ e. tt)
 
-asking_fits : (n : ℕ) (words : List (List ℕ)) → IfSome (request_line n words) HasAsked
-asking_fits n [] = tt
-asking_fits n (r ∷ []) = tt
-asking_fits n (r ∷ c ∷ []) = tt
-asking_fits n (r ∷ c ∷ q ∷ words) =
-    through HasAsked (asked_by n r c q) (λ asked. behind_asked asked words) (λ a e.
-    through HasAsked (operation_words schedule_version words) (request_for a) (λ o h.
-    request_fits a o (it_is IsNumbered (asked_by n r c q) a (asked_fits n r c q) e)
-    (it_is (IsOperation schedule_version) (operation_words schedule_version words) o (operation_fits schedule_version words) h)))
+asking_fits : (version n : ℕ) (words : List (List ℕ)) → (1 ≤ version) × (version ≤ 2) → IfSome (request_line version n words) HasAsked
+asking_fits version n [] files = tt
+asking_fits version n (r ∷ []) files = tt
+asking_fits version n (r ∷ c ∷ []) files = tt
+asking_fits version n (r ∷ c ∷ q ∷ words) files =
+    through HasAsked (asked_by n r c q) (λ asked. behind_asked version asked words) (λ a e.
+    through HasAsked (operation_words version words) (request_for version a) (λ o h.
+    request_fits version a o files (it_is IsNumbered (asked_by n r c q) a (asked_fits n r c q) e)
+    (it_is (IsOperation version) (operation_words version words) o (operation_fits version words) h)))
 
 -- ---- lines that speak of one replica ask nothing
 
@@ -85,58 +84,58 @@ fuse_asks n (r ∷ j ∷ []) = tt
 fuse_asks n (r ∷ j ∷ code ∷ []) = through HasAsked (number_below n r) _ (λ replica e. through HasAsked _ _ (λ call h. mapped HasAsked (number_of code) (Fuse replica call) (λ c k. tt)))
 fuse_asks n (r ∷ j ∷ code ∷ more ∷ words) = tt
 
-sector_asks : (n : ℕ) (words : List (List ℕ)) (make : Place → Line) → ((p : Place) → HasAsked (make p)) → IfSome (option_map make (sector_words n words)) HasAsked
-sector_asks n words make h = mapped HasAsked (sector_words n words) make (λ p e. h p)
+sector_asks : (version n : ℕ) (words : List (List ℕ)) (make : Place → Line) → ((p : Place) → HasAsked (make p)) → IfSome (option_map make (sector_words version n words)) HasAsked
+sector_asks version n words make h = mapped HasAsked (sector_words version n words) make (λ p e. h p)
 
-misdirect_asks : (n : ℕ) (words : List (List ℕ)) → IfSome (misdirect_line n words) HasAsked
-misdirect_asks n [] = tt
-misdirect_asks n (r ∷ []) = tt
-misdirect_asks n (r ∷ s ∷ []) = tt
-misdirect_asks n (r ∷ s ∷ t ∷ []) =
+misdirect_asks : (version n : ℕ) (words : List (List ℕ)) → IfSome (misdirect_line version n words) HasAsked
+misdirect_asks version n [] = tt
+misdirect_asks version n (r ∷ []) = tt
+misdirect_asks version n (r ∷ s ∷ []) = tt
+misdirect_asks version n (r ∷ s ∷ t ∷ []) =
     through HasAsked (number_below n r) _ (λ replica e.
-    through HasAsked (sector_of s) _ (λ sector h.
-    through HasAsked (sector_of t) _ (λ other k.
+    through HasAsked (sector_of version s) _ (λ sector h.
+    through HasAsked (sector_of version t) _ (λ other k.
     either HasAsked (eqb sector other) None (Some (Misdirect replica sector other)) (λ d. tt) (λ d. tt))))
-misdirect_asks n (r ∷ s ∷ t ∷ more ∷ words) = tt
+misdirect_asks version n (r ∷ s ∷ t ∷ more ∷ words) = tt
 
-lost_asks : (n : ℕ) (word : List ℕ) (words : List (List ℕ)) → IfSome (lost_words n word words) HasAsked
-lost_asks n word words =
+lost_asks : (version n : ℕ) (word : List ℕ) (words : List (List ℕ)) → IfSome (lost_words version n word words) HasAsked
+lost_asks version n word words =
     either HasAsked (bytes_eq word (codes "fuse")) (fuse_line n words) _ (λ e. fuse_asks n words)
-    (λ e. either HasAsked (bytes_eq word (codes "damage")) (damage_line n words) _ (λ e. sector_asks n words _ (λ p. tt))
-    (λ e. either HasAsked (bytes_eq word (codes "stale")) (stale_line n words) _ (λ e. sector_asks n words _ (λ p. tt))
-    (λ e. either HasAsked (bytes_eq word (codes "unread")) (unread_line n words) _ (λ e. sector_asks n words _ (λ p. tt))
-    (λ e. either HasAsked (bytes_eq word (codes "misdirect")) (misdirect_line n words) None (λ e. misdirect_asks n words) (λ e. tt)))))
+    (λ e. either HasAsked (bytes_eq word (codes "damage")) (damage_line version n words) _ (λ e. sector_asks version n words _ (λ p. tt))
+    (λ e. either HasAsked (bytes_eq word (codes "stale")) (stale_line version n words) _ (λ e. sector_asks version n words _ (λ p. tt))
+    (λ e. either HasAsked (bytes_eq word (codes "unread")) (unread_line version n words) _ (λ e. sector_asks version n words _ (λ p. tt))
+    (λ e. either HasAsked (bytes_eq word (codes "misdirect")) (misdirect_line version n words) None (λ e. misdirect_asks version n words) (λ e. tt)))))
 
-member_asks : (n : ℕ) (word : List ℕ) (words : List (List ℕ)) → IfSome (member_line n word words) HasAsked
-member_asks n word words =
+member_asks : (version n : ℕ) (word : List ℕ) (words : List (List ℕ)) → IfSome (member_line version n word words) HasAsked
+member_asks version n word words =
     either HasAsked (bytes_eq word (codes "tick")) (tick_line n words) _ (λ e. replica_asks n words Tick (λ r. tt))
     (λ e. either HasAsked (bytes_eq word (codes "stop")) (stop_line n words) _ (λ e. replica_asks n words Stop (λ r. tt))
-    (λ e. either HasAsked (bytes_eq word (codes "start")) (start_line n words) (lost_words n word words) (λ e. replica_asks n words Start (λ r. tt)) (λ e. lost_asks n word words)))
+    (λ e. either HasAsked (bytes_eq word (codes "start")) (start_line n words) (lost_words version n word words) (λ e. replica_asks n words Start (λ r. tt)) (λ e. lost_asks version n word words)))
 
 -- ---- all lines
 
 cluster_asks : (words : List (List ℕ)) → IfSome (cluster_line words) HasAsked
 cluster_asks [] = tt
-cluster_asks (size ∷ words) = through HasAsked (size_of size) _ (λ n e. mapped HasAsked (mode_words words) (Cluster n) (λ mode h. tt))
+cluster_asks (size ∷ words) = through HasAsked (kind_words words) _ (λ kind e. mapped HasAsked (size_of size) (λ n. Cluster n kind) (λ n h. tt))
 
 deliver_asks : (words : List (List ℕ)) → IfSome (deliver_line words) HasAsked
 deliver_asks words = through HasAsked (only_word words) (λ a. option_map Deliver (number_of a)) (λ a e. mapped HasAsked (number_of a) Deliver (λ x k. tt))
 
-behind_asks : (n : ℕ) (word : List ℕ) (words : List (List ℕ)) → IfSome (line_behind n word words) HasAsked
-behind_asks n word words =
+behind_asks : (version n : ℕ) (word : List ℕ) (words : List (List ℕ)) → (1 ≤ version) × (version ≤ 2) → IfSome (line_behind version n word words) HasAsked
+behind_asks version n word words files =
     either HasAsked (eqb n 0) _ _
     (λ e. either HasAsked (bytes_eq word (codes "cluster")) (cluster_line words) None (λ t. cluster_asks words) (λ t. tt))
-    (λ e. either HasAsked (bytes_eq word (codes "request")) (request_line n words) _ (λ t. asking_fits n words)
-    (λ t. either HasAsked (bytes_eq word (codes "deliver")) (deliver_line words) (member_line n word words) (λ u. deliver_asks words) (λ u. member_asks n word words)))
+    (λ e. either HasAsked (bytes_eq word (codes "request")) (request_line version n words) _ (λ t. asking_fits version n words files)
+    (λ t. either HasAsked (bytes_eq word (codes "deliver")) (deliver_line words) (member_line version n word words) (λ u. deliver_asks words) (λ u. member_asks version n word words)))
 
-words_ask : (n : ℕ) (words : List (List ℕ)) → IfSome (line_words n words) HasAsked
+words_ask : (version n : ℕ) (words : List (List ℕ)) → (1 ≤ version) × (version ≤ 2) → IfSome (line_words version n words) HasAsked
 unfolding line_words
-words_ask n [] = tt
-words_ask n (word ∷ words) = behind_asks n word words
+words_ask version n [] files = tt
+words_ask version n (word ∷ words) files = behind_asks version n word words files
 
-parse_asks : (n : ℕ) (bytes : List ℕ) → IfSome (parse n bytes) HasAsked
+parse_asks : (version n : ℕ) (bytes : List ℕ) → (1 ≤ version) × (version ≤ 2) → IfSome (parse version n bytes) HasAsked
 unfolding parse
-parse_asks n bytes = either HasAsked (nat_lt longest (length bytes)) None (line_words n (words_of bytes)) (λ e. tt) (λ e. words_ask n (words_of bytes))
+parse_asks version n bytes files = either HasAsked (nat_lt (longest version) (length bytes)) None (line_words version n (words_of bytes)) (λ e. tt) (λ e. words_ask version n (words_of bytes) files)
 
-pub parsed_asks : (n : ℕ) (bytes : List ℕ) (l : Line) → parse n bytes ≡ Some l → HasAsked l
-parsed_asks n bytes l e = it_is HasAsked (parse n bytes) l (parse_asks n bytes) e
+pub parsed_asks : (version n : ℕ) (bytes : List ℕ) (l : Line) → (1 ≤ version) × (version ≤ 2) → parse version n bytes ≡ Some l → HasAsked l
+parsed_asks version n bytes l files e = it_is HasAsked (parse version n bytes) l (parse_asks version n bytes files) e

@@ -1,46 +1,46 @@
 -- Lines that are played one after another, and what the whole schedule says of them.
-use Rattle.std.proofs.Common.{◌≡◌, ◌<◌, ℕ, ◌+◌, List, [], ◌∷◌, ◌++◌, length, Bool, true, false, cond, ltb, refl, ap, sym, ◌∙◌, arith, append_assoc, length-append, Option, Some, None}
+use Rattle.std.proofs.Common.{◌≡◌, ◌<◌, ℕ, ◌+◌, List, [], ◌∷◌, ◌++◌, length, Bool, true, false, cond, ltb, refl, ap, sym, subst, ◌∙◌, arith, append_assoc, length-append, Option, Some, None}
 use Rattle.std.specs.Option.{option_map_or}
 use Rattle.std.proofs.lemmas.List.{append-nil}
-use Rattle.vr_base.specs.Kinds.{of_mode}
 use Rattle.vr_base.specs.declared.kind.Kind.{Kind}
+use Rattle.vr_base.proofs.Versions.{between}
 use Rattle.vr_lines.specs.Fits.{IsLineOf}
-use Rattle.vr_lines.specs.Grammar.{longest, parse}
+use Rattle.vr_lines.specs.Grammar.{parse}
 use Rattle.vr_lines.specs.declared.line.Line.{Line}
 use Rattle.vr_lines.specs.declared.line.Line.TheVariants as line
 use Rattle.vr_lines.proofs.Fitting.{long_parse, parsed_fits}
 use Rattle.vr_world.specs.Lying.{Lying, hazards}
-use Rattle.vr_world.specs.World.{Happened, World, no_world, fresh_world, happen, happens}
+use Rattle.vr_world.specs.World.{Happened, World, fresh_world, happen, happens}
 use Rattle.vr_world.specs.Outputs.{messages}
 use Rattle.vr_group.specs.Outputs.{Numbered, numbered}
 use Rattle.vr_group.specs.Lines.{happening, happenings}
 use Rattle.vr_group.proofs.Goings.{Grows, grows_one, numbered_append}
 use Rattle.vr_replay.specs.Schedule.{Accepted, Schedule, accepted, begun, limit, line_at, no_group, of_group, put_out, refuses, so_far, with_line}
-use Rattle.vr_replay.specs.Playing.{Played, comes, judged, taken, behind, and_then, plays}
+use Rattle.vr_replay.specs.Playing.{Played, comes, judged, taken, behind, and_then, plays, Scene, no_scene, longest_line}
 
 pub behind_behind : (a b : List Numbered) (t : Played) → behind a (behind b t) ≡ behind (a ++ b) t
-behind_behind a b t = ap (λ (x : List Numbered). let y : Played = record { world = t.world; number = t.number; refused = t.refused; outputs = x } in y) (sym (append_assoc a b t.outputs))
+behind_behind a b t = ap (λ (x : List Numbered). let y : Played = record { scene = t.scene; number = t.number; refused = t.refused; outputs = x } in y) (sym (append_assoc a b t.outputs))
 
 behind_and_then : (a : List Numbered) (t later : Played) (o : Option ℕ) → behind a (and_then o t later) ≡ and_then o (behind a t) later
 behind_and_then a t later (Some k) = refl
 behind_and_then a t later None = behind_behind a t.outputs later
 
-and_then_then : (t x : Played) (f : World Lying → ℕ → Played) (o : Option ℕ) → t.refused ≡ o → and_then o t (and_then x.refused x (f x.world x.number)) ≡ and_then (and_then o t x).refused (and_then o t x) (f (and_then o t x).world (and_then o t x).number)
+and_then_then : (t x : Played) (f : Scene → ℕ → Played) (o : Option ℕ) → t.refused ≡ o → and_then o t (and_then x.refused x (f x.scene x.number)) ≡ and_then (and_then o t x).refused (and_then o t x) (f (and_then o t x).scene (and_then o t x).number)
 and_then_then t x f (Some k) e = rw e refl
-and_then_then t x f None e = behind_and_then t.outputs x (f x.world x.number) x.refused
+and_then_then t x f None e = behind_and_then t.outputs x (f x.scene x.number) x.refused
 
-pub plays_append : (w : World Lying) (number : ℕ) (xs ys : List (List ℕ)) → plays w number (xs ++ ys) ≡ and_then (plays w number xs).refused (plays w number xs) (plays (plays w number xs).world (plays w number xs).number ys)
+pub plays_append : (w : Scene) (number : ℕ) (xs ys : List (List ℕ)) → plays w number (xs ++ ys) ≡ and_then (plays w number xs).refused (plays w number xs) (plays (plays w number xs).scene (plays w number xs).number ys)
 unfolding plays
 plays_append w number [] ys = refl
 plays_append w number (x ∷ xs) ys =
     let t = taken w number x in
-    ap (and_then t.refused t) (plays_append t.world t.number xs ys) ∙ and_then_then t (plays t.world t.number xs) (λ u k. plays u k ys) t.refused refl
+    ap (and_then t.refused t) (plays_append t.scene t.number xs ys) ∙ and_then_then t (plays t.scene t.number xs) (λ u k. plays u k ys) t.refused refl
 
-pub plays_line : (w : World Lying) (number : ℕ) (x : List ℕ) (xs : List (List ℕ)) → plays w number (x ∷ xs) ≡ and_then (taken w number x).refused (taken w number x) (plays (taken w number x).world (taken w number x).number xs)
+pub plays_line : (w : Scene) (number : ℕ) (x : List ℕ) (xs : List (List ℕ)) → plays w number (x ∷ xs) ≡ and_then (taken w number x).refused (taken w number x) (plays (taken w number x).scene (taken w number x).number xs)
 unfolding plays
 plays_line w number x xs = refl
 
-pub plays_none : (w : World Lying) (number : ℕ) → plays w number [] ≡ record { world = w; number = number; refused = None; outputs = [] }
+pub plays_none : (w : Scene) (number : ℕ) → plays w number [] ≡ record { scene = w; number = number; refused = None; outputs = [] }
 unfolding plays
 plays_none w number = refl
 
@@ -70,20 +70,22 @@ none_by : (a : Bool) (o : Option Line) → o ≡ None → cond a o None ≡ None
 none_by true o e = e
 none_by false o e = refl
 
-pub too_long : (w : World Lying) (number : ℕ) (text : List ℕ) → longest < length text → taken w number text ≡ judged w number None
+pub too_long : (w : Scene) (number : ℕ) (text : List ℕ) → longest_line < length text → taken w number text ≡ judged w number None
 unfolding taken
-too_long w number text h = ap (judged w number) (none_by (ltb number limit) (parse w.n text) (long_parse w.n text h))
+too_long w number text h =
+    let most = between w.version 1135 3111 (omega arith) in
+    ap (judged w number) (none_by (ltb number limit) (parse w.version w.world.n text) (long_parse w.version w.world.n text (omega (arith, most.1, h))))
 
 -- a line that is taken speaks of the group
-pub line_at_fits : (n number : ℕ) (text : List ℕ) (l : Line) → line_at n number text ≡ Some l → IsLineOf n l
-line_at_fits n number text l e =
-    let cases : (b : Bool) → cond b (parse n text) None ≡ Some l → parse n text ≡ Some l = elim [ true ↦ λ h. h | false ↦ λ h. absurd (cc) ] in
-    parsed_fits n text l (cases (ltb number limit) e)
+pub line_at_fits : (version n number : ℕ) (text : List ℕ) (l : Line) → line_at version n number text ≡ Some l → IsLineOf version n l
+line_at_fits version n number text l e =
+    let cases : (b : Bool) → cond b (parse version n text) None ≡ Some l → parse version n text ≡ Some l = elim [ true ↦ λ h. h | false ↦ λ h. absurd (cc) ] in
+    parsed_fits version n text l (cases (ltb number limit) e)
 
 -- what a schedule says of lines behind its first
-record Follow (p : Played) (w : World Lying) (a : Accepted) : Type 0 where
+record Follow (p : Played) (w : Scene) (a : Accepted) : Type 0 where
   refused : p.refused ≡ a.refused
-  outputs : p.outputs ≡ numbered (length w.sent) (happen hazards w (happenings a.lines)).outputs
+  outputs : p.outputs ≡ numbered (length w.world.sent) (happen hazards w.world (happenings a.lines)).outputs
 
 happenings_more : (w : World Lying) (l : Line) (ls : List Line) → (happen hazards w (happenings (l ∷ ls))).outputs ≡ (happens hazards w (happening l)).outputs ++ (happen hazards (happens hazards w (happening l)).world (happenings ls)).outputs
 unfolding happen happenings
@@ -92,43 +94,62 @@ happenings_more w l ls = refl
 sent_after : (w : World Lying) (h : Happened Lying) → Grows w h → length h.world.sent ≡ length w.sent + length (messages h.outputs)
 sent_after w h g = ap length g.sent ∙ length-append w.sent (messages h.outputs)
 
-numbered_line : (w : World Lying) (l : Line) (ls : List Line) → 0 < w.n → IsLineOf w.n l → numbered (length w.sent) (happen hazards w (happenings (l ∷ ls))).outputs ≡ (comes w l).outputs ++ numbered (length (comes w l).world.sent) (happen hazards (comes w l).world (happenings ls)).outputs
+numbered_line : (w : Scene) (l : Line) (ls : List Line) → 0 < w.world.n → IsLineOf w.version w.world.n l
+    → numbered (length w.world.sent) (happen hazards w.world (happenings (l ∷ ls))).outputs ≡ (comes w l).outputs ++ numbered (length (comes w l).scene.world.sent) (happen hazards (comes w l).scene.world (happenings ls)).outputs
 unfolding comes
 numbered_line w l ls some of =
-    let first = happens hazards w (happening l) in
+    let first = happens hazards w.world (happening l) in
     let later = happen hazards first.world (happenings ls) in
-    ap (numbered (length w.sent)) (happenings_more w l ls)
-    ∙ numbered_append (length w.sent) first.outputs later.outputs
-    ∙ ap (λ m. numbered (length w.sent) first.outputs ++ numbered m later.outputs) (sym (sent_after w first (grows_one w l some of)))
+    ap (numbered (length w.world.sent)) (happenings_more w.world l ls)
+    ∙ numbered_append (length w.world.sent) first.outputs later.outputs
+    ∙ ap (λ m. numbered (length w.world.sent) first.outputs ++ numbered m later.outputs) (sym (sent_after w.world first (grows_one w.version w.world l some of)))
 
-size_after : (w : World Lying) (l : Line) → 0 < w.n → IsLineOf w.n l → (comes w l).world.n ≡ w.n
+size_after : (w : Scene) (l : Line) → 0 < w.world.n → IsLineOf w.version w.world.n l → (comes w l).scene.world.n ≡ w.world.n
 unfolding comes
-size_after w l some of = (grows_one w l some of).size
+size_after w l some of = (grows_one w.version w.world l some of).size
 
-follow_line : (w : World Lying) (number : ℕ) (l : Line) (texts : List (List ℕ)) → 0 < w.n → IsLineOf w.n l
-    → Follow (plays (comes w l).world (number + 1) texts) (comes w l).world (accepted (comes w l).world.n (number + 1) texts)
-    → Follow (behind (comes w l).outputs (plays (comes w l).world (number + 1) texts)) w (with_line l (accepted w.n (number + 1) texts))
+-- lines of a group are of its version
+version_after : (w : Scene) (l : Line) → 0 < w.world.n → IsLineOf w.version w.world.n l → (comes w l).scene.version ≡ w.version
+unfolding comes
+version_after w (line.Cluster n kind) some of = absurd (let z : w.world.n ≡ 0 = of.0 in omega (arith, some, z))
+version_after w (line.Request replica request) some of = refl
+version_after w (line.Deliver number) some of = refl
+version_after w (line.Tick replica) some of = refl
+version_after w (line.Stop replica) some of = refl
+version_after w (line.Start replica) some of = refl
+version_after w (line.Fuse replica call code) some of = refl
+version_after w (line.Damage replica sector) some of = refl
+version_after w (line.Stale replica sector) some of = refl
+version_after w (line.Unread replica sector) some of = refl
+version_after w (line.Misdirect replica sector other) some of = refl
+
+follow_line : (w : Scene) (number : ℕ) (l : Line) (texts : List (List ℕ)) → 0 < w.world.n → IsLineOf w.version w.world.n l
+    → Follow (plays (comes w l).scene (number + 1) texts) (comes w l).scene (accepted (comes w l).scene.version (comes w l).scene.world.n (number + 1) texts)
+    → Follow (behind (comes w l).outputs (plays (comes w l).scene (number + 1) texts)) w (with_line l (accepted w.version w.world.n (number + 1) texts))
 follow_line w number l texts some of f =
-    let size : (comes w l).world.n ≡ w.n = size_after w l some of in
-    let h = rw size at f in
+    let p = plays (comes w l).scene (number + 1) texts in
+    let size = size_after w l some of in
+    let version = version_after w l some of in
+    let h : Follow p (comes w l).scene (accepted w.version w.world.n (number + 1) texts) =
+    subst (λ v. Follow p (comes w l).scene (accepted v w.world.n (number + 1) texts)) version (subst (λ n. Follow p (comes w l).scene (accepted (comes w l).scene.version n (number + 1) texts)) size f) in
     record {
       refused = h.refused;
-      outputs = ap (λ x. (comes w l).outputs ++ x) h.outputs ∙ sym (numbered_line w l (accepted w.n (number + 1) texts).lines some of);
+      outputs = ap (λ x. (comes w l).outputs ++ x) h.outputs ∙ sym (numbered_line w l (accepted w.version w.world.n (number + 1) texts).lines some of);
     }
 
-plays_follow : (w : World Lying) (number : ℕ) (texts : List (List ℕ)) → 0 < w.n → Follow (plays w number texts) w (accepted w.n number texts)
+plays_follow : (w : Scene) (number : ℕ) (texts : List (List ℕ)) → 0 < w.world.n → Follow (plays w number texts) w (accepted w.version w.world.n number texts)
 unfolding plays taken accepted happen happenings numbered
 plays_follow w number [] some = record { refused = refl; outputs = refl }
 plays_follow w number (text ∷ texts) some =
-    let cases : (o : Option Line) → line_at w.n number text ≡ o → Follow (and_then (judged w number o).refused (judged w number o) (plays (judged w number o).world (judged w number o).number texts)) w (option_map_or (λ l. with_line l (accepted w.n (number + 1) texts)) o (refuses (number + 1))) =
+    let cases : (o : Option Line) → line_at w.version w.world.n number text ≡ o → Follow (and_then (judged w number o).refused (judged w number o) (plays (judged w number o).scene (judged w number o).number texts)) w (option_map_or (λ l. with_line l (accepted w.version w.world.n (number + 1) texts)) o (refuses (number + 1))) =
     elim [
       | None ↦ λ e. record { refused = refl; outputs = refl }
       | Some l ↦ λ e.
-          let of = line_at_fits w.n number text l e in
-          let n : (comes w l).world.n ≡ w.n = size_after w l some of in
-          follow_line w number l texts some of (plays_follow (comes w l).world (number + 1) texts (rw n some))
+          let of = line_at_fits w.version w.world.n number text l e in
+          let n = size_after w l some of in
+          follow_line w number l texts some of (plays_follow (comes w l).scene (number + 1) texts (rw n some))
     ] in
-    cases (line_at w.n number text) refl
+    cases (line_at w.version w.world.n number text) refl
 
 -- what a whole schedule says of its lines
 pub record Shows (p : Played) (s : Schedule) : Type 0 where
@@ -149,20 +170,19 @@ fresh_sent kind n = refl
 
 -- the group of the first line, and of the schedule
 numbered_fresh : (kind : Kind) (n : ℕ) (texts : List (List ℕ))
-    → numbered (length (fresh_world hazards kind n).sent) (happen hazards (fresh_world hazards kind n) (happenings (accepted (fresh_world hazards kind n).n 1 texts).lines)).outputs ≡ put_out (of_group kind n (accepted n 1 texts))
+    → numbered (length (fresh_world hazards kind n).sent) (happen hazards (fresh_world hazards kind n) (happenings (accepted kind.version (fresh_world hazards kind n).n 1 texts).lines)).outputs ≡ put_out (of_group kind n (accepted kind.version n 1 texts))
 numbered_fresh kind n texts =
     let w = fresh_world hazards kind n in
-    ap (λ m. numbered m (happen hazards w (happenings (accepted w.n 1 texts).lines)).outputs) (fresh_sent kind n)
-    ∙ ap (λ m. numbered 0 (happen hazards w (happenings (accepted m 1 texts).lines)).outputs) (fresh_size kind n)
+    ap (λ m. numbered m (happen hazards w (happenings (accepted kind.version w.n 1 texts).lines)).outputs) (fresh_sent kind n)
+    ∙ ap (λ m. numbered 0 (happen hazards w (happenings (accepted kind.version m 1 texts).lines)).outputs) (fresh_size kind n)
 
-show_first : (text : List ℕ) (texts : List (List ℕ)) (l : Line) → IsLineOf 0 l → Shows (behind (comes no_world l).outputs (plays (comes no_world l).world 1 texts)) (begun texts l)
+show_first : (text : List ℕ) (texts : List (List ℕ)) (l : Line) → IsLineOf 1 0 l → Shows (behind (comes no_scene l).outputs (plays (comes no_scene l).scene 1 texts)) (begun texts l)
 unfolding comes numbered
-show_first text texts (line.Cluster n mode) h =
-    let kind = of_mode mode in
+show_first text texts (line.Cluster n kind) h =
     let least = h.1 in
-    let f = plays_follow (fresh_world hazards kind n) 1 texts (positive kind n (omega (arith, least))) in
+    let f = plays_follow (record { world = fresh_world hazards kind n; version = kind.version }) 1 texts (positive kind n (omega (arith, least))) in
     record {
-      refused = f.refused ∙ ap (λ m. (accepted m 1 texts).refused) (fresh_size kind n);
+      refused = f.refused ∙ ap (λ m. (accepted kind.version m 1 texts).refused) (fresh_size kind n);
       outputs = f.outputs ∙ numbered_fresh kind n texts;
     }
 show_first text texts (line.Request replica request) h = absurd (omega (arith, h))
@@ -176,13 +196,13 @@ show_first text texts (line.Stale replica sector) h = absurd (let z = h.0 in ome
 show_first text texts (line.Unread replica sector) h = absurd (let z = h.0 in omega (arith, z))
 show_first text texts (line.Misdirect replica sector other) h = absurd (let z = h.0 in omega (arith, z))
 
-pub plays_show : (texts : List (List ℕ)) → Shows (plays no_world 0 texts) (so_far texts)
+pub plays_show : (texts : List (List ℕ)) → Shows (plays no_scene 0 texts) (so_far texts)
 unfolding plays taken happen happenings numbered
 plays_show [] = record { refused = refl; outputs = refl }
 plays_show (text ∷ texts) =
-    let cases : (o : Option Line) → line_at 0 0 text ≡ o → Shows (and_then (judged no_world 0 o).refused (judged no_world 0 o) (plays (judged no_world 0 o).world (judged no_world 0 o).number texts)) (option_map_or (begun texts) o (no_group (Some 1))) =
+    let cases : (o : Option Line) → line_at 1 0 0 text ≡ o → Shows (and_then (judged no_scene 0 o).refused (judged no_scene 0 o) (plays (judged no_scene 0 o).scene (judged no_scene 0 o).number texts)) (option_map_or (begun texts) o (no_group (Some 1))) =
     elim [
       | None ↦ λ e. record { refused = refl; outputs = refl }
-      | Some l ↦ λ e. show_first text texts l (line_at_fits 0 0 text l e)
+      | Some l ↦ λ e. show_first text texts l (line_at_fits 1 0 0 text l e)
     ] in
-    cases (line_at 0 0 text) refl
+    cases (line_at 1 0 0 text) refl

@@ -8,16 +8,13 @@ use Rattle.vr_base.specs.Causes.{one_more}
 use Rattle.vr_edge.specs.Told.{AppendsFront}
 use Rattle.vr_edge.proofs.Told.{appends_nil, appends_trans}
 use Rattle.vr_lines.specs.Cuts.{Cut, cut, whole_lines}
-use Rattle.vr_lines.specs.Grammar.{longest}
 use Rattle.vr_lines.specs.Held.{Held, IsGiven}
 use Rattle.vr_lines.proofs.Cutting.{Begins, cut_line, cut_part}
 use Rattle.vr_group.specs.Outputs.{Numbered, text_of}
-use Rattle.vr_world.specs.Lying.{Lying}
-use Rattle.vr_world.specs.World.{World}
 use Rattle.vr_replay.specs.declared.playing.Replay.{Replay}
 use Rattle.vr_replay.specs.declared.stop.Stop.{Stop}
 use Rattle.vr_replay.specs.declared.stop.Stop.TheVariants as stop
-use Rattle.vr_replay.specs.Playing.{Played, judged, taken, behind, and_then, plays, heard, hears, hears_lines, if_too_long, ends, IsReplay, HearsAll, Hears}
+use Rattle.vr_replay.specs.Playing.{Played, judged, taken, behind, and_then, plays, heard, hears, hears_lines, if_too_long, ends, IsReplay, HearsAll, Hears, Scene, scene_of, longest_line}
 use Rattle.vr_replay.specs.Schedule.{limit}
 use Rattle.vr_replay.specs.Stops.{Stopped}
 use Rattle.vr_replay.proofs.Heard.{heard_line, heard_part}
@@ -57,27 +54,27 @@ follows_by : (p t u : Played) (o : Option ℕ) → Follows t u → Follows (and_
 follows_by p t u (Some k) f = follows_refl p
 follows_by p t u None f = follows_behind p.outputs t u f
 
-pub follows_lines : (w : World Lying) (number : ℕ) (a b c : List (List ℕ)) → ((u : World Lying) (k : ℕ) → Follows (plays u k b) (plays u k c)) → Follows (plays w number (a ++ b)) (plays w number (a ++ c))
+pub follows_lines : (w : Scene) (number : ℕ) (a b c : List (List ℕ)) → ((u : Scene) (k : ℕ) → Follows (plays u k b) (plays u k c)) → Follows (plays w number (a ++ b)) (plays w number (a ++ c))
 follows_lines w number a b c f =
     rw (plays_append w number a b, plays_append w number a c)
-    (follows_by (plays w number a) _ _ (plays w number a).refused (f (plays w number a).world (plays w number a).number))
+    (follows_by (plays w number a) _ _ (plays w number a).refused (f (plays w number a).scene (plays w number a).number))
 
-pub follows_none : (w : World Lying) (number : ℕ) (texts : List (List ℕ)) → Follows (plays w number []) (plays w number texts)
+pub follows_none : (w : Scene) (number : ℕ) (texts : List (List ℕ)) → Follows (plays w number []) (plays w number texts)
 unfolding plays
 follows_none w number texts = record { same = λ k e. absurd (cc); grows = record { more = (plays w number texts).outputs; is = refl } }
 
 -- what has not ended and is too long, and whatever comes behind it
-pub follows_long : (w : World Lying) (number : ℕ) (p : List ℕ) (texts : List (List ℕ)) → longest < length p → Begins p texts → Follows (plays w number (p ∷ [])) (plays w number texts)
+pub follows_long : (w : Scene) (number : ℕ) (p : List ℕ) (texts : List (List ℕ)) → longest_line < length p → Begins p texts → Follows (plays w number (p ∷ [])) (plays w number texts)
 follows_long w number p texts long b =
-    let longer : longest < length (p ++ b.rest) = grind (arith, length-append p b.rest) in
-    let one = plays_line w number p [] ∙ ap (λ (t : Played). and_then t.refused t (plays t.world t.number [])) (too_long w number p long) in
-    let other = ap (plays w number) b.is ∙ plays_line w number (p ++ b.rest) b.later ∙ ap (λ (t : Played). and_then t.refused t (plays t.world t.number b.later)) (too_long w number (p ++ b.rest) longer) in
+    let longer : longest_line < length (p ++ b.rest) = grind (arith, length-append p b.rest) in
+    let one = plays_line w number p [] ∙ ap (λ (t : Played). and_then t.refused t (plays t.scene t.number [])) (too_long w number p long) in
+    let other = ap (plays w number) b.is ∙ plays_line w number (p ++ b.rest) b.later ∙ ap (λ (t : Played). and_then t.refused t (plays t.scene t.number b.later)) (too_long w number (p ++ b.rest) longer) in
     rw (one, other) (follows_refl (judged w number None))
 
-pub is_long : (bytes : List ℕ) → longest < length bytes → if_too_long bytes ≡ bytes ∷ []
-is_long bytes h = rw (lt-ltb longest (length bytes) h) refl
+pub is_long : (bytes : List ℕ) → longest_line < length bytes → if_too_long bytes ≡ bytes ∷ []
+is_long bytes h = rw (lt-ltb longest_line (length bytes) h) refl
 
-pub not_long : (bytes : List ℕ) → length bytes ≤ longest → if_too_long bytes ≡ []
+pub not_long : (bytes : List ℕ) → length bytes ≤ longest_line → if_too_long bytes ≡ []
 not_long bytes h = grind (arith, nat_tests)
 
 -- ---- a stop behind other lines, and before others
@@ -127,18 +124,18 @@ pub taking_start : (s : Replay) (t : Option (List ℕ)) → Taking s s t t
 taking_start s t = record { outputs = []; played = refl; last = refl; text = rw text_none (appends_nil t) }
 
 -- one line more
-hears_line : (w : World Lying) (number : ℕ) (bytes line rest : List ℕ) → whole_lines line ≡ [] → bytes ≡ line ++ 10 ∷ rest → plays w number (heard bytes) ≡ and_then (taken w number line).refused (taken w number line) (plays (taken w number line).world (taken w number line).number (heard rest))
+hears_line : (w : Scene) (number : ℕ) (bytes line rest : List ℕ) → whole_lines line ≡ [] → bytes ≡ line ++ 10 ∷ rest → plays w number (heard bytes) ≡ and_then (taken w number line).refused (taken w number line) (plays (taken w number line).scene (taken w number line).number (heard rest))
 hears_line w number bytes line rest part whole =
     ap (λ x. plays w number (heard x)) whole
     ∙ ap (plays w number) (heard_line line rest part)
     ∙ plays_line w number line (heard rest)
 
-pub taking_more : (first s s' : Replay) (line : List ℕ) (t0 t t' : Option (List ℕ)) → Taking first s t0 t → whole_lines line ≡ [] → s.lines.bytes ≡ line ++ 10 ∷ s'.lines.bytes → s'.group.world ≡ (taken s.group.world s.number line).world → s'.number ≡ (taken s.group.world s.number line).number → (taken s.group.world s.number line).refused ≡ None → Appends t t' (text_of (taken s.group.world s.number line).outputs) → Taking first s' t0 t'
-taking_more first s s' line t0 t t' m part whole world number accepted text =
-    let line_played = taken s.group.world s.number line in
+pub taking_more : (first s s' : Replay) (line : List ℕ) (t0 t t' : Option (List ℕ)) → Taking first s t0 t → whole_lines line ≡ [] → s.lines.bytes ≡ line ++ 10 ∷ s'.lines.bytes → scene_of s'.group ≡ (taken (scene_of s.group) s.number line).scene → s'.number ≡ (taken (scene_of s.group) s.number line).number → (taken (scene_of s.group) s.number line).refused ≡ None → Appends t t' (text_of (taken (scene_of s.group) s.number line).outputs) → Taking first s' t0 t'
+taking_more first s s' line t0 t t' m part whole scene number accepted text =
+    let line_played = taken (scene_of s.group) s.number line in
     let rest = s'.lines.bytes in
-    let next = hears_line s.group.world s.number s.lines.bytes line rest part whole ∙ and_then_none line_played _ line_played.refused accepted in
-    let same : plays line_played.world line_played.number (heard rest) ≡ hears_lines s' = rw (world, number) refl in
+    let next = hears_line (scene_of s.group) s.number s.lines.bytes line rest part whole ∙ and_then_none line_played _ line_played.refused accepted in
+    let same : plays line_played.scene line_played.number (heard rest) ≡ hears_lines s' = rw (scene, number) refl in
     record {
       outputs = m.outputs ++ line_played.outputs;
       played = m.played ∙ ap (behind m.outputs) (next ∙ ap (behind line_played.outputs) same) ∙ behind_behind m.outputs line_played.outputs (hears_lines s');
@@ -146,22 +143,22 @@ taking_more first s s' line t0 t t' m part whole world number accepted text =
       text = rw (text_append m.outputs line_played.outputs) (appends_trans t0 t t' _ _ m.text text);
     }
 
-pub taking_stopped : (before after now : ℕ) (a b c : Option (List ℕ)) (first s : Replay) (line rest : List ℕ) (why : Stop) → after ≡ before → Taking first s a b → whole_lines line ≡ [] → s.lines.bytes ≡ line ++ 10 ∷ rest → Stopped after now b c (taken s.group.world s.number line) why → Stopped before now a c (hears_lines first) why
+pub taking_stopped : (before after now : ℕ) (a b c : Option (List ℕ)) (first s : Replay) (line rest : List ℕ) (why : Stop) → after ≡ before → Taking first s a b → whole_lines line ≡ [] → s.lines.bytes ≡ line ++ 10 ∷ rest → Stopped after now b c (taken (scene_of s.group) s.number line) why → Stopped before now a c (hears_lines first) why
 taking_stopped before after now a b c first s line rest why kept m part whole h =
-    let t = taken s.group.world s.number line in
+    let t = taken (scene_of s.group) s.number line in
     stopped_within before after now a b c m.outputs t _ (hears_lines first) why kept
-    (m.played ∙ ap (behind m.outputs) (hears_line s.group.world s.number s.lines.bytes line rest part whole)) (follows_and_then t (plays t.world t.number (heard rest))) m.text h
+    (m.played ∙ ap (behind m.outputs) (hears_line (scene_of s.group) s.number s.lines.bytes line rest part whole)) (follows_and_then t (plays t.scene t.number (heard rest))) m.text h
 
 -- no line more has ended
-none_heard : (w : World Lying) (number : ℕ) (bytes : List ℕ) → whole_lines bytes ≡ [] → length bytes ≤ longest → plays w number (heard bytes) ≡ record { world = w; number = number; refused = None; outputs = [] }
+none_heard : (w : Scene) (number : ℕ) (bytes : List ℕ) → whole_lines bytes ≡ [] → length bytes ≤ longest_line → plays w number (heard bytes) ≡ record { scene = w; number = number; refused = None; outputs = [] }
 none_heard w number bytes part short =
     ap (plays w number) (heard_part bytes part ∙ not_long bytes short) ∙ plays_none w number
 
-pub taking_done : (first s s' : Replay) (a b : Option (List ℕ)) → Taking first s a b → s.group.live ≡ true → s.number ≤ limit → whole_lines s.lines.bytes ≡ [] → length s.lines.bytes ≤ longest → s'.group ≡ s.group → s'.number ≡ s.number → s'.lines.bytes ≡ s.lines.bytes → HearsAll first s' first.lines.bytes a b
+pub taking_done : (first s s' : Replay) (a b : Option (List ℕ)) → Taking first s a b → s.group.live ≡ true → s.number ≤ limit → whole_lines s.lines.bytes ≡ [] → length s.lines.bytes ≤ longest_line → s'.group ≡ s.group → s'.number ≡ s.number → s'.lines.bytes ≡ s.lines.bytes → HearsAll first s' first.lines.bytes a b
 taking_done first s s' a b m live few part short group number bytes =
-    let all = m.played ∙ ap (behind m.outputs) (none_heard s.group.world s.number s.lines.bytes part short) in
+    let all = m.played ∙ ap (behind m.outputs) (none_heard (scene_of s.group) s.number s.lines.bytes part short) in
     record {
-      world = ap (λ g. g.world) group ∙ sym (ap (λ (p : Played). p.world) all);
+      scene = ap scene_of group ∙ sym (ap (λ (p : Played). p.scene) all);
       number = number ∙ sym (ap (λ (p : Played). p.number) all);
       accepted = ap (λ (p : Played). p.refused) all;
       partial = bytes ∙ sym (ap (λ (c : Cut). c.last) (cut_part s.lines.bytes part)) ∙ sym m.last;
@@ -175,11 +172,11 @@ taking_done first s s' a b m live few part short group number bytes =
     }
 
 -- the next one is too long
-pub taking_refused : (before now : ℕ) (first s : Replay) (a b : Option (List ℕ)) → now ≡ before → Taking first s a b → whole_lines s.lines.bytes ≡ [] → longest < length s.lines.bytes → Stopped before now a b (hears_lines first) (stop.Refused (s.number + 1))
+pub taking_refused : (before now : ℕ) (first s : Replay) (a b : Option (List ℕ)) → now ≡ before → Taking first s a b → whole_lines s.lines.bytes ≡ [] → longest_line < length s.lines.bytes → Stopped before now a b (hears_lines first) (stop.Refused (s.number + 1))
 taking_refused before now first s a b kept m part long =
     let bytes = s.lines.bytes in
-    let w = s.group.world in
-    let all = m.played ∙ ap (behind m.outputs) (ap (plays w s.number) (heard_part bytes part ∙ is_long bytes long) ∙ plays_line w s.number bytes [] ∙ ap (λ (p : Played). and_then p.refused p (plays p.world p.number [])) (too_long w s.number bytes long)) in (
+    let w = scene_of s.group in
+    let all = m.played ∙ ap (behind m.outputs) (ap (plays w s.number) (heard_part bytes part ∙ is_long bytes long) ∙ plays_line w s.number bytes [] ∙ ap (λ (p : Played). and_then p.refused p (plays p.scene p.number [])) (too_long w s.number bytes long)) in (
       kept,
       ap (λ (p : Played). p.refused) all,
       rw (ap (λ (p : Played). text_of p.outputs) all, append-nil m.outputs) m.text,
@@ -187,7 +184,7 @@ taking_refused before now first s a b kept m part long =
 
 -- ---- a piece of the source
 
-pub heard_short : (bytes : List ℕ) → length (cut bytes).last ≤ longest → whole_lines bytes ≡ heard bytes
+pub heard_short : (bytes : List ℕ) → length (cut bytes).last ≤ longest_line → whole_lines bytes ≡ heard bytes
 unfolding heard
 heard_short bytes h = sym (append-nil (whole_lines bytes)) ∙ ap (λ x. whole_lines bytes ++ x) (sym (not_long (cut bytes).last h))
 
@@ -199,15 +196,15 @@ pub record Filled (s joined : Replay) (piece : List ℕ) : Type 0 where
 
 pub filled_lines : (s joined : Replay) (piece : List ℕ) → Filled s joined piece → hears_lines joined ≡ hears s piece
 filled_lines s joined piece f =
-    ap (λ g. plays g.world joined.number (heard joined.lines.bytes)) f.group
-    ∙ ap (λ k. plays s.group.world k (heard joined.lines.bytes)) f.number
-    ∙ ap (λ x. plays s.group.world s.number (heard x)) f.behind
+    ap (λ g. plays (scene_of g) joined.number (heard joined.lines.bytes)) f.group
+    ∙ ap (λ k. plays (scene_of s.group) k (heard joined.lines.bytes)) f.number
+    ∙ ap (λ x. plays (scene_of s.group) s.number (heard x)) f.behind
 
 pub filled_heard : (s joined s' : Replay) (piece : List ℕ) (a b : Option (List ℕ)) → Filled s joined piece → HearsAll joined s' joined.lines.bytes a b → Hears s s' piece a b
 filled_heard s joined s' piece a b f h =
     let same = filled_lines s joined piece f in
     record {
-      world = h.world ∙ ap (λ (p : Played). p.world) same;
+      scene = h.scene ∙ ap (λ (p : Played). p.scene) same;
       number = h.number ∙ ap (λ (p : Played). p.number) same;
       accepted = sym (ap (λ (p : Played). p.refused) same) ∙ h.accepted;
       partial = h.partial ∙ ap (λ x. (cut x).last) f.behind;
@@ -234,18 +231,18 @@ filled_ends s joined f =
 
 -- ---- the end of the source
 
-ends_taken : (s : Replay) → 0 < length s.lines.bytes → ends s ≡ taken s.group.world s.number s.lines.bytes
+ends_taken : (s : Replay) → 0 < length s.lines.bytes → ends s ≡ taken (scene_of s.group) s.number s.lines.bytes
 unfolding ends
 ends_taken s some =
     let e : eqb (length s.lines.bytes) 0 ≡ false = grind (arith, nat_tests, some) in
     rw e refl
 
 -- what is given is all that stands
-pub last_taken : (s : Replay) (new : Held) → IsReplay s → IsGiven true s.lines.bytes new → ends s ≡ taken s.group.world s.number new.line
+pub last_taken : (s : Replay) (new : Held) → IsReplay s → IsGiven true s.lines.bytes new → ends s ≡ taken (scene_of s.group) s.number new.line
 last_taken s new sound (inl h) =
     let e : new.line ∷ (cut new.bytes).lines ≡ [] = sym (ap (λ (c : Cut). c.lines) (cut_line new.line new.bytes h.0)) ∙ ap (λ x. whole_lines x) (sym h.1) ∙ sound.part in
     absurd (cc)
-last_taken s new sound (inr h) = ends_taken s h.1 ∙ ap (taken s.group.world s.number) (sym h.3)
+last_taken s new sound (inr h) = ends_taken s h.1 ∙ ap (taken (scene_of s.group) s.number) (sym h.3)
 
 -- ---- what is given
 

@@ -2,17 +2,15 @@
 use Rattle.std.proofs.Common.{◌≡◌, ℕ, List, ap, refl, Option, Some, None}
 use Rattle.vr_edge.specs.Told.{AppendsFront}
 use Rattle.vr_edge.proofs.Told.{appends_nil}
-use Rattle.vr_world.specs.Lying.{Lying}
-use Rattle.vr_world.specs.World.{World}
 use Rattle.vr_lines.specs.declared.line.Line.{Line}
 use Rattle.vr_replay.specs.Schedule.{line_at}
-use Rattle.vr_replay.specs.Playing.{taken, judged}
+use Rattle.vr_replay.specs.Playing.{Scene, taken, judged}
 
-pub taken_some : (w : World Lying) (number : ℕ) (text : List ℕ) (l : Line) → line_at w.n number text ≡ Some l → taken w number text ≡ judged w number (Some l)
+pub taken_some : (w : Scene) (number : ℕ) (text : List ℕ) (l : Line) → line_at w.version w.world.n number text ≡ Some l → taken w number text ≡ judged w number (Some l)
 unfolding taken
 taken_some w number text l e = ap (judged w number) e
 
-pub taken_none : (w : World Lying) (number : ℕ) (text : List ℕ) → line_at w.n number text ≡ None → taken w number text ≡ judged w number None
+pub taken_none : (w : Scene) (number : ℕ) (text : List ℕ) → line_at w.version w.world.n number text ≡ None → taken w number text ≡ judged w number None
 unfolding taken
 taken_none w number text e = ap (judged w number) e
 

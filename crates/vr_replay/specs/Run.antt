@@ -6,8 +6,7 @@ use Rattle.vr_edge.specs.Told.{AppendsFront}
 use Rattle.vr_status.specs.declared.status.Status.{Status}
 use Rattle.vr_status.specs.declared.status.Status.TheVariants as status
 use Rattle.vr_lines.specs.Cuts.{cut, whole_lines}
-use Rattle.vr_lines.specs.Grammar.{longest}
-use Rattle.vr_replay.specs.Playing.{heard}
+use Rattle.vr_replay.specs.Playing.{heard, longest_line}
 use Rattle.vr_replay.specs.Schedule.{schedule_of, so_far, put_out}
 use Rattle.vr_group.specs.Outputs.{text_of}
 
@@ -36,7 +35,7 @@ pub record IsRefused (k : ℕ) (left_old left_new taken_old taken_new : Option (
   pub read : List ℕ
   pub piece : List ℕ
   pub consumed : Consumes left_old left_new (read ++ piece)
-  pub size : length ((cut read).last ++ piece) ≤ longest + 1
+  pub size : length ((cut read).last ++ piece) ≤ longest_line + 1
   pub accepted : (so_far (heard read)).refused ≡ None
   pub line : IfSome left_old (λ bytes. refused_in bytes ≡ Some k)
   pub text : IfSome left_old (λ bytes. Appends taken_old taken_new (text_for bytes))

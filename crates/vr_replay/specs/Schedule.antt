@@ -2,7 +2,7 @@
 -- it come to.
 use Rattle.std.specs.Prelude.{ℕ, ◌+◌, nat_lt, List, [], ◌∷◌, Option, Some, None, if◌then◌else◌}
 use Rattle.std.specs.Option.{option_map_or}
-use Rattle.vr_base.specs.Kinds.{of_mode, strict}
+use Rattle.vr_base.specs.Kinds.{strict}
 use Rattle.vr_base.specs.declared.kind.Kind.{Kind}
 use Rattle.vr_world.specs.Lying.{Lying, hazards}
 use Rattle.vr_world.specs.World.{Happened, fresh_world, happen}
@@ -28,9 +28,9 @@ pub record Schedule : Type 0 where
 abbrev pub limit : ℕ
 limit = 1000000
 
--- the line behind so many others, in a group of n replicas, which is 0 before the first line
-abbrev pub line_at : ℕ → ℕ → List ℕ → Option Line
-line_at n number text = if nat_lt number limit then parse n text else None
+-- the line of a version behind so many others, in a group of n replicas, which is 0 before the first line
+abbrev pub line_at : ℕ → ℕ → ℕ → List ℕ → Option Line
+line_at version n number text = if nat_lt number limit then parse version n text else None
 
 abbrev pub refuses : ℕ → Accepted
 refuses number = record { lines = []; refused = Some number }
@@ -38,11 +38,11 @@ refuses number = record { lines = []; refused = Some number }
 abbrev pub with_line : Line → Accepted → Accepted
 with_line line a = record { lines = line ∷ a.lines; refused = a.refused }
 
--- further lines of a group of n, behind so many others
-unfoldable pub accepted : ℕ → ℕ → List (List ℕ) → Accepted
-accepted n number [] = record { lines = []; refused = None }
-accepted n number (text ∷ texts) =
-    option_map_or (λ line. with_line line (accepted n (number + 1) texts)) (line_at n number text) (refuses (number + 1))
+-- further lines of a group of n and of its version, behind so many others
+unfoldable pub accepted : ℕ → ℕ → ℕ → List (List ℕ) → Accepted
+accepted version n number [] = record { lines = []; refused = None }
+accepted version n number (text ∷ texts) =
+    option_map_or (λ line. with_line line (accepted version n (number + 1) texts)) (line_at version n number text) (refuses (number + 1))
 
 -- no group is made
 abbrev pub no_group : Option ℕ → Schedule
@@ -54,13 +54,13 @@ of_group kind n a = record { kind = kind; n = n; lines = a.lines; refused = a.re
 
 -- the first line makes the group
 abbrev pub begun : List (List ℕ) → Line → Schedule
-begun texts (Cluster n mode) = of_group (of_mode mode) n (accepted n 1 texts)
+begun texts (Cluster n kind) = of_group kind n (accepted kind.version n 1 texts)
 begun texts _ = no_group (Some 1)
 
 -- lines to which others may come
 abbrev pub so_far : List (List ℕ) → Schedule
 so_far [] = no_group None
-so_far (text ∷ texts) = option_map_or (begun texts) (line_at 0 0 text) (no_group (Some 1))
+so_far (text ∷ texts) = option_map_or (begun texts) (line_at 1 0 0 text) (no_group (Some 1))
 
 -- all lines; a schedule has at least one
 abbrev pub schedule : List (List ℕ) → Schedule

@@ -2,7 +2,7 @@
 ghost use Rattle.std.specs.Prelude.{◌≡◌, ◌≤◌, ◌<◌, ◌++◌, [], None, Some, true, IfOk, OnOk, IfErr, length, drop};
 ghost use Rattle.std.specs.Io.KnownBytes.{Appends};
 ghost use Rattle.vr_lines.specs.Fits.{IsLineOf};
-ghost use Rattle.vr_replay.specs.Playing.{comes};
+ghost use Rattle.vr_replay.specs.Playing.{comes, scene_of};
 ghost use Rattle.vr_replay.specs.Schedule.{line_at};
 ghost use Rattle.vr_replay.specs.Stops.{JudgeCause};
 ghost use Rattle.vr_group.specs.Outputs.{text_of};
@@ -10,7 +10,7 @@ ghost use Rattle.vr_replay.specs.declared.stop.Stop.TheVariants as stop;
 
 use crate::Stop;
 use std::alloc::Global;
-use vr_base::{ByteList, NoMemory};
+use vr_base::{ByteList, NoMemory, Version};
 use vr_edge::{Sink, write_whole};
 use vr_group::{Outputs, World};
 use vr_lines::{Line, LineFault, Lines, Next, parse_line};
@@ -32,31 +32,31 @@ pub struct Replay {
 #[tactic(auto, using(std::proofs::lemmas::Grind::common_steps, vr_group::proofs::Numbering::numbered_none, vr_group::proofs::Numbering::text_none), unfolding(crate::specs::Playing::comes))]
 fn play(alloc: Global, group: &mut World, line: &Line) -> Result<ByteList, NoMemory>
     requires live { group.old.live ≡ true }
-    requires fits { IsLineOf group.old.world.n line.now }
-    ensures world { OnOk result (group.new.world ≡ (comes group.old.world line.now).world) }
-    ensures text { IfOk result (λ t. t ≡ text_of (comes group.old.world line.now).outputs) }
+    requires fits { IsLineOf group.old.version group.old.world.n line.now }
+    ensures scene { OnOk result (scene_of group.new ≡ (comes (scene_of group.old) line.now).scene) }
+    ensures text { IfOk result (λ t. t ≡ text_of (comes (scene_of group.old) line.now).outputs) }
     ensures live { OnOk result (group.new.live ≡ true) }
 {
-    if let Line::Cluster { n, mode } = line {
-        *group = World::new(alloc, *n, *mode)?;
+    if let Line::Cluster { n, kind } = line {
+        *group = World::new(alloc, *n, *kind)?;
         return Ok(ByteList::new(alloc));
     }
     let Outputs { text, .. } = group.step(alloc, line)?;
     Ok(text)
 }
 
-/// The line that these bytes spell, behind so many others.
-fn judge(alloc: Global, n: u8, number: u32, text: &[u8]) -> Result<Line, Stop>
+/// The line of a version that these bytes spell, behind so many others.
+fn judge(alloc: Global, n: u8, number: u32, text: &[u8], version: Version) -> Result<Line, Stop>
     requires { number ≤ 1000000 }
-    ensures ok { IfOk result (λ line. line_at n number text.now ≡ Some line) }
-    ensures fits { IfOk result (λ line. IsLineOf n line) }
+    ensures ok { IfOk result (λ line. line_at version n number text.now ≡ Some line) }
+    ensures fits { IfOk result (λ line. IsLineOf version n line) }
     ensures room { OnOk result (number < 1000000) }
-    ensures cause { IfErr result (JudgeCause (line_at n number text.now) number) }
+    ensures cause { IfErr result (JudgeCause (line_at version n number text.now) number) }
 {
     if number >= LIMIT {
         return Err(Stop::Refused(number + 1));
     }
-    match parse_line(alloc, n, text) {
+    match parse_line(alloc, n, text, version) {
         Ok(line) => Ok(line),
         Err(LineFault::NotALine) => Err(Stop::Refused(number + 1)),
         Err(LineFault::NoMemory) => Err(Stop::NoMemory),
@@ -64,9 +64,8 @@ fn judge(alloc: Global, n: u8, number: u32, text: &[u8]) -> Result<Line, Stop>
 }
 
 impl Replay {
-    ghost use Rattle.vr_replay.specs.Playing.{IsReplay, HearsAll, taken, hears_lines, ends};
+    ghost use Rattle.vr_replay.specs.Playing.{IsReplay, HearsAll, taken, hears_lines, no_scene, scene_of, ends};
     ghost use Rattle.vr_replay.specs.Stops.{Stopped};
-    ghost use Rattle.vr_world.specs.World.{no_world};
 
     /// Takes the line that was given, and writes its outputs.
     #[tactic(auto, using(std::proofs::lemmas::Grind::common_steps, crate::proofs::Taken::taken_some, crate::proofs::Taken::taken_none, vr_edge::proofs::Told::appends_nil, vr_group::proofs::Numbering::text_none))]
@@ -74,19 +73,25 @@ impl Replay {
         requires live { self.old.group.live ≡ true }
         requires few { self.old.number ≤ 1000000 }
 
-        ensures world { OnOk result (self.new.group.world ≡ (taken self.old.group.world self.old.number self.old.lines.line).world) }
-        ensures number { OnOk result (self.new.number ≡ (taken self.old.group.world self.old.number self.old.lines.line).number) }
-        ensures accepted { OnOk result ((taken self.old.group.world self.old.number self.old.lines.line).refused ≡ None) }
+        ensures scene { OnOk result (scene_of self.new.group ≡ (taken (scene_of self.old.group) self.old.number self.old.lines.line).scene) }
+        ensures number { OnOk result (self.new.number ≡ (taken (scene_of self.old.group) self.old.number self.old.lines.line).number) }
+        ensures accepted { OnOk result ((taken (scene_of self.old.group) self.old.number self.old.lines.line).refused ≡ None) }
         ensures lines { self.new.lines ≡ self.old.lines }
         ensures live { OnOk result (self.new.group.live ≡ true) }
         ensures few { OnOk result (self.new.number ≤ 1000000) }
 
-        ensures text { OnOk result (Appends (K.taken sink.old) (K.taken sink.new) (text_of (taken self.old.group.world self.old.number self.old.lines.line).outputs)) }
+        ensures text { OnOk result (Appends (K.taken sink.old) (K.taken sink.new) (text_of (taken (scene_of self.old.group) self.old.number self.old.lines.line).outputs)) }
 
         ensures kept { OnOk result (K.faults sink.new ≡ K.faults sink.old) }
-        ensures stopped { IfErr result (Stopped (K.faults sink.old) (K.faults sink.new) (K.taken sink.old) (K.taken sink.new) (taken self.old.group.world self.old.number self.old.lines.line)) }
+        ensures stopped { IfErr result (Stopped (K.faults sink.old) (K.faults sink.new) (K.taken sink.old) (K.taken sink.new) (taken (scene_of self.old.group) self.old.number self.old.lines.line)) }
     {
-        let line = judge(alloc, self.group.size(), self.number, self.lines.line())?;
+        let line = judge(
+            alloc,
+            self.group.size(),
+            self.number,
+            self.lines.line(),
+            self.group.version(),
+        )?;
         let played = play(alloc, &mut self.group, &line);
         drop(line);
         write_whole(sink, played?.as_slice())?;
@@ -116,7 +121,7 @@ impl Replay {
 
     /// A replay of which nothing has come.
     pub fn new(alloc: Global) -> Replay
-        ensures world { result.group.world ≡ no_world }
+        ensures scene { scene_of result.group ≡ no_scene }
         ensures number { result.number ≡ 0 }
         ensures lines { result.lines.bytes ≡ [] }
         ensures sound { IsReplay result }

@@ -2,4 +2,5 @@ pub mod Ticks
 pub mod Reacts
 pub mod EntryReadings
 pub mod Forms
+pub use Rattle.vr_opening.proofs.Opens
 pub mod Stopped

@@ -28,7 +28,7 @@ pub ready_waits : (n : ℕ) (r q : Replica) → nat_le n r.idle ≡ false → n 
 unfolding IsReady
 ready_waits n r q w l e h =
     let few = leb-false n r.idle w in
-    rw e (record { sound = sound_alike r (idler r) refl h.sound; savable = savable_alike r (idler r) refl h.savable; idle = omega arith; fits = h.fits; runs = h.runs })
+    rw e (record { sound = sound_alike r (idler r) refl h.sound; savable = savable_alike r (idler r) refl h.savable; idle = omega arith; fits = h.fits })
 
 pub idle_fits : (r : Replica) → IsReady r → r.idle + 1 < 2 ^ 64
 unfolding IsReady

@@ -1,7 +1,6 @@
 //! A replica as its member runs it.
-ghost use Rattle.std.specs.Prelude.{◌≡◌, ◌<◌, [], IfOk, IfSome, OnErr, is_ok, is_some, true};
+ghost use Rattle.std.specs.Prelude.{◌≡◌, ◌≤◌, ◌<◌, [], IfOk, IfSome, OnErr, is_ok, is_some, true};
 ghost use Rattle.vr_base.specs.Groups.{quorums_of};
-ghost use Rattle.vr_base.specs.Kinds.{of_mode};
 ghost use Rattle.vr_disk.specs.Counts.{CountsFault};
 ghost use Rattle.vr_opening.specs.Making.{Made};
 ghost use Rattle.vr_opening.specs.Recovering.{Recovered, RecoveredAny};
@@ -17,7 +16,7 @@ use crate::entries::read_entry;
 use crate::reacting::react;
 use std::alloc::Global;
 use std::marker::Model;
-use vr_base::{Config, Mode, NoMemory, Version};
+use vr_base::{Config, Kind, NoMemory, Version};
 use vr_disk::SectorDisk;
 use vr_header::Entry;
 use vr_journal::{Halt, Replica as Memory};
@@ -44,21 +43,21 @@ impl Model for Replica {
 }
 
 impl Replica {
-    /// The replica of a member of a new group, whose disk is formatted for a file of this mode. `Occupied` exactly where two good copies of a superblock agree,
+    /// The replica of a member of a new group, whose disk is formatted for a file of this kind. `Occupied` exactly where two good copies of a superblock agree,
     /// and then nothing is written; `DiskFault` where a call failed; after `NoMemory` nothing was written.
     pub fn fresh<D: SectorDisk>(
         alloc: Global,
         disk: &mut D,
         config: &Config,
-        mode: Mode,
+        kind: Kind,
     ) -> Result<Replica, FreshFault>
         requires size { is_some (quorums_of config.now.n) ≡ true }
         requires member { config.now.replica < config.now.n }
         ensures running { IfOk result (λ r. r.running ≡ true) }
         ensures cause { CountsFault FreshFault.DiskFault (D.faults disk.old) (D.faults disk.new) result }
-        ensures made { Made (of_mode mode) config.now (D.told disk.old) (D.told disk.new) (memory_of result) }
+        ensures made { Made kind config.now (D.told disk.old) (D.told disk.new) (memory_of result) }
     {
-        match vr_opening::fresh(alloc, disk, config, mode) {
+        match vr_opening::fresh(alloc, disk, config, kind) {
             Ok(memory) => Ok(Replica {
                 memory,
                 running: true,
@@ -95,20 +94,21 @@ impl Replica {
         }
     }
 
-    /// The replica of a disk, whatever member's disk it is, recovered as `recover` does: `OtherMember` never comes.
+    /// The replica of a disk whose file is of this version, whatever member's disk it is, recovered as `recover` does: `OtherMember` never comes.
     #[tactic(auto, using(crate::proofs::Stopped::cleared_any))]
     pub fn recover_any<D: SectorDisk>(
         alloc: Global,
         disk: &mut D,
+        version: Version,
         out: &mut Outbox,
     ) -> Result<Replica, Refusal>
         ensures running { IfOk result (λ r. r.running ≡ true) }
         ensures cause { CountsFault (Refusal.Halted Halt.DiskFault) (D.faults disk.old) (D.faults disk.new) result }
         ensures halt { OnErr result (out.new ≡ []) }
-        ensures recovered { RecoveredAny (D.told disk.old) (D.told disk.new) [] out.new (memory_of result) }
+        ensures recovered { RecoveredAny version (D.told disk.old) (D.told disk.new) [] out.new (memory_of result) }
     {
         out.clear();
-        match vr_opening::recover_any(alloc, disk, out) {
+        match vr_opening::recover_any(alloc, disk, version, out) {
             Ok(memory) => Ok(Replica {
                 memory,
                 running: true,
@@ -122,8 +122,9 @@ impl Replica {
 
     /// Handles an event in one step, which puts out what is to be sent, replied and told. After an `Err` the replica has stopped: it
     /// puts out nothing, and takes no further step. A prepare or a start_view_change that the rules leave be, and an acknowledgement that
-    /// is counted without a quorum, make no call of the disk and take no memory. It runs on a file of version 1.
-    #[tactic(auto, using(crate::proofs::Stopped::halted, vr_journal::proofs::Memory::runs_one))]
+    /// is counted without a quorum, make no call of the disk and take no memory. It runs on a file of version 1 or 2,
+    /// and the step is that of the rules on a file of its version.
+    #[tactic(auto, using(crate::proofs::Stopped::halted, vr_journal::proofs::Memory::file_version))]
     pub fn step<D: SectorDisk>(
         &mut self,
         alloc: Global,
@@ -132,7 +133,7 @@ impl Replica {
         out: &mut Outbox,
     ) -> Result<(), Halt>
         requires running { self.old.running ≡ true }
-        ensures version { version self.old.memory ≡ 1 }
+        ensures version { (1 ≤ version self.old.memory) × (version self.old.memory ≤ 2) }
         ensures running { self.new.running ≡ is_ok result }
         ensures halt { OnErr result (out.new ≡ []) }
         ensures cause { Caused (D.faults disk.old) (D.faults disk.new) result }

@@ -4,7 +4,7 @@ ghost use Rattle.vr_base.specs.Groups.{quorums_of};
 ghost use Rattle.vr_lie.specs.Faults.{IsFault};
 
 use std::alloc::Global;
-use vr_base::{ByteList, Config, Mode, NoMemory, Seq, put};
+use vr_base::{ByteList, Config, Kind, Mode, NoMemory, Seq, put};
 use vr_disk::{BLOCK_SECTORS, Sector, block_place, read_sectors, sector_at};
 use vr_lie::{Fault, Faulted, LieDisk};
 use vr_msg::{Event, Outbox};
@@ -36,7 +36,8 @@ pub fn format(
     alloc: Global,
     index: u8,
 ) -> &'static str {
-    match Replica::fresh(alloc, disk, &one_of_three(index), Mode::Strict) {
+    let kind = Kind::of_mode(Mode::Strict);
+    match Replica::fresh(alloc, disk, &one_of_three(index), kind) {
         Ok(made) => {
             *replica = Some(made);
             ""

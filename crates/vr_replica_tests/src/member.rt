@@ -7,7 +7,7 @@ use crate::hosting::{fault, format, own_block, start, step};
 use std::alloc::Global;
 use std::process::Abort;
 use std::test::Fail;
-use vr_base::{ByteList, NoMemory, Seq};
+use vr_base::{ByteList, NoMemory, Seq, Version};
 use vr_disk::SECTORS;
 use vr_lie::{Fault, LieDisk};
 use vr_msg::{Event, Outbox, Output};
@@ -145,7 +145,7 @@ fn play(alloc: Global, index: u8, acts: &[Act], text: &mut ByteList) -> Result<(
     let mut member = Member {
         index,
         replica: None,
-        disk: LieDisk::new(alloc)?,
+        disk: LieDisk::new(alloc, Version::new(1))?,
         out: Seq::new(alloc),
         sent: 0,
     };

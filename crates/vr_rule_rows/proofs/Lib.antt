@@ -11,3 +11,4 @@ pub mod Opened
 pub mod Versions
 pub mod Cuts
 pub mod Syncs
+pub mod Files

@@ -8,7 +8,7 @@ use Rattle.vr_rules.specs.Laws.{SectorsFit}
 
 pub sectors_fit : SectorsFit
 unfolding root_of
-sectors_fit = (
+sectors_fit v = (
   λ bytes. (length-name_of bytes, IsBytes-name_of bytes),
   record {
     address = λ cluster texts op old. let l : (op / 32) % 2 < 2 = mod_below (op / 32) 2 (omega arith) in omega arith;

@@ -16,9 +16,9 @@ use Rattle.vr_rules.specs.Opening.{first_value}
 abbrev pub zero_sector : List ℕ
 zero_sector = replicate 512 0
 
--- the header of a slot that has no entry yet
-abbrev pub reserved_header : ℕ → ℕ → Header
-reserved_header cluster slot = record {
+-- the header of a slot that has no entry yet, in a file of a version
+abbrev pub reserved_header : ℕ → ℕ → ℕ → Header
+reserved_header v cluster slot = record {
   body = record { 0 = name_of [] };
   parent = no_name;
   request_name = no_name;
@@ -31,19 +31,18 @@ reserved_header cluster slot = record {
   size = 128;
   command = command.Reserved;
   replica = 0;
-  version = 1;
+  version = v;
   kind = 0;
   aux = 0;
 }
 
--- of a file of version 1
-abbrev pub zero_prepares : List Call
-zero_prepares = map (λ i. Write i zero_sector) (range_with_len (prepare_place 1 0) (64 * prepare_sectors 1))
+abbrev pub zero_prepares : ℕ → List Call
+zero_prepares v = map (λ i. Write i zero_sector) (range_with_len (prepare_place v 0) (64 * prepare_sectors v))
 
-abbrev pub reserved_headers : ℕ → List Call
-reserved_headers cluster = map (λ slot. Write (header_place slot) (sector_of (reserved_header cluster slot))) (range_with_len 0 64)
+abbrev pub reserved_headers : ℕ → ℕ → List Call
+reserved_headers v cluster = map (λ slot. Write (header_place slot) (sector_of (reserved_header v cluster slot))) (range_with_len 0 64)
 
 -- zeros to the prepares, reserved headers, one sync, and the four copies of the first value
 unfoldable pub format_calls : Kind → ℕ → ℕ → ℕ → List Call
 format_calls kind cluster n index =
-    zero_prepares ++ reserved_headers cluster ++ Sync ∷ save_from 0 4 (copy_bytes (first_value kind cluster n index))
+    zero_prepares kind.version ++ reserved_headers kind.version cluster ++ Sync ∷ save_from 0 4 (copy_bytes (first_value kind cluster n index))

@@ -9,14 +9,13 @@ use Rattle.vr_header.specs.declared.operation.Operation.{Operation}
 use Rattle.vr_header.specs.declared.operation.Operation.TheVariants as operation
 use Rattle.vr_lines.specs.declared.line.Line.{Line}
 use Rattle.vr_lines.specs.Fits.{IsLineOf}
-use Rattle.vr_lines.specs.Versions.{schedule_version}
 use Rattle.vr_group.specs.Headline.{HasAsked, HaveAsked}
 use Rattle.vr_group.specs.Lines.{AreLinesOf}
 use Rattle.vr_msg.specs.declared.output.Output.{Output}
 use Rattle.vr_draws.proofs.Fitting.{operation_fits}
 use Rattle.vr_draws.specs.Asking.{answers, next_behind, next_request, next_requests}
 use Rattle.vr_draws.specs.Draws.{Drawn, after_draws, draw}
-use Rattle.vr_draws.specs.Drawn.{drawn_asking, drawn_delivery, drawn_kind, drawn_line, drawn_operation, drawn_request}
+use Rattle.vr_draws.specs.Drawn.{drawn_version, drawn_asking, drawn_delivery, drawn_kind, drawn_line, drawn_operation, drawn_request}
 use Rattle.vr_soak.specs.Made.{come_to, line_after, made}
 
 -- ---- operations
@@ -29,7 +28,7 @@ unfolding drawn_operation
 no_session x = cond_both (draw x 1 % 3 == 0) _ _ IsOther (λ e h. absurd (cc h)) (λ e. cond_both (draw x 1 % 3 == 1) _ _ IsOther (λ e h. absurd (cc h)) (λ e h. absurd (cc h)))
 
 record IsAskable (number : ℕ) (d : Drawn Operation) : Type 0 where
-  valid : IsOperation schedule_version d.value
+  valid : IsOperation drawn_version d.value
   first : d.value ≡ operation.Register → number ≡ 0
   only : number ≡ 0 → d.value ≡ operation.Register
 
@@ -40,13 +39,13 @@ asking_fits number x =
     (λ e. record { valid = tt; first = λ h. grind (arith, nat_tests); only = λ h. refl })
     (λ e.
     let other = no_session x in
-    record { valid = operation_fits schedule_version x; first = λ h. absurd (other h); only = λ h. absurd (let t : (number == 0) ≡ false = e in grind (arith, nat_tests)) })
+    record { valid = operation_fits drawn_version x; first = λ h. absurd (other h); only = λ h. absurd (let t : (number == 0) ≡ false = e in grind (arith, nat_tests)) })
 
 -- ---- lines
 
 -- of a group of n
 record Fits (n : ℕ) (d : Drawn Line) : Type 0 where
-  of : IsLineOf n d.value
+  of : IsLineOf 1 n d.value
   asked : HasAsked d.value
 
 request_fits : (n : ℕ) (next : List ℕ) (x : ℕ) → 0 < n → ((i : ℕ) → slice_index next i < 2 ^ 32) → Fits n (drawn_request n next x)
@@ -56,7 +55,7 @@ request_fits n next x some small =
     let number = slice_index next client in
     let a = asking_fits number (after_draws x 2) in
     record {
-      of = omega (arith, some);
+      of = (omega (arith, some), refl);
       asked = (record { form = record { first = (a.first, a.only); fits = a.valid }; client = omega arith; request = small client; version = (omega arith, omega arith) }, omega arith);
     }
 
@@ -113,10 +112,10 @@ next_fits n number k some =
     let h = come_to n m.lines in
     line_fits n (length h.world.sent) h.outputs m.number some
 
-pub lines_fit : (n number k : ℕ) → 0 < n → AreLinesOf n (made n number k).lines
+pub lines_fit : (n number k : ℕ) → 0 < n → AreLinesOf 1 n (made n number k).lines
 unfolding made AreLinesOf
 lines_fit n number zero some = tt
-lines_fit n number (suc k) some = all_more (IsLineOf n) (made n number k).lines _ (lines_fit n number k some) (next_fits n number k some).of
+lines_fit n number (suc k) some = all_more (IsLineOf 1 n) (made n number k).lines _ (lines_fit n number k some) (next_fits n number k some).of
 
 pub lines_asked : (n number k : ℕ) → 0 < n → HaveAsked (made n number k).lines
 unfolding made

@@ -123,7 +123,7 @@ steps n number k s l i is =
 pub soaking_more : (n number k : ℕ) (s t : Soaking) (l : Line) (put : Outputs) → 0 < s.group.world.n
     → l ≡ (drawn_line s.group.world.n (length s.group.world.sent) s.heard.requests s.generator.number).value
     → t.generator.number ≡ (drawn_line s.group.world.n (length s.group.world.sent) s.heard.requests s.generator.number).number
-    → IsLineOf s.group.world.n l
+    → IsLineOf 1 s.group.world.n l
     → t.group.world ≡ (happens hazards s.group.world (happening l)).world
     → put ≡ outputs_of (numbered (length s.group.world.sent) (happens hazards s.group.world (happening l)).outputs)
     → Hears s.heard t.heard put
@@ -133,7 +133,7 @@ soaking_more n number k s t l put some is next fits world outputs heard i =
     let h = come_to n m.lines in
     let y = happens hazards s.group.world (happening l) in
     let x = steps n number k s l i is in
-    let g = grows_one s.group.world l some fits in
+    let g = grows_one 1 s.group.world l some fits in
     let sent : length t.group.world.sent ≡ length s.group.world.sent + length (messages y.outputs) = ap (λ (w : World Lying). length w.sent) world ∙ ap length g.sent ∙ length-append s.group.world.sent (messages y.outputs) in
     let all : length (messages (h.outputs ++ y.outputs)) ≡ length (messages h.outputs) + length (messages y.outputs) = ap length (messages_append h.outputs y.outputs) ∙ length-append (messages h.outputs) (messages y.outputs) in
     let before = i.sent in
@@ -149,8 +149,8 @@ soaking_more n number k s t l put some is next fits world outputs heard i =
       heard = subst (HasHeard t.heard) (sym (ap (numbered 0) x.outputs ∙ all_put)) (heard now outputs (numbered 0 h.outputs) i.heard);
     }
 
-pub size_kept : (s t : World Lying) (l : Line) → 0 < s.n → IsLineOf s.n l → t ≡ (happens hazards s (happening l)).world → t.n ≡ s.n
-size_kept s t l some fits e = ap (λ (w : World Lying). w.n) e ∙ (grows_one s l some fits).size
+pub size_kept : (s t : World Lying) (l : Line) → 0 < s.n → IsLineOf 1 s.n l → t ≡ (happens hazards s (happening l)).world → t.n ≡ s.n
+size_kept s t l some fits e = ap (λ (w : World Lying). w.n) e ∙ (grows_one 1 s l some fits).size
 
 -- ---- what is summed up
 

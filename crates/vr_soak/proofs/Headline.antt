@@ -12,4 +12,4 @@ headline seed count few =
     let n = size_of seed in
     let number = (drawn_size seed).number in
     let size = lines_count n number count in
-    lines_keep strict n (lines_from seed count) (omega arith) (omega arith) (omega (arith, size, few)) (lines_fit n number count (omega arith)) (lines_asked n number count (omega arith))
+    lines_keep strict 1 n (lines_from seed count) (omega arith, omega arith) (omega arith) (omega arith) (omega (arith, size, few)) (lines_fit n number count (omega arith)) (lines_asked n number count (omega arith))

@@ -7,7 +7,7 @@ ghost use Rattle.vr_soak.specs.Summing.{summary_of};
 
 use crate::{Heard, Summary};
 use std::alloc::Global;
-use vr_base::{Mode, NoMemory};
+use vr_base::{Kind, Mode, NoMemory};
 use vr_draws::Generator;
 use vr_group::World;
 
@@ -25,10 +25,11 @@ impl Soaking {
         ensures soaking { IfOk result (λ s. IsSoaking (size_of seed) (drawn_size seed).number 0 s) }
         ensures live { IfOk result (λ s. s.group.live ≡ true) }
         ensures size { IfOk result (λ s. 0 < s.group.world.n) }
+        ensures version { IfOk result (λ s. s.group.version ≡ 1) }
     {
         let mut generator = Generator::new(seed);
         let n = generator.size();
-        let group = World::new(alloc, n, Mode::Strict)?;
+        let group = World::new(alloc, n, Kind::of_mode(Mode::Strict))?;
         let heard = Heard::new();
         Ok(Soaking {
             group,
@@ -41,9 +42,11 @@ impl Soaking {
     fn step(&mut self, alloc: Global) -> Result<(), NoMemory>
         requires live { self.old.group.live ≡ true }
         requires size { 0 < self.old.group.world.n }
+        requires version { self.old.group.version ≡ 1 }
         ensures soaking { OnOk result (GoesOn self.old self.new) }
         ensures live { OnOk result (self.new.group.live ≡ true) }
         ensures size { OnOk result (self.new.group.world.n ≡ self.old.group.world.n) }
+        ensures version { OnOk result (self.new.group.version ≡ 1) }
     {
         let n = self.group.size();
         let messages = self.group.messages();

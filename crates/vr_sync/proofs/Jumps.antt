@@ -109,7 +109,6 @@ ready_jumped v r q e m name h =
       savable = savable_jumped v r h.sound m.log may m.address name (omega arith) h.savable;
       idle = idle_jumped v r;
       fits = rw (version_jumped v r, state_jumped v r) h.fits;
-      runs = version_jumped v r ∙ h.runs;
     })
 
 pub view_jumped : (v : SyncView) (r q : Replica) → q ≡ jumped v r → q.view ≡ v.view

@@ -57,7 +57,7 @@ pub ruleset means = (later_means, heard_means)
 pub ready_heard : (sender : ℕ) (r q : Replica) → q ≡ heard_of sender r → IsReady r → IsReady q
 unfolding IsReady
 ready_heard sender r q e h =
-    rw e (record { sound = sound_alike r (heard_of sender r) refl h.sound; savable = savable_alike r (heard_of sender r) refl h.savable; idle = h.idle; fits = h.fits; runs = h.runs })
+    rw e (record { sound = sound_alike r (heard_of sender r) refl h.sound; savable = savable_alike r (heard_of sender r) refl h.savable; idle = h.idle; fits = h.fits })
 
 pub log_view_heard : (sender : ℕ) (r q : Replica) → q ≡ heard_of sender r → q.log_view ≡ r.log_view
 log_view_heard sender r q e = ap (λ (x : Replica). x.log_view) e

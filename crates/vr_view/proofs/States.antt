@@ -100,13 +100,11 @@ ready_stated d r q s e i w m v g h =
       savable = savable_alike r (with_statement d.replica d.statement r) refl h.savable;
       idle = h.idle;
       fits = h.fits;
-      runs = h.runs;
     })
 
 -- a later view leaves the version and the group as they are
-pub still_for : (d : DoViewChange) (r q : Replica) → IsReady r → IsReady q → q.cluster ≡ r.cluster → ToKeep d r → (version q ≡ d.version) × (q.cluster ≡ d.cluster)
-unfolding IsReady
-still_for d r q h k e t = let g = t.group in (k.runs ∙ sym h.runs ∙ sym g.0, e ∙ sym g.1)
+pub still_for : (d : DoViewChange) (r q : Replica) → version q ≡ version r → q.cluster ≡ r.cluster → ToKeep d r → (version q ≡ d.version) × (q.cluster ≡ d.cluster)
+still_for d r q v e t = let g = t.group in (v ∙ sym g.0, e ∙ sym g.1)
 
 -- its view may be entered
 pub view_stated : (d : DoViewChange) → IsStating d → d.view ≤ last_view

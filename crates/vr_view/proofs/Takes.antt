@@ -32,7 +32,6 @@ ready_taken l r q e m h =
       savable = savable_taken name_of l r h.sound m.log may m.may (omega arith) h.savable;
       idle = idle_taken l r;
       fits = rw (version_taken l r, state_taken l r) h.fits;
-      runs = version_taken l r ∙ h.runs;
     })
 
 pub view_taken : (l : Log) (r q : Replica) → q ≡ taken l r → q.view ≡ l.view

@@ -276,8 +276,8 @@ visit_none r d o t = does_by _ r r d d o o (Ok tt) (rw t (does_quiet r d o))
 
 pub ready_worn : (name : Name) (r q : Replica) → q ≡ with_worn name r → IsReady r → IsReady q
 unfolding IsReady
-ready_worn name r q e h = rw e (record { sound = sound_alike r (with_worn name r) refl h.sound; savable = savable_alike r (with_worn name r) refl h.savable; idle = h.idle; fits = h.fits; runs = h.runs })
+ready_worn name r q e h = rw e (record { sound = sound_alike r (with_worn name r) refl h.sound; savable = savable_alike r (with_worn name r) refl h.savable; idle = h.idle; fits = h.fits })
 
 pub ready_moved : (at : ℕ) (r q : Replica) → q ≡ with_cursor at r → IsReady r → IsReady q
 unfolding IsReady
-ready_moved at r q e h = rw e (record { sound = sound_alike r (with_cursor at r) refl h.sound; savable = savable_alike r (with_cursor at r) refl h.savable; idle = h.idle; fits = h.fits; runs = h.runs })
+ready_moved at r q e h = rw e (record { sound = sound_alike r (with_cursor at r) refl h.sound; savable = savable_alike r (with_cursor at r) refl h.savable; idle = h.idle; fits = h.fits })

@@ -11,7 +11,7 @@ use Rattle.vr_rules.proofs.FitLoads.{block_size, missing_names, some_missing}
 use Rattle.vr_rules.proofs.FitTables.{loaded_tables, saved_tables}
 use Rattle.vr_world.specs.Lying.{Lying, lying, after_calls}
 use Rattle.vr_world.specs.GroupFit.{LiesFit}
-use Rattle.vr_world.proofs.FitVersions.{clean_face, clean_reads}
+use Rattle.vr_world.proofs.FitDisks.{clean_face, clean_reads}
 
 -- what lies has the face of its sectors
 pub same_face : (es : List Effect) (d : Lying) → (after_all lying d es).face ≡ after_all (sectors_by d.version) d.face es
@@ -49,8 +49,8 @@ lying_program = record {
 
 pub lies_fit : LiesFit
 lies_fit = record {
-  names = sectors_fit.0;
-  roots = record { address = sectors_fit.1.address; name = sectors_fit.1.name };
+  names = (sectors_fit 1).0;
+  roots = record { address = (sectors_fit 1).1.address; name = (sectors_fit 1).1.name };
   program = lying_program;
   reads = lying_clean;
   headers = λ d is. headers_of lying d (lying_clean d is);

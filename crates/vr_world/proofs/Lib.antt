@@ -1,6 +1,5 @@
 pub mod InTwo
 pub mod Premises
-pub mod FitVersions
 pub mod FitLies
 pub mod FitGroups
 pub use Rattle.vr_rules.proofs.Combining

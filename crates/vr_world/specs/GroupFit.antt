@@ -1,5 +1,6 @@
 -- What every group in a run of one is, as far as each member and each message goes.
 use Rattle.vr_base.specs.declared.kind.Kind.{Kind}
+use Rattle.vr_rules.specs.Opening.{AreKinds}
 use Rattle.std.specs.Prelude.{ℕ, ◌^◌, ◌<◌, ◌≤◌, ◌≡◌, ⊤, List, All, slice_get, Some}
 use Rattle.vr_disk.specs.DiskState.{IsFace}
 use Rattle.vr_header.specs.declared.header.Header.{Header}
@@ -28,21 +29,24 @@ pub record IsFitReplica (r : Replica) : Type 0 where
   pub savable : IsSavable r
   pub blocks : KnowsBlocks r
 
--- a value of this replica, in a file of version 1, that makes a good copy
-abbrev pub IsFitValue : ℕ → ℕ → ℕ → SuperValue → Type 0
-IsFitValue cluster n index v = IsGood v × IsOwnValue cluster n index 1 v
+-- a value of this replica, in a file of this version, that makes a good copy
+abbrev pub IsFitValue : ℕ → ℕ → ℕ → ℕ → SuperValue → Type 0
+IsFitValue cluster n index edition v = IsGood v × IsOwnValue cluster n index edition v
 
--- a member of this group of so many, by its place: both values are its own and make good copies, and it is fit where it runs
+-- a member of this group of so many, by its place, on a file of one version: both values are its own and make good copies, and it is fit where
+-- it runs
 pub record IsFitMember (cluster n index : ℕ) (m : Member) : Type 0 where
-  pub running : (r : Replica) → m.replica ≡ Some r → IsFitReplica r × IsAt cluster n index 1 r
-  pub last : IsFitValue cluster n index m.last
-  pub under : (v : SuperValue) → m.under ≡ Some v → IsFitValue cluster n index v
+  pub edition : ℕ
+  pub running : (r : Replica) → m.replica ≡ Some r → IsFitReplica r × IsAt cluster n index edition r
+  pub last : IsFitValue cluster n index edition m.last
+  pub under : (v : SuperValue) → m.under ≡ Some v → IsFitValue cluster n index edition v
 
 -- the header of an entry that a member began to write
 abbrev pub IsMade : Header → Type 0
 IsMade h = IsHeader h × IsEntryHeader h
 
 pub record IsFitGroup (cluster : ℕ) (g : Group) : Type 0 where
+  pub several : 2 ≤ g.n
   pub members : (at : ℕ) (m : Member) → slice_get g.members at ≡ Some m → IsFitMember cluster g.n at m
   pub sent : All MayCome g.sent
   pub made : All IsMade g.made
@@ -64,7 +68,17 @@ IsFitMove (RecoversCut at value disk effects) = ReadsWell lying disk
 abbrev pub IsFitPlayed : ℕ → Played → Type 0
 IsFitPlayed cluster p = IsFitGroup cluster p.before × IsFitGroup cluster p.moved.group
 
--- each move of a fit group leaves a fit one, and so does each run of a fresh group
+-- the file of each member is of the version of its kind
+abbrev pub AreOfKinds : (ℕ → Kind) → Group → Type 0
+AreOfKinds kinds g = (at : ℕ) (m : Member) → slice_get g.members at ≡ Some m → m.last.fields.version ≡ (kinds at).version
+
+-- before and after a move
+abbrev pub IsOfKinds : (ℕ → Kind) → Played → Type 0
+IsOfKinds kinds p = AreOfKinds kinds p.before × AreOfKinds kinds p.moved.group
+
+-- Each move of a fit group leaves a fit one, and so does each run of a fresh group. The files stay of the versions that they are made of.
 pub record GroupsFit : Type 0 where
   pub each : (cluster : ℕ) (g : Group) (move : Move) (moved : Moved) → IsFitGroup cluster g → IsFitMove move → Moves g move moved → IsFitGroup cluster moved.group
-  pub runs : (kinds : ℕ → Kind) (cluster n : ℕ) (run : List Played) → cluster < 2 ^ 64 → 2 ≤ n → n ≤ 6 → All (λ p. IsFitMove p.move) run → Run (fresh_group kinds cluster n) run → All (IsFitPlayed cluster) run
+  pub runs : (kinds : ℕ → Kind) (cluster n : ℕ) (run : List Played) → AreKinds kinds n → cluster < 2 ^ 64 → 2 ≤ n → n ≤ 6 → All (λ p. IsFitMove p.move) run → Run (fresh_group kinds cluster n) run → All (IsFitPlayed cluster) run
+  pub kinds : (kinds : ℕ → Kind) (cluster : ℕ) (g : Group) (move : Move) (moved : Moved) → AreOfKinds kinds g → IsFitGroup cluster g → IsFitMove move → Moves g move moved → AreOfKinds kinds moved.group
+  pub runs_of : (kinds : ℕ → Kind) (cluster n : ℕ) (run : List Played) → AreKinds kinds n → cluster < 2 ^ 64 → 2 ≤ n → n ≤ 6 → All (λ p. IsFitMove p.move) run → Run (fresh_group kinds cluster n) run → All (IsOfKinds kinds) run

@@ -5,6 +5,7 @@ pub mod Checkpoints
 pub mod Commitment
 pub mod Safe
 pub mod GroupFit
+pub mod Files
 pub use Rattle.vr_rules.specs.declared.asker.Asker
 pub use Rattle.vr_rules.specs.Deciding
 pub use Rattle.vr_rules.specs.Fit

@@ -1,9 +1,12 @@
 -- The disk of a world: sectors that may lie, within the premise that what slots hold is never denied.
-use Rattle.std.specs.Prelude.{ℕ, Bool, true, false, not, ◌&&◌, ◌||◌, nat_eq, List, [], length, map, replicate, Option, Some, None, if◌then◌else◌}
+use Rattle.std.specs.Prelude.{ℕ, Bool, true, false, not, ◌&&◌, ◌||◌, nat_eq, List, [], length, map, replicate, Option, Some, None, is_some, if◌then◌else◌}
 use Rattle.std.specs.List.{list_all, range_with_len}
 use Rattle.std.specs.Option.{option_map_or}
 use Rattle.std.specs.Cmp.Lexicographic.{pointwise}
+use Rattle.vr_base.specs.Bytes.{name_of}
 use Rattle.vr_base.specs.declared.mode.Mode.{Mode}
+use Rattle.vr_ckpt.specs.Blocks.{named}
+use Rattle.vr_ckpt.specs.Saves.{saved_checkpoint}
 use Rattle.vr_disk.specs.DiskState as disk
 use Rattle.vr_disk.specs.DiskState.{Call, Cell, Face}
 use Rattle.vr_disk.specs.Regions.{sectors as disk_sectors}
@@ -14,7 +17,7 @@ use Rattle.vr_lie.specs.Faults.{faulted, held_at}
 use Rattle.vr_lie.specs.Table.{holds}
 use Rattle.vr_rules.specs.Steps.{Setting}
 use Rattle.vr_rules.specs.Formatting.{format_calls, zero_sector}
-use Rattle.vr_rules.specs.Sectors.{calls_by, script_calls, sectors, sectors_by}
+use Rattle.vr_rules.specs.Sectors.{calls_by, script_calls, sectors_by}
 use Rattle.vr_world.specs.World.{Hazards}
 
 -- sectors, the entry that each slot holds, by the bytes of its prepare, and the version of the file, by which the slots have their sectors
@@ -74,30 +77,30 @@ zero_cell = record { truth = zero_sector; reads = Some zero_sector; before = zer
 abbrev pub zero_face : Face
 zero_face = record { cells = replicate disk_sectors zero_cell; waiting = [] }
 
--- for a file of version 1
-abbrev pub blank_lying : Lying
-blank_lying = record { face = zero_face; held = each_slot (λ slot. None); version = 1 }
+-- for a file of this version
+abbrev pub blank_lying : ℕ → Lying
+blank_lying v = record { face = zero_face; held = each_slot (λ slot. None); version = v }
 
 -- ---- the disk of a world, which is read and written as its version has it
 
 abbrev pub lying : Setting Lying
 lying = record {
-  hash = sectors.hash;
+  hash = name_of;
   opens = λ d. (sectors_by d.version).opens d.face;
-  header = λ d. sectors.header d.face;
+  header = λ d. (sectors_by d.version).header d.face;
   entry = λ d. (sectors_by d.version).entry d.face;
   is_blank = λ d. (sectors_by d.version).is_blank d.face;
-  block = λ d. sectors.block d.face;
-  is_block = sectors.is_block;
-  loaded = λ d. sectors.loaded d.face;
-  save_state = sectors.save_state;
+  block = λ d. (sectors_by d.version).block d.face;
+  is_block = λ name bytes. is_some (named name bytes);
+  loaded = λ d. (sectors_by d.version).loaded d.face;
+  save_state = saved_checkpoint;
   after = λ d e. after_calls d (calls_by d.version e d.face);
 }
 
 abbrev pub hazards : Hazards Lying
 hazards = record {
   setting = lying;
-  formatted = λ kind cluster n index. after_calls blank_lying (format_calls kind cluster n index);
+  formatted = λ kind cluster n index. after_calls (blank_lying kind.version) (format_calls kind cluster n index);
   count = λ d script. length (script_calls d.version script d.face);
   cut = λ j code d script. cut_calls j code d (script_calls d.version script d.face);
   faulted = unless_kept_out;

@@ -1,11 +1,10 @@
 use Rattle.std.proofs.Common.{◌≡◌, map}
 use Rattle.std.specs.List.{range_with_len}
-use Rattle.vr_base.specs.Kinds.{of_mode}
 use Rattle.vr_lying.specs.Lying.{hazards}
 use Rattle.vr_lying.specs.World.{fresh_host}
 use Rattle.vr_group.proofs.hosts.make_hosts.Given as goal
 
 abbrev pub invariant-loop-index : goal.invariant-loop-index
 invariant-loop-index l = record {
-  fresh : l.hosts.items ≡ map (fresh_host hazards (of_mode l.mode) l.n) (range_with_len 0 l.index);
+  fresh : l.hosts.items ≡ map (fresh_host hazards l.kind l.n) (range_with_len 0 l.index);
 }

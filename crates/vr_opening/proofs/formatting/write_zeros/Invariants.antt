@@ -5,6 +5,6 @@ use Rattle.vr_opening.proofs.formatting.write_zeros.Given as goal
 
 abbrev pub invariant-loop-i : goal.invariant-loop-i
 invariant-loop-i g l = record {
-  making : Making zero_prepares (calls_from zero_call l.i prepares_end) (g.D.SectorDisk.told l.fn.disk) (g.D.SectorDisk.told l.disk);
+  making : Making (zero_prepares l.fn.version) (calls_from zero_call l.i (prepares_end l.fn.version)) (g.D.SectorDisk.told l.fn.disk) (g.D.SectorDisk.told l.disk);
   faults : g.D.SectorDisk.faults l.disk ≡ g.D.SectorDisk.faults l.fn.disk;
 }

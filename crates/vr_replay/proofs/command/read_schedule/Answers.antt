@@ -10,7 +10,7 @@ pub loop-init : goal.loop-init
 loop-init g c =
     let made = c.new-replay.ensures in
     record {
-      midst = midst_start _ _ c.new-replay.result made.world made.number made.lines;
+      midst = midst_start _ _ c.new-replay.result made.scene made.number made.lines;
       sound = made.sound;
       read_faults = refl;
       write_faults = refl;

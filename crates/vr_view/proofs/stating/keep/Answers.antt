@@ -1,4 +1,4 @@
-use Rattle.std.proofs.Common.{rules, ◌≡◌, Err}
+use Rattle.std.proofs.Common.{refl, rules, ◌≡◌, Err}
 use Rattle.vr_journal.specs.Halt.TheVariants.{NoMemory}
 use Rattle.vr_journal.proofs.Stepping.{does_no_memory, does_then}
 use Rattle.vr_view.specs.Entering.{entering}
@@ -10,7 +10,7 @@ keep_statement-requires g c = place_stated _ _ c.in_ok-enter_up_to.ensures.ready
 
 pub try_view-requires-clause-ready : goal.try_view-requires-clause-ready
 try_view-requires-clause-ready g c =
-    let stays = still_for c.args.message.now c.args.replica.now _ c.requires.ready c.in_ok-enter_up_to.ensures.ready c.in_ok-enter_up_to.ensures.group (stated_means c.args.message.now c.args.replica.now c.requires.rule) in
+    let stays = still_for c.args.message.now c.args.replica.now c.enter_up_to.new.replica (c.in_ok-enter_up_to.ensures.step.same refl) c.in_ok-enter_up_to.ensures.group (stated_means c.args.message.now c.args.replica.now c.requires.rule) in
     ready_stated c.args.message.now _ _ _ c.keep_statement.ensures.kept c.in_ok-statement.ensures.same c.in_ok-statement.ensures.values c.requires.message c.in_ok-enter_up_to.ensures.view stays c.in_ok-enter_up_to.ensures.ready
 
 pub returns-in_err-statement-clause-step : goal.returns-in_err-statement-clause-step

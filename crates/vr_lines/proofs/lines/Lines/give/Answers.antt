@@ -1,5 +1,5 @@
 use Rattle.std.proofs.Common.{◌+◌, ◌<◌, ◌≤◌, length, refl, inl, arith}
-use Rattle.vr_lines.specs.Held.{between}
+use Rattle.vr_lines.specs.Held.{between, room}
 use Rattle.vr_lines.proofs.Cutting.{part_before, part_take}
 use Rattle.vr_lines.proofs.Holding.{length_held, line_given, within}
 use Rattle.vr_lines.proofs.lines.Lines.give.Goals as goal
@@ -12,7 +12,7 @@ returns-in-Some c =
     let size = length_held i.buffer i.start i.end r.1 (omega (arith, r.0, r.2)) in
     let inside = within i.buffer i.start i.end c.in-Some.at c.in-Some.ensures.within in
     let long : c.args.longest < length bytes = omega (arith, c.if-at-longest.true, inside, size) in
-    let most : length bytes ≤ 1136 = omega (arith, size, r.2) in
+    let most : length bytes ≤ room = omega (arith, size, r.2) in
     rw (← c.self.view_is) (part_before (c.args.longest + 1) c.in-Some.at bytes c.in-Some.ensures.found (omega (arith, c.if-at-longest.true)), long, most, refl)
 
 pub returns-in-Some-2 : goal.returns-in-Some-2
@@ -32,5 +32,5 @@ returns-in-None c =
     let bytes = between i.start i.end i.buffer in
     let size = length_held i.buffer i.start i.end r.1 (omega (arith, r.0, r.2)) in
     let long : c.args.longest < length bytes = omega (arith, c.if-held-longest.true, size) in
-    let most : length bytes ≤ 1136 = omega (arith, size, r.2) in
+    let most : length bytes ≤ room = omega (arith, size, r.2) in
     rw (← c.self.view_is) (part_take (c.args.longest + 1) bytes (c.in-None.ensures.none refl), long, most, refl)

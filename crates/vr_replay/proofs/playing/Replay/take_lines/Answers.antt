@@ -13,7 +13,7 @@ loop-self-preserved g c =
     let e = c.in_ok-take_line-in-Line.ensures in
     let h = given_line c.loop-self.self.lines.bytes c.next.new.self c.in-Line.ensures in
     record {
-      midst = taking_more _ c.loop-self.self c.take_line.new.self c.next.new.self.line _ _ _ i.midst h.0 (h.1 ∙ ap (λ (l : Held). c.next.new.self.line ++ 10 ∷ l.bytes) (sym e.lines)) e.world e.number e.accepted e.text;
+      midst = taking_more _ c.loop-self.self c.take_line.new.self c.next.new.self.line _ _ _ i.midst h.0 (h.1 ∙ ap (λ (l : Held). c.next.new.self.line ++ 10 ∷ l.bytes) (sym e.lines)) e.scene e.number e.accepted e.text;
       live = e.live;
       few = e.few;
       kept = e.kept ∙ i.kept;

@@ -9,4 +9,5 @@ invariant-loop l = record {
   soaking : IsSoaking (size_of l.seed) (drawn_size l.seed).number l.counter l.soaking;
   live : l.soaking.group.live ≡ true;
   size : 0 < l.soaking.group.world.n;
+  version : l.soaking.group.version ≡ 1;
 }
