@@ -1,26 +1,32 @@
 -- Each move of a group is a chain of the machine's moves.
-use Rattle.std.proofs.Common.{ℕ, zero, suc, ◌+◌, ◌-◌, ◌%◌, ◌≤◌, ◌<◌, ◌≡◌, ◌≢◌, ◌∙◌, ◌⊎◌, inl, inr, arith, refl, sym, ap, subst, Bool, List, [], ◌∷◌, ◌++◌, length, take, Some, None}
+use Rattle.std.proofs.Common.{ℕ, zero, suc, ◌+◌, ◌-◌, ◌%◌, ◌≤◌, ◌<◌, ◌≡◌, ◌≢◌, ◌∙◌, ◌⊎◌, inl, inr, arith, refl, sym, ap, subst, Bool, List, [], ◌∷◌, ◌++◌, length, take, drop, Option, Some, None}
 use Rattle.std.specs.Prelude.{All, slice_get, slice_set}
+use Rattle.std.specs.Option.{option_map_or}
 use Rattle.std.proofs.lemmas.Bool.{cases_lt, le-ltb, lt-ltb}
-use Rattle.std.proofs.lemmas.List.{append_assoc, drop_all, take_all, take-append-le}
+use Rattle.std.proofs.lemmas.List.{append_assoc, drop_all, take-append-drop, take_all, take-append-le, take-take}
 use Rattle.std.proofs.Math.Seq.{take-append-add}
 use Rattle.std.proofs.lemmas.List.Elements.{All-nil, All-cons, All-head, All-tail, All-append, All-weaker, All-contains}
 use Rattle.vr_header.specs.declared.header.Header.{Header}
 use Rattle.vr_header.specs.declared.part.Part.TheVariants.{Here}
 use Rattle.vr_header.specs.Made.{Whole}
 use Rattle.vr_msg.specs.declared.event.Event.{Event}
+use Rattle.vr_msg.specs.declared.output.Committed.{Committed}
 use Rattle.vr_msg.specs.declared.output.Output.{Output}
 use Rattle.vr_msg.specs.declared.output.Output.TheVariants as output
 use Rattle.vr_super.specs.Copies.{SuperValue}
 use Rattle.vr_world.specs.Replica.{Replica, part_at}
 use Rattle.vr_world.specs.Steps.{Effect, Write, outputs}
+use Rattle.vr_world.specs.Commitment.{Stored}
 use Rattle.vr_world.specs.Lying.{Lying, lying}
 use Rattle.vr_world.specs.Outputs.{messages}
 use Rattle.vr_world.specs.Group as group
-use Rattle.vr_world.specs.Group.{Arrival, Asked, Message, Time, IsArrival, Move, Moved, Moves, Opens, Played, Run, carried_out, cut_after, cut_in_two, keeps_all, made_by_effect, made_in, mended, once_mended, opening_script, resumed, stepped, with_script}
+use Rattle.vr_world.specs.Group.{Arrival, Asked, Message, Time, IsArrival, Move, Moved, Moves, Opens, Played, Run, begins, carried_out, cut_after, cut_in_two, ends, keeps_all, made_by_effect, made_in, mended, once_mended, opening_script, resumed, stepped, with_script}
 use Rattle.vr_world.specs.GroupFit.{IsFitArrival, IsFitGroup, IsFitMember, IsFitMove}
 use Rattle.vr_world.specs.Own.{IsAt}
+use Rattle.vr_world.specs.Sound.{IsSound}
+use Rattle.vr_world.specs.Storing.{done_in, here_in, in_view, stored_at, stored_by, stored_from}
 use Rattle.vr_world.specs.Fit.{MayCome, ReadsWell}
+use Rattle.vr_world.proofs.Slots.{value_is}
 use Rattle.vr_world.proofs.FitMessages.{asked_may_come}
 use Rattle.vr_world.proofs.FitLies.{lies_fit}
 use Rattle.vr_world.proofs.FitGroups.{good_value, groups_fit}
@@ -28,35 +34,44 @@ use Rattle.vr_world.proofs.FitOpening.{headers_of}
 use Rattle.vr_world.proofs.SendsScripts.{outputs_append}
 use Rattle.law_1_machine.specs.Basics.{In}
 use Rattle.law_1_machine.specs.Group.{Group, Made, Member, made_at}
+use Rattle.law_1_machine.specs.Laws.{Backed}
 use Rattle.law_1_machine.specs.Members as machine
 use Rattle.law_1_machine.specs.Members.{Choice}
-use Rattle.law_2_chains.specs.Local.{Local, begun, carried, through, WhereverCut}
-use Rattle.law_2_chains.specs.Reflecting.{IsDisk, KeepsStored, Reflects}
-use Rattle.law_2_chains.specs.Chains.{Setup, IsReached, Every, Mid, Stopped, Under, WasMade}
-use Rattle.law_2_chains.specs.Finished.{Finished, IsSaid, IsTrue}
+use Rattle.law_2_chains.specs.Local.{Local, carried, WhereverCut}
+use Rattle.law_2_chains.specs.Reflecting.{IsDisk, KeepsStored, Reflects, entries_by}
+use Rattle.law_2_chains.specs.Chains.{Setup, IsBackedLine, IsReached, Every, AsksNothing, Mid, Stopped, Under, WasMade}
+use Rattle.law_2_chains.specs.Finished.{AreBacked, Finished, IsSaid, IsTrue}
 use Rattle.law_2_chains.specs.Tables.{Fits, HasTables, HasVouchedAt}
 use Rattle.law_2_chains.specs.Begins.{Begins, as_it_was, one_made, with_made}
 use Rattle.law_2_chains.specs.Choices.{ChainChooses, IsMadeFrom}
 use Rattle.law_2_chains.specs.Openings.{MayBegin, keeping}
 use Rattle.law_2_chains.specs.ChainLaws.{MayArrive}
-use Rattle.law_2_chains.proofs.Finishing.{sent_more, true_more}
+use Rattle.law_2_chains.proofs.Finishing.{committed_more, sent_more, true_more}
+use Rattle.law_2_chains.proofs.Grounds.{own_later}
 use Rattle.law_2_chains.proofs.Holding.{holds_same, tables_hold}
-use Rattle.law_2_chains.proofs.Lone.{vouches_at_end}
+use Rattle.law_2_chains.proofs.Lone.{ended, saved_views, vouches_at_end}
+use Rattle.law_2_chains.proofs.LoneSteps.{begins_held, in_order, none_stored}
 use Rattle.law_2_chains.proofs.LoneEvents.{lone_react}
-use Rattle.law_2_chains.proofs.Scripts.{carried_append, cut_append, every_map}
+use Rattle.law_2_chains.proofs.Scripts.{carried_append, every_map}
+use Rattle.law_2_chains.proofs.StoredLists.{contains_in, in_contains, in_parts, of_view, stored_is, stored_none, was_in}
 use Rattle.law_2_chains.proofs.Sizes.{alone_or_several}
+use Rattle.law_2_chains.proofs.Tabling.{in_left}
 use Rattle.law_2_chains.proofs.Tallies.{tables_vouched, tallies_of}
 use Rattle.law_2_chains.proofs.Repairs.{leads_is}
 use Rattle.law_2_chains.proofs.Moving.{stops}
 use Rattle.law_2_chains.proofs.Playing.{leaves, cut_at}
 use Rattle.law_2_chains.proofs.Chained.{chain_react}
 use Rattle.law_2_chains.proofs.Opening.{opens}
-use Rattle.law_2_chains.specs.Bridge.{Bridges, Chained, ChoosesWell, Follows, IsGround, IsMember, IsOwnVouch, IsRunning, IsSent}
-use Rattle.law_2_chains.specs.Lone.{IsStored, LoneChooses, Vouched}
-use Rattle.law_2_chains.proofs.Tabling.{in_left}
+use Rattle.law_2_chains.specs.Bridge.{Bridges, Chained, ChoosesWell, Follows, IsGround, IsMember, IsOwnVouch, IsRunning, IsSent, ServesWell}
+use Rattle.law_2_chains.specs.Lone.{CountsNoMore, IsStored, LoneChooses, Vouched, counted_by, vouch_for}
 use Rattle.std.proofs.lemmas.Option.{slice_get_within}
 
 -- ---- lists
+
+in_every : {X : Type 0} (P : X → Type 0) (xs : List X) (x : X) → In x xs → Every P xs → P x
+in_every P [] x i h = absurd i
+in_every P (y ∷ ys) x (inl e) h = subst P (sym e) h.0
+in_every P (y ∷ ys) x (inr i) h = in_every P ys x i h.1
 
 at_place : {X : Type 0} (P : X → Type 0) (xs : List X) (i : ℕ) (x : X) → All P xs → slice_get xs i ≡ Some x → P x
 at_place P [] i x h e = absurd cc
@@ -79,9 +94,6 @@ made_append : (a b : List Effect) → made_in (a ++ b) ≡ made_in a ++ made_in 
 unfolding made_in
 made_append [] b = refl
 made_append (e ∷ es) b = ap (λ hs. group.made_by_effect e ++ hs) (made_append es b) ∙ sym (append_assoc (group.made_by_effect e) (made_in es) (made_in b))
-
-made_front : (a b : List Effect) (h : Header) → In h (made_in a) → In h (made_in (a ++ b))
-made_front a b h j = subst (In h) (sym (made_append a b)) (in_left h (made_in a) (made_in b) j)
 
 all_made : (P : Header → Type 0) (hs : List Header) → Every P hs → All P hs
 all_made P [] h = All-nil P
@@ -145,16 +157,16 @@ begun_cut u s at k es _ (one_made again e later is first new) =
 -- ---- what it puts something out by
 
 -- The group from which a member goes on, beside the one before the move: it may have vouched for what it has stored, where it is a group by
--- itself; of the effects that are carried out the first may have begun to write what was made.
-record Grounded (u : Setup) (g : group.Group) (s : Group Header) (at : ℕ) (es : List Effect) (b : Group Header) : Type 0 where
-  ground : IsGround u g es s b
+-- itself, by the first of its effects; of those that are carried out the first may have begun to write what was made.
+record Grounded (u : Setup) (g : group.Group) (s : Group Header) (at : ℕ) (es first : List Effect) (b : Group Header) : Type 0 where
+  ground : IsGround u g first s b
   chosen : (c : Choice Header) → In c s.chosen → In c b.chosen
   members : (j : ℕ) → j ≢ at → b.members j ≡ s.members j
   kept : (x : Made Header) → In x s.made → In x b.made
   made : (x : Made Header) → In x b.made → In x s.made ⊎ ((at ≡ x.view % u.quorums.n) × In x.entry (made_in es))
   few : length b.made ≤ length s.made + 1
 
-ground_of : (u : Setup) (g : group.Group) (s : Group Header) (at : ℕ) (es : List Effect) (b : Group Header) → Begun u s at es b → Grounded u g s at es b
+ground_of : (u : Setup) (g : group.Group) (s : Group Header) (at : ℕ) (es : List Effect) (b : Group Header) → Begun u s at es b → Grounded u g s at es [] b
 ground_of u g s at es b x = record {
   ground = record { before = λ m h. subst (In m) (sym x.sent) h; own = λ m h. inl (subst (In m) x.sent h); several = λ few. x.sent };
   chosen = λ c h. subst (In c) (sym x.chosen) h;
@@ -164,36 +176,27 @@ ground_of u g s at es b x = record {
   few = x.few;
 }
 
--- what it has stored at the end of the first part it had, or has written in it
-abbrev IsHeld : Replica → Replica → List Effect → Type 0
-IsHeld r q es = (k : ℕ) (h : Header) → part_at q k ≡ Here h → (part_at r k ≡ Here h) ⊎ (In h (made_in es) × (h.op ≡ k))
-
-held_more : (r q : Replica) (es fs : List Effect) → ((h : Header) → In h (made_in es) → In h (made_in fs)) → IsHeld r q es → IsHeld r q fs
-held_more r q es fs f held k h e = elim (held k h e) [ inl old ↦ inl old | inr new ↦ inr (f h new.0, new.1) ]
+-- the vouch of the replica that is a group by itself for what counts
+own_vouch : (u : Setup) → u.quorums.n ≡ 1 → (g : group.Group) (at : ℕ) (m : group.Member) (r : Replica) → slice_get g.members at ≡ Some m → m.replica ≡ Some r → at ≡ 0 → m.last ≡ r.saved → (es : List Effect) (z : machine.Message Header)
+    → (x : Stored) × In x (counted_by r es) × (z ≡ vouch_for at x) → IsOwnVouch u g es z
+own_vouch u alone g at m r there runs lowest last es z x = record {
+  alone = alone;
+  stored = x.0;
+  counts = in_contains x.0 (stored_from g es) (subst (In x.0) (sym (stored_is g m r es (subst (λ k. slice_get g.members k ≡ Some m) lowest there) runs last)) x.1);
+  is = x.2 ∙ ap (λ k. vouch_for k x.0) lowest;
+}
 
 -- where a replica that is a group by itself has vouched in between
-module _ (u : Setup) (alone : u.quorums.n ≡ 1) (g : group.Group) (s : Group Header) (at : ℕ) (es : List Effect) (m : group.Member) (r : Replica) (runs : group.Runs g at m r) where
-  own_vouch : (q : Replica) → q.view ≡ r.view → IsHeld r q es → (z : machine.Message Header) → IsStored at q z → IsOwnVouch u g es z
-  own_vouch q views held z x = record {
-    alone = alone;
-    at = at;
-    member = m;
-    replica = r;
-    runs = runs;
-    op = x.op;
-    header = x.header;
-    is = x.is ∙ ap (λ v. machine.Prepare_ok at v x.op x.header) views;
-    stored = held x.op x.header x.here;
-  }
-
-  ground_vouched : (q : Replica) (l : Local) (b c d : Group Header) → q.view ≡ r.view → IsHeld r q es → Begun u s at es b → Under u b at l c → Vouched at q c d → Grounded u g s at es d
-  ground_vouched q l b c d views held x y v =
+module _ (u : Setup) (alone : u.quorums.n ≡ 1) (g : group.Group) (s : Group Header) (at : ℕ) (es first : List Effect) (m : group.Member) (r : Replica) (runs : group.Runs g at m r) (lowest : at ≡ 0) (last : m.last ≡ r.saved) where
+  ground_vouched : (q : Replica) (l : Local) (b c d : Group Header) → ((z : machine.Message Header) → IsStored at q z → (x : Stored) × In x (counted_by r first) × (z ≡ vouch_for at x)) → Begun u s at es b → Under u b at l c → Vouched at q c d
+      → Grounded u g s at es first d
+  ground_vouched q l b c d held x y v =
       let made : d.made ≡ b.made = v.made ∙ y.none_made in
       let sent : (z : machine.Message Header) → In z c.sent → In z s.sent = λ z h. subst (In z) (y.sent ∙ x.sent) h in
       record {
         ground = record {
           before = λ z h. v.kept z (subst (In z) (sym (y.sent ∙ x.sent)) h);
-          own = λ z h. elim (v.only z h) [ inl old ↦ inl (sent z old) | inr new ↦ inr (own_vouch q views held z new) ];
+          own = λ z h. elim (v.only z h) [ inl old ↦ inl (sent z old) | inr new ↦ inr (own_vouch u alone g at m r runs.member runs.running lowest last first z (held z new)) ];
           several = λ few. absurd (omega arith);
         };
         chosen = λ k h. subst (In k) (sym v.chosen) (y.chosen k (subst (In k) (sym x.chosen) h));
@@ -205,7 +208,7 @@ module _ (u : Setup) (alone : u.quorums.n ≡ 1) (g : group.Group) (s : Group He
 
 -- ---- one member moved
 
-module _ (u : Setup) (g : group.Group) (s : Group Header) (bridge : Bridges u g s) (fit : IsFitGroup u.cluster g) (at : ℕ) (es : List Effect) (b : Group Header) (begun : Grounded u g s at es b) (a : Group Header)
+module _ (u : Setup) (g : group.Group) (s : Group Header) (bridge : Bridges u g s) (fit : IsFitGroup u.cluster g) (at : ℕ) (es first : List Effect) (b : Group Header) (begun : Grounded u g s at es first b) (a : Group Header)
     (reached : IsReached u a) (others : (j : ℕ) → j ≢ at → a.members j ≡ b.members j) (sent_b : (m : machine.Message Header) → In m b.sent → In m a.sent) (chosen_b : (c : Choice Header) → In c b.chosen → In c a.chosen) (same_made : a.made ≡ b.made) where
   sent : (m : machine.Message Header) → In m s.sent → In m a.sent
   sent m h = sent_b m (begun.ground.before m h)
@@ -243,7 +246,7 @@ module _ (u : Setup) (g : group.Group) (s : Group Header) (bridge : Bridges u g 
         disk = subst (IsDisk m) (sym same) x.disk;
         running = λ r e.
             let y = x.running r e in
-            record { memory = y.memory; running = ap (λ (z : Member Header). z.memory) same ∙ y.running; reflects = y.reflects; stored = y.stored; tables = tables_other j f.edition r other (f.running r e).1 y.tables; vouched = λ alone views k h here. sent _ (y.vouched alone views k h here) };
+            record { memory = y.memory; running = ap (λ (z : Member Header). z.memory) same ∙ y.running; reflects = y.reflects; stored = y.stored; tables = tables_other j f.edition r other (f.running r e).1 y.tables; vouched = λ alone views k h above here. sent _ (y.vouched alone views k h above here) };
         stopped = λ e. ap (λ (z : Member Header). z.memory) same ∙ x.stopped e;
       }
 
@@ -278,8 +281,9 @@ record EndsSo (u : Setup) (b : Group Header) (i : ℕ) (r : Replica) (l : Local)
   kept : (m : machine.Message Header) → In m b.sent → In m a.sent
   chosen : (c : Choice Header) → In c b.chosen → In c a.chosen
   told : Every (IsTrue u b.sent a.sent) l.said
-  only : (m : machine.Message Header) → In m a.sent → In m b.sent ⊎ (IsSaid u l.said m ⊎ ((u.quorums.n ≡ 1) × IsStored i r m))
-  vouched : u.quorums.n ≡ 1 → r.view ≡ r.log_view → (k : ℕ) (h : Header) → part_at r k ≡ Here h → In (machine.Prepare_ok i r.view k h) a.sent
+  only : (m : machine.Message Header) → In m a.sent → In m b.sent ⊎ (IsSaid u l.said m ⊎ ((u.quorums.n ≡ 1) × ((x : Stored) × In x (counted_by r []) × (m ≡ vouch_for i x))))
+  vouched : u.quorums.n ≡ 1 → r.view ≡ r.log_view → (k : ℕ) (h : Header) → r.checkpoint < k → part_at r k ≡ Here h → In (machine.Prepare_ok i r.view k h) a.sent
+  lowest : u.quorums.n ≡ 1 → i ≡ 0
 
 ends_of : (u : Setup) → 2 ≤ u.quorums.n → (b : Group Header) (i : ℕ) (r : Replica) (l : Local) (a : Group Header) → Finished u b i r l a → EndsSo u b i r l a
 ends_of u several b i r l a x = record {
@@ -297,6 +301,7 @@ ends_of u several b i r l a x = record {
   told = x.told;
   only = λ m h. elim (x.only m h) [ inl old ↦ inl old | inr new ↦ inr (inl new) ];
   vouched = λ alone. absurd (omega arith);
+  lowest = λ alone. absurd (omega arith);
 }
 
 ends_vouched : (u : Setup) → u.quorums.n ≡ 1 → (b : Group Header) (i : ℕ) (r : Replica) (l : Local) (c a : Group Header) → Finished u b i r l c → IsReached u a → Vouched i r c a → EndsSo u b i r l a
@@ -315,15 +320,37 @@ ends_vouched u alone b i r l c a x reached v = record {
   told = every_map (IsTrue u b.sent c.sent) (IsTrue u b.sent a.sent) l.said (true_more u b.sent c.sent a.sent v.kept) x.told;
   only = λ m h. elim (v.only m h) [
     | inl old ↦ elim (x.only m old) [ inl older ↦ inl older | inr said ↦ inr (inl said) ]
-    | inr new ↦ inr (inr (alone, new))
+    | inr new ↦ inr (inr (alone, begins_held u c i r (record l { said = [] }) (ended u b i r l c x) tt [] m new))
   ];
   vouched = λ one. v.all;
+  lowest = λ one. let member = x.sound.member in let place = x.place in let size = x.size in omega arith;
 }
 
-module _ (u : Setup) (g : group.Group) (s : Group Header) (bridge : Bridges u g s) (fit : IsFitGroup u.cluster g) (at : ℕ) (es : List Effect) (b : Group Header) (begun : Grounded u g s at es b) where
-  ends_chained : (at < length g.members) → (move : Move) (q : Replica) (m : group.Member) (l : Local) (a : Group Header) (x : EndsSo u b at q l a) → l.member ≡ m → l.made ≡ made_in es → l.said ≡ outputs es → HasTables u a at q
-      → ChoosesWell g move a.chosen (outputs es) → Chained u s a (record { before = g; move = move; moved = with_script g at (record m { replica = Some q }) es (outputs es) })
-  ends_chained there move q m l a x member_is made_is said_is tables well =
+-- what is put out of a script rests on what was sent, and of its first effects no more is put out
+line_true : (u : Setup) (b a : List (machine.Message Header)) (os : List Output) → Every (IsTrue u b a) os → (c : Committed) → In (output.Commit c) os → IsBackedLine u b c.entry.header
+line_true u b a os told c j = in_every (IsTrue u b a) os (output.Commit c) j told
+
+line_more : (u : Setup) (b a : List (machine.Message Header)) → ((m : machine.Message Header) → In m b → In m a) → (h : Header) → IsBackedLine u b h → IsBackedLine u a h
+line_more u b a f h x =
+    let y = x.is in
+    record { view = x.view; number = x.number; is = (y.0, y.1, committed_more u.quorums (entries_by u.hash u.cluster) b a f y.0 x.number h y.2) }
+
+outputs_take : (k : ℕ) (es : List Effect) (o : Output) → In o (outputs (take k es)) → In o (outputs es)
+outputs_take k es o h = subst (λ (fs : List Effect). In o (outputs fs)) (take-append-drop k es) (subst (In o) (sym (outputs_append (take k es) (drop k es))) (in_left o (outputs (take k es)) (outputs (drop k es)) h))
+
+-- the commit number at the end of a step
+serves_at : (u : Setup) (b : Group Header) (i : ℕ) (r : Replica) (l : Local) (a : Group Header) → Finished u b i r l a → AreBacked u b.sent r.log_view r.commit
+serves_at u b i r l a x k z n = subst (λ v. (y : Header) × Backed u.quorums (entries_by u.hash u.cluster) b.sent v k y) x.reflects.log_view (x.served k z (let c = x.reflects.commit in omega arith))
+
+-- what was sent before the move, or in it
+abbrev Covers : Setup → group.Group → Move → List Effect → Group Header → Type 0
+Covers u g move es b = u.quorums.n ≡ 1 → (x : Stored) → In x (stored_from g (done_in move es)) → In (vouch_for 0 x) b.sent
+
+module _ (u : Setup) (g : group.Group) (s : Group Header) (bridge : Bridges u g s) (fit : IsFitGroup u.cluster g) (at : ℕ) (es first second : List Effect) (b : Group Header) (begun : Grounded u g s at es first b) (move : Move)
+    (parts : done_in move es ≡ first ++ second) (silent : Every AsksNothing (outputs first)) (covers : Covers u g move es b) where
+  ends_chained : (at < length g.members) → (q : Replica) (m : group.Member) (l : Local) (a : Group Header) (x : EndsSo u b at q l a) → l.member ≡ m → l.made ≡ made_in es → l.said ≡ outputs es → HasTables u a at q
+      → ChoosesWell g move a.chosen (outputs es) → ServesWell u g move b.sent → Chained u s a (record { before = g; move = move; moved = with_script g at (record m { replica = Some q }) es (outputs es) })
+  ends_chained there q m l a x member_is made_is said_is tables well serves =
       let disk : IsDisk m (a.members at) = subst (λ y. IsDisk y (a.members at)) member_is x.disk in
       let stored : KeepsStored q m = subst (KeepsStored q) member_is x.stored in
       let told : Every (IsTrue u b.sent a.sent) (outputs es) = subst (Every (IsTrue u b.sent a.sent)) said_is x.told in
@@ -335,28 +362,35 @@ module _ (u : Setup) (g : group.Group) (s : Group Header) (bridge : Bridges u g 
         stopped = λ e. absurd cc;
       } in
       record {
-        bridges = bridged u g s bridge fit at es b begun a x.reached x.others x.kept x.chosen x.none_made m' (outputs es) new (sent_told u b.sent a (outputs es) told) (all_made (WasMade a.made) (made_in es) (subst (Every (WasMade a.made)) made_is x.made));
-        sent = sent u g s bridge fit at es b begun a x.reached x.others x.kept x.chosen x.none_made;
-        chosen = chosen u g s bridge fit at es b begun a x.reached x.others x.kept x.chosen x.none_made;
+        bridges = bridged u g s bridge fit at es first b begun a x.reached x.others x.kept x.chosen x.none_made m' (outputs es) new (sent_told u b.sent a (outputs es) told) (all_made (WasMade a.made) (made_in es) (subst (Every (WasMade a.made)) made_is x.made));
+        sent = sent u g s bridge fit at es first b begun a x.reached x.others x.kept x.chosen x.none_made;
+        chosen = chosen u g s bridge fit at es first b begun a x.reached x.others x.kept x.chosen x.none_made;
+        first = first;
+        second = second;
+        parts = parts;
+        silent = silent;
         ground = b;
         grounds = begun.ground;
         told = told;
+        served = serves;
+        lines = λ c j. line_more u b.sent a.sent x.kept c.entry.header (line_true u b.sent a.sent (outputs es) told c j);
         only = λ y h. elim (x.only y h) [
-          | inl old ↦ elim (begun.ground.own y old) [ inl older ↦ inl older | inr own ↦ inr (inr (inl own)) ]
+          | inl old ↦ elim (begun.ground.own y old) [ inl older ↦ inl older | inr own ↦ inr (inr (inl (own_later u g first second (done_in move es) y parts own))) ]
           | inr new ↦ elim new [
             | inl said ↦ inr (inl (subst (λ os. IsSaid u os y) said_is said))
-            | inr own ↦ inr (inr (inr (own_vouch u own.0 (with_script g at m' es (outputs es)).group a at [] m' q (record { member = at_set g.members at m' there; running = refl }) q refl (λ k h e. inl e) y own.1)))
+            | inr own ↦ inr (inr (inr (own_vouch u own.0 (with_script g at m' es (outputs es)).group at m' q (at_set g.members at m' there) refl (x.lowest own.0) stored.1 [] y own.1)))
           ]
         ];
+        counted = λ alone z h. x.kept _ (covers alone z (contains_in z (stored_from g (done_in move es)) h));
         made = λ y h. elim (begun.made y (subst (In y) x.none_made h)) [ inl old ↦ inl old | inr new ↦ inr new.1 ];
         few = few_made s b a begun.few x.none_made;
         choices = well;
       }
 
-  stops_chained : (move : Move) (m : group.Member) (l : Local) (x : Stopped u b at l) → l.member ≡ m → l.made ≡ made_in es → ChoosesWell g move x.group.chosen []
+  stops_chained : (m : group.Member) (l : Local) (x : Stopped u b at l) → l.member ≡ m → l.made ≡ made_in es → ChoosesWell g move x.group.chosen [] → ServesWell u g move b.sent → ((c : Committed) → In (output.Commit c) (outputs es) → IsBackedLine u b.sent c.entry.header)
       → Chained u s x.group (record { before = g; move = move; moved = with_script g at (record m { replica = None }) es [] })
   unfolding messages
-  stops_chained move m l x member_is made_is well =
+  stops_chained m l x member_is made_is well serves backed =
       let y = x.under in
       let a : Group Header = x.group in
       let disk : IsDisk m (a.members at) = subst (λ z. IsDisk z (a.members at)) member_is y.disk in
@@ -368,13 +402,20 @@ module _ (u : Setup) (g : group.Group) (s : Group Header) (bridge : Bridges u g 
         stopped = λ e. x.still;
       } in
       record {
-        bridges = bridged u g s bridge fit at es b begun a y.reached y.others still y.chosen y.none_made m' [] new (All-nil (IsSent u a)) (all_made (WasMade a.made) (made_in es) (subst (Every (WasMade a.made)) made_is y.made));
-        sent = sent u g s bridge fit at es b begun a y.reached y.others still y.chosen y.none_made;
-        chosen = chosen u g s bridge fit at es b begun a y.reached y.others still y.chosen y.none_made;
+        bridges = bridged u g s bridge fit at es first b begun a y.reached y.others still y.chosen y.none_made m' [] new (All-nil (IsSent u a)) (all_made (WasMade a.made) (made_in es) (subst (Every (WasMade a.made)) made_is y.made));
+        sent = sent u g s bridge fit at es first b begun a y.reached y.others still y.chosen y.none_made;
+        chosen = chosen u g s bridge fit at es first b begun a y.reached y.others still y.chosen y.none_made;
+        first = first;
+        second = second;
+        parts = parts;
+        silent = silent;
         ground = b;
         grounds = begun.ground;
         told = tt;
-        only = λ z h. elim (begun.ground.own z (subst (In z) y.sent h)) [ inl old ↦ inl old | inr own ↦ inr (inr (inl own)) ];
+        served = serves;
+        lines = λ c j. line_more u b.sent a.sent still c.entry.header (backed c j);
+        only = λ z h. elim (begun.ground.own z (subst (In z) y.sent h)) [ inl old ↦ inl old | inr own ↦ inr (inr (inl (own_later u g first second (done_in move es) z parts own))) ];
+        counted = λ alone z h. still _ (covers alone z (contains_in z (stored_from g (done_in move es)) h));
         made = λ z h. elim (begun.made z (subst (In z) y.none_made h)) [ inl old ↦ inl old | inr new ↦ inr new.1 ];
         few = few_made s b a begun.few y.none_made;
         choices = well;
@@ -402,16 +443,30 @@ cut_so P k es l cuts end =
           record { left = carried es l; stopped = end; member = y.member ∙ sym n.0; made = y.made ∙ ap (λ (ys : List Effect). l.made ++ made_in ys) (sym n.1) }
     ]
 
--- what was begun to be written stays so
-cuts_holding : (P : Local → Type 0) (hs : List Header) (es : List Effect) (l : Local) → ((h : Header) → In h hs → In h l.made) → WhereverCut P es l → WhereverCut (λ k. P k × ((h : Header) → In h hs → In h k.made)) es l
-cuts_holding P hs [] l f h = tt
-cuts_holding P hs (e ∷ es) l f h =
-    let more : (x : Header) → In x hs → In x (l.made ++ made_by_effect e) = λ x j. in_left x l.made (made_by_effect e) (f x j) in
-    ((h.0, more), cuts_holding P hs es (through e l) more h.1)
+-- a cut among the first effects, and one behind them
+cut_front : (k : ℕ) (xs ys : List Effect) (m : group.Member) → k < length xs → cut_after k (xs ++ ys) m ≡ cut_after k xs m
+unfolding carried_out
+cut_front k [] ys m l = absurd (omega arith)
+cut_front zero (e ∷ xs) ys m l = refl
+cut_front (suc k) (e ∷ xs) ys m l = cut_front k xs ys (ends e (begins e m)) (omega arith)
 
-cuts_so_too : (P Q : Local → Type 0) → ((l : Local) → P l → Q l) → (es : List Effect) (l : Local) → WhereverCut P es l → WhereverCut Q es l
-cuts_so_too P Q f [] l h = tt
-cuts_so_too P Q f (e ∷ es) l h = (f (begun e l) h.0, cuts_so_too P Q f es (through e l) h.1)
+cut_behind : (k n : ℕ) (xs ys : List Effect) (m : group.Member) → n ≡ length xs + k → cut_after n (xs ++ ys) m ≡ cut_after k ys (carried_out xs m)
+unfolding carried_out
+cut_behind k n [] ys m is = let same : n ≡ k = omega arith in ap (λ (j : ℕ). cut_after j ys m) same
+cut_behind k zero (e ∷ xs) ys m is = absurd (omega arith)
+cut_behind k (suc n) (e ∷ xs) ys m is = cut_behind k n xs ys (ends e (begins e m)) (omega arith)
+
+-- the effects that were finished, of those that were begun
+done_of : (k : ℕ) (xs : List Effect) → take k (take (k + 1) xs) ≡ take k xs
+done_of k xs = take-take k (k + 1) xs (omega arith)
+
+none_said : Every AsksNothing (outputs [])
+unfolding outputs
+none_said = tt
+
+none_counted : (r : Replica) (x : Stored) → In x (counted_by r []) → In x (in_view r.saved (here_in r))
+unfolding stored_by
+none_counted r x h = elim (in_parts x (in_view r.saved (here_in r)) [] h) [ inl it ↦ it | inr none ↦ absurd none ]
 
 -- a member at the beginning of a step
 abbrev pub local : group.Member → Local
@@ -435,6 +490,46 @@ module _ (u : Setup) (fits : Fits u) (hash : u.hash ≡ lying.hash) (g : group.G
         stored = y.stored;
         ready = tt;
       }
+
+  -- what counts when the move begins the only member of a group has vouched for before
+  begin_vouched : u.quorums.n ≡ 1 → (at : ℕ) (m : group.Member) (r : Replica) → slice_get g.members at ≡ Some m → m.replica ≡ Some r → (x : Stored) → In x (in_view r.saved (here_in r)) → In (vouch_for at x) s.sent
+  begin_vouched alone at m r there runs x h =
+      let y = (bridge.members at m there).running r runs in
+      let sound : IsSound r = ((fit.members at m there).running r runs).0.sound in
+      let is = saved_views u s s at r (local m) (mid_of at m r there runs) in
+      let z = of_view r.saved (here_in r) x h in
+      let was = was_in r sound x.header z.2 in
+      subst (λ (v : ℕ). In (machine.Prepare_ok at v x.header.op x.header) s.sent) (sym (z.1 ∙ is.0)) (y.vouched alone (sym is.0 ∙ (z.0 ∙ is.1)) x.header.op x.header was.0 was.1)
+
+  before_running : u.quorums.n ≡ 1 → (m : group.Member) → slice_get g.members 0 ≡ Some m → (o : Option Replica) → m.replica ≡ o → (x : Stored) → In x (stored_from g []) → In (vouch_for 0 x) s.sent
+  before_running alone m there None is x h = absurd (subst (In x) (stored_none g m [] there is) h)
+  before_running alone m there (Some r) is x h =
+      let y = (bridge.members 0 m there).running r is in
+      begin_vouched alone 0 m r there is x (none_counted r x (subst (In x) (stored_is g m r [] there is y.stored.1) h))
+
+  before_vouched : u.quorums.n ≡ 1 → (o : Option group.Member) → slice_get g.members 0 ≡ o → (x : Stored) → In x (stored_from g []) → In (vouch_for 0 x) s.sent
+  before_vouched alone None is x h = absurd (subst (λ (p : Option group.Member). In x (option_map_or (λ (n : group.Member). stored_at n []) p [])) is h)
+  before_vouched alone (Some m) is x h = before_running alone m is m.replica refl x h
+
+  -- and for what comes to count by then
+  part_vouched : u.quorums.n ≡ 1 → (at : ℕ) (m : group.Member) (r : Replica) → slice_get g.members at ≡ Some m → m.replica ≡ Some r → at ≡ 0 → (es first : List Effect) (b : Group Header) → CountsNoMore r es first
+      → ((z : machine.Message Header) → In z s.sent → In z b.sent) → ((x : Stored) → In x (stored_by r.saved (here_in r) first) → In (vouch_for at x) b.sent) → (x : Stored) → In x (stored_from g es) → In (vouch_for 0 x) b.sent
+  part_vouched alone at m r there runs lowest es first b no_more kept counted x h =
+      let y = (bridge.members at m there).running r runs in
+      let it = no_more x (subst (In x) (stored_is g m r es (subst (λ k. slice_get g.members k ≡ Some m) lowest there) runs y.stored.1) h) in
+      subst (λ k. In (vouch_for k x) b.sent) lowest (elim (in_parts x (in_view r.saved (here_in r)) (stored_by r.saved (here_in r) first) it) [
+        | inl old ↦ kept _ (begin_vouched alone at m r there runs x old)
+        | inr new ↦ counted x new
+      ])
+
+  -- the place of the only member
+  place_of : u.quorums.n ≡ 1 → (at : ℕ) (m : group.Member) (r : Replica) → slice_get g.members at ≡ Some m → m.replica ≡ Some r → at ≡ 0
+  place_of alone at m r there runs =
+      let x = mid_of at m r there runs in
+      let member = x.sound.member in
+      let place = x.place in
+      let size = x.size in
+      omega arith
 
   arrives : (at : ℕ) (a : Arrival) (e : Event) → IsFitArrival a → IsArrival g at a e → MayArrive u s e
   arrives at (Asked q) e h i = rw i.1 (asked_may_come q i.0 h)
@@ -472,10 +567,12 @@ module _ (u : Setup) (fits : Fits u) (hash : u.hash ≡ lying.hash) (g : group.G
       let x = stepped e r d in
       let y = leaves x.script (local m) in
       let l : Local = carried x.script (local m) in
-      let well : ChoosesWell g (group.Steps at a e d) c.finishes.after.chosen (outputs x.script) = λ m2 r2 other line j. subst (λ (q : Replica). IsMadeFrom c.finishes.after.chosen e q line) (same_runs at m m2 r r2 there runs other) (w.choices line j) in (
+      let well : ChoosesWell g (group.Steps at a e d) c.finishes.after.chosen (outputs x.script) = λ m2 r2 other line j. subst (λ (q : Replica). IsMadeFrom c.finishes.after.chosen e q line) (same_runs at m m2 r r2 there runs other) (w.choices line j) in
+      let serves : ServesWell u g (group.Steps at a e d) c.begun.sent =
+      λ m2 r2 other. subst (λ (q : Replica). AreBacked u c.begun.sent (stepped e q d).replica.log_view (stepped e q d).replica.commit) (same_runs at m m2 r r2 there runs other) (serves_at u c.begun at x.replica l c.finishes.after c.finishes.ends) in (
         c.finishes.after,
-        ends_chained u g s bridge fit at x.script c.begun (ground_of u g s at x.script c.begun (begun_of u s at x.script c.begun c.begins)) (slice_get_within g.members at m there) (group.Steps at a e d) x.replica (carried_out x.script m) l c.finishes.after
-            (ends_of u several c.begun at x.replica l c.finishes.after c.finishes.ends) y.member y.made y.said c.tables well,
+        ends_chained u g s bridge fit at x.script [] x.script c.begun (ground_of u g s at x.script c.begun (begun_of u s at x.script c.begun c.begins)) (group.Steps at a e d) refl none_said (λ alone. absurd (omega arith)) (slice_get_within g.members at m there) x.replica (carried_out x.script m) l c.finishes.after
+            (ends_of u several c.begun at x.replica l c.finishes.after c.finishes.ends) y.member y.made y.said c.tables well serves,
       )
 
   steps_alone : u.quorums.n ≡ 1 → (at : ℕ) (a : Arrival) (e : Event) (d : Lying) (m : group.Member) (r : Replica) → slice_get g.members at ≡ Some m → m.replica ≡ Some r → IsFitArrival a → IsArrival g at a e → StepsSo at a e d m r
@@ -487,12 +584,20 @@ module _ (u : Setup) (fits : Fits u) (hash : u.hash ≡ lying.hash) (g : group.G
       let l : Local = carried x.script (local m) in
       let ends : Finished u c.ground at x.replica l c.finishes.after = rw (c.script, c.replica, carried_append c.first.script c.second.script (local m)) c.finishes.ends in
       let runs_there : group.Runs g at m r = record { member = there; running = runs } in
-      let held = held_more r c.first.replica c.first.script x.script (λ h j. subst (λ (ys : List Effect). In h (made_in ys)) (sym c.script) (made_front c.first.script c.second.script h j)) c.held in
-      let grounded = ground_vouched u alone g s at x.script m r runs_there c.first.replica (carried c.first.script (local m)) c.begun c.goes.after c.ground c.view held (begun_of u s at x.script c.begun c.begins) c.goes.ends.under c.grounds in
-      let well : ChoosesWell g (group.Steps at a e d) c.after.chosen (outputs x.script) = λ m2 r2 other line j. subst (λ (q : Replica). IsMadeFrom c.after.chosen e q line) (same_runs at m m2 r r2 there runs other) (w.choices line j) in (
+      let first : List Effect = c.first.script in
+      let second : List Effect = c.second.script in
+      let lowest = place_of alone at m r there runs in
+      let stored = ((bridge.members at m there).running r runs).stored in
+      let grounded = ground_vouched u alone g s at x.script first m r runs_there lowest stored.1 c.first.replica (carried first (local m)) c.begun c.goes.after c.ground c.held (begun_of u s at x.script c.begun c.begins) c.goes.ends.under c.grounds in
+      let no_more : CountsNoMore r x.script first = subst (λ (fs : List Effect). CountsNoMore r fs first) (ap (λ (fs : List Effect). first ++ fs) (take_all (length second) second (omega arith)) ∙ sym c.script) (c.late (length second)) in
+      let covers : Covers u g (group.Steps at a e d) x.script c.ground = λ one. part_vouched alone at m r there runs lowest x.script first c.ground no_more grounded.ground.before c.counted in
+      let quiet : Every AsksNothing (outputs first) = subst (Every AsksNothing) (leaves first (local m)).said c.silent in
+      let well : ChoosesWell g (group.Steps at a e d) c.after.chosen (outputs x.script) = λ m2 r2 other line j. subst (λ (q : Replica). IsMadeFrom c.after.chosen e q line) (same_runs at m m2 r r2 there runs other) (w.choices line j) in
+      let serves : ServesWell u g (group.Steps at a e d) c.ground.sent =
+      λ m2 r2 other. subst (λ (q : Replica). AreBacked u c.ground.sent (stepped e q d).replica.log_view (stepped e q d).replica.commit) (same_runs at m m2 r r2 there runs other) (serves_at u c.ground at x.replica l c.finishes.after ends) in (
         c.after,
-        ends_chained u g s bridge fit at x.script c.ground grounded (slice_get_within g.members at m there) (group.Steps at a e d) x.replica (carried_out x.script m) l c.after (ends_vouched u alone c.ground at x.replica l c.finishes.after c.after ends c.reached c.vouches) y.member y.made y.said
-            c.tables well,
+        ends_chained u g s bridge fit at x.script first second c.ground grounded (group.Steps at a e d) c.script quiet covers (slice_get_within g.members at m there) x.replica (carried_out x.script m) l c.after (ends_vouched u alone c.ground at x.replica l c.finishes.after c.after ends c.reached c.vouches) y.member y.made y.said
+            c.tables well serves,
       )
 
   steps_so : (at : ℕ) (a : Arrival) (e : Event) (d : Lying) (m : group.Member) (r : Replica) → slice_get g.members at ≡ Some m → m.replica ≡ Some r → IsFitArrival a → IsArrival g at a e → StepsSo at a e d m r
@@ -506,8 +611,11 @@ module _ (u : Setup) (fits : Fits u) (hash : u.hash ≡ lying.hash) (g : group.G
       let c = (chain_of several at a e d m r there runs h i).chain in
       let x = stepped e r d in
       let es : List Effect = take (k + 1) x.script in
-      let y = cut_so (Stopped u c.begun at) k x.script (local m) c.finishes.cuts c.finishes.stopped in
-      (y.stopped.group, stops_chained u g s bridge fit at es c.begun (ground_of u g s at es c.begun (begun_cut u s at k x.script c.begun c.begins)) (group.Cuts at a e d k) (cut_after k x.script m) y.left y.stopped y.member y.made tt)
+      let y = cut_so (Stopped u c.begun at) k x.script (local m) c.finishes.cuts c.finishes.stopped in (
+        y.stopped.group,
+        stops_chained u g s bridge fit at es [] (take k es) c.begun (ground_of u g s at es c.begun (begun_cut u s at k x.script c.begun c.begins)) (group.Cuts at a e d k) refl none_said (λ alone. absurd (omega arith)) (cut_after k x.script m) y.left y.stopped y.member y.made tt tt
+            (λ o j. line_true u c.begun.sent c.finishes.after.sent (outputs x.script) (subst (Every (IsTrue u c.begun.sent c.finishes.after.sent)) (leaves x.script (local m)).said c.finishes.ends.told) o (outputs_take (k + 1) x.script (output.Commit o) j)),
+      )
 
   -- it is cut before it has vouched, or behind that
   cuts_alone : u.quorums.n ≡ 1 → (at : ℕ) (a : Arrival) (e : Event) (d : Lying) (k : ℕ) (m : group.Member) (r : Replica) → slice_get g.members at ≡ Some m → m.replica ≡ Some r → IsFitArrival a → IsArrival g at a e → CutsSo at a e d k m r
@@ -517,36 +625,59 @@ module _ (u : Setup) (fits : Fits u) (hash : u.hash ≡ lying.hash) (g : group.G
       let es : List Effect = take (k + 1) x.script in
       let first : List Effect = c.first.script in
       let second : List Effect = c.second.script in
-      let l0 : Local = carried first (local m) in
-      let Has : Local → Type 0 = λ l. (h : Header) → In h (made_in first) → In h l.made in
-      let P : Local → Type 0 = λ l. Stopped u c.begun at l ⊎ (Stopped u c.ground at l × Has l) in
-      let has : Has l0 = λ h j. subst (In h) (sym (leaves first (local m)).made) j in
-      let last : Has (carried second l0) = λ h j. subst (In h) (sym (leaves second l0).made) (in_left h l0.made (made_in second) (has h j)) in
-      let cuts : WhereverCut P (first ++ second) (local m) =
-      cut_append P first second (local m) (cuts_so_too (Stopped u c.begun at) P (λ l z. inl z) first (local m) c.goes.cuts)
-      (cuts_so_too (λ l. Stopped u c.ground at l × Has l) P (λ l z. inr z) second l0 (cuts_holding (Stopped u c.ground at) (made_in first) second l0 has c.finishes.cuts)) in
-      let end : P (carried (first ++ second) (local m)) = inr (rw (carried_append first second (local m)) (c.finishes.stopped, last)) in
-      let y = cut_so P k x.script (local m) (rw c.script cuts) (rw c.script end) in
+      let move : Move = group.Cuts at a e d k in
       let begun = begun_cut u s at k x.script c.begun c.begins in
-      let runs_there : group.Runs g at m r = record { member = there; running = runs } in
-      let stopped : (b : Group Header) → Grounded u g s at es b → Stopped u b at y.left → CutsSo at a e d k m r =
-      λ b grounded z. (z.group, stops_chained u g s bridge fit at es b grounded (group.Cuts at a e d k) (cut_after k x.script m) y.left z y.member y.made tt) in
-      elim y.stopped [
-        | inl early ↦ stopped c.begun (ground_of u g s at es c.begun begun) early
+      let lowest = place_of alone at m r there runs in
+      let whole : take k es ≡ take k (first ++ second) = done_of k x.script ∙ ap (λ (fs : List Effect). take k fs) c.script in
+      elim (cases_lt k (length first)) [
+        | inl early ↦
+            let y = cut_at (Stopped u c.begun at) first (local m) k early c.goes.cuts in
+            let done : take k es ≡ take k first = whole ∙ take-append-le k first second (omega arith) in
+            let member : y.left.member ≡ cut_after k x.script m = y.member ∙ (sym (cut_front k first second m early) ∙ sym (ap (λ (fs : List Effect). cut_after k fs m) c.script)) in
+            let wrote : y.left.made ≡ made_in es = y.made ∙ (ap made_in (sym (take-append-le (k + 1) first second (omega arith))) ∙ sym (ap (λ (fs : List Effect). made_in (take (k + 1) fs)) c.script)) in
+            let no_more : CountsNoMore r (take k es) [] = subst (λ (fs : List Effect). CountsNoMore r fs []) (sym done) (c.early k early) in
+            let grounded = ground_of u g s at es c.begun begun in
+            let covers : Covers u g move es c.begun = λ one. part_vouched alone at m r there runs lowest (take k es) [] c.begun no_more grounded.ground.before (λ z j. absurd (none_stored r z j)) in
+            let starts : es ≡ take (k + 1) first = ap (λ (fs : List Effect). take (k + 1) fs) c.script ∙ take-append-le (k + 1) first second (omega arith) in
+            let none : (o : Committed) → In (output.Commit o) (outputs es) → ⊥ =
+            λ o j. in_every AsksNothing (outputs first) (output.Commit o) (outputs_take (k + 1) first (output.Commit o) (subst (λ (fs : List Effect). In (output.Commit o) (outputs fs)) starts j)) (subst (Every AsksNothing) (leaves first (local m)).said c.silent) in
+            (y.holds.group, stops_chained u g s bridge fit at es [] (take k es) c.begun grounded move refl none_said covers (cut_after k x.script m) y.left y.holds member wrote tt tt (λ o j. absurd (none o j)))
         | inr late ↦
-            let held = held_more r c.first.replica first es (λ h j. subst (In h) y.made (late.1 h j)) c.held in
-            stopped c.ground (ground_vouched u alone g s at es m r runs_there c.first.replica l0 c.begun c.goes.after c.ground c.view held begun c.goes.ends.under c.grounds) late.0
+            let j : ℕ = k - length first in
+            let l0 : Local = carried first (local m) in
+            let left = leaves first (local m) in
+            let y = cut_so (Stopped u c.ground at) j second l0 c.finishes.cuts c.finishes.stopped in
+            let place : length first + j ≡ k = omega arith in
+            let done : take k es ≡ first ++ take j second = whole ∙ (ap (λ (n : ℕ). take n (first ++ second)) (sym place) ∙ take-append-add first second j) in
+            let member : y.left.member ≡ cut_after k x.script m =
+            y.member ∙ (ap (cut_after j second) left.member ∙ (sym (cut_behind j k first second m (sym place)) ∙ sym (ap (λ (fs : List Effect). cut_after k fs m) c.script))) in
+            let behind : length first + (j + 1) ≡ k + 1 = omega arith in
+            let wrote : y.left.made ≡ made_in es =
+            y.made ∙ (ap (λ (hs : List Header). hs ++ made_in (take (j + 1) second)) left.made ∙ (sym (made_append first (take (j + 1) second)) ∙ (sym (ap made_in (take-append-add first second (j + 1))) ∙ (ap (λ (n : ℕ). made_in (take n (first ++ second))) behind ∙ sym (ap (λ (fs : List Effect). made_in (take (k + 1) fs)) c.script))))) in
+            let no_more : CountsNoMore r (take k es) first = subst (λ (fs : List Effect). CountsNoMore r fs first) (sym done) (c.late j) in
+            let runs_there : group.Runs g at m r = record { member = there; running = runs } in
+            let stored = ((bridge.members at m there).running r runs).stored in
+            let grounded = ground_vouched u alone g s at es first m r runs_there lowest stored.1 c.first.replica l0 c.begun c.goes.after c.ground c.held begun c.goes.ends.under c.grounds in
+            let covers : Covers u g move es c.ground = λ one. part_vouched alone at m r there runs lowest (take k es) first c.ground no_more grounded.ground.before c.counted in
+            let quiet : Every AsksNothing (outputs first) = subst (Every AsksNothing) left.said c.silent in
+            let sent = c.finishes.after.sent in
+            let told : Every (IsTrue u c.ground.sent sent) (outputs first ++ outputs second) = subst (Every (IsTrue u c.ground.sent sent)) ((leaves second l0).said ∙ ap (λ (os : List Output). os ++ outputs second) left.said) c.finishes.ends.told in
+            let said : outputs x.script ≡ outputs first ++ outputs second = ap outputs c.script ∙ outputs_append first second in (
+              y.stopped.group,
+              stops_chained u g s bridge fit at es first (take j second) c.ground grounded move done quiet covers (cut_after k x.script m) y.left y.stopped member wrote tt tt
+                  (λ o i. line_true u c.ground.sent sent (outputs first ++ outputs second) told o (subst (In (output.Commit o)) said (outputs_take (k + 1) x.script (output.Commit o) i))),
+            )
       ]
 
   cuts_so : (at : ℕ) (a : Arrival) (e : Event) (d : Lying) (k : ℕ) (m : group.Member) (r : Replica) → slice_get g.members at ≡ Some m → m.replica ≡ Some r → IsFitArrival a → IsArrival g at a e → CutsSo at a e d k m r
   cuts_so at a e d k m r there runs h i = elim (alone_or_several u fits) [ inl alone ↦ cuts_alone alone at a e d k m r there runs h i | inr several ↦ cuts_several several at a e d k m r there runs h i ]
 
   crashes_so : (at : ℕ) (m : group.Member) → slice_get g.members at ≡ Some m → (z : Group Header) × Chained u s z (record { before = g; move = group.Crashes at; moved = with_script g at (record m { replica = None }) [] [] })
-  unfolding made_in
+  unfolding made_in outputs
   crashes_so at m there =
       let x = bridge.members at m there in
       let y = stops u s at (local m) (local m) s (record { reached = bridge.reached; sent = refl; chosen = λ c h. h; others = λ j n. refl; disk = x.disk; made = tt; none_made = refl }) x.disk tt in
-      (y.group, stops_chained u g s bridge fit at [] s (ground_of u g s at [] s (begun_same u s at [])) (group.Crashes at) m (local m) y refl refl tt)
+      (y.group, stops_chained u g s bridge fit at [] [] [] s (ground_of u g s at [] s (begun_same u s at [])) (group.Crashes at) refl none_said (λ alone. before_vouched alone (slice_get g.members 0) refl) m (local m) y refl refl tt tt (λ o j. absurd j))
 
   -- ---- openings
 
@@ -570,6 +701,16 @@ module _ (u : Setup) (fits : Fits u) (hash : u.hash ≡ lying.hash) (g : group.G
         silent = tt;
       }
 
+  -- of a stopped member nothing counts
+  none_of_stopped : u.quorums.n ≡ 1 → (at : ℕ) (m : group.Member) (v : SuperValue) (d : Lying) → Opens g at m v d → ReadsWell lying d → (es : List Effect) (x : Stored) → In x (stored_from g es) → ⊥
+  none_of_stopped alone at m v d o reads es x h =
+      let b = may_begin at m v d o reads in
+      let member = (value_is v b.good b.several).member in
+      let place = b.place in
+      let size = b.size in
+      let lowest : at ≡ 0 = omega arith in
+      subst (In x) (stored_none g m es (subst (λ k. slice_get g.members k ≡ Some m) lowest o.member) o.stopped) h
+
   -- at its end a replica that is a group by itself vouches
   record OpenedSo (at : ℕ) (q : Replica) (l : Local) : Type 0 where
     after : Group Header
@@ -585,7 +726,7 @@ module _ (u : Setup) (fits : Fits u) (hash : u.hash ≡ lying.hash) (g : group.G
             record {
               after = v.0;
               ends = ends_vouched u alone s at q l c v.0 x v.1 v.2;
-              tables = λ b. tables_vouched u v.0 at q c v.2 (tables_hold u c v.0 at q q (holds_same q) v.2.made v.2.kept (tallies_of u c at q (tables b)));
+              tables = λ b. tables_vouched u v.0 at q c (in_order q x.sound) v.2 (tables_hold u c v.0 at q q (holds_same q) v.2.made v.2.kept (tallies_of u c at q (tables b)));
             }
       ]
 
@@ -601,9 +742,9 @@ module _ (u : Setup) (fits : Fits u) (hash : u.hash ≡ lying.hash) (g : group.G
       let found : k.member ≡ once_mended v d m = ap (keeps_all (group.found v d)) p.member in
       let z = opened_so at y.replica (carried y.script k) c.finishes.after c.finishes.ends c.tables in (
         z.after,
-        ends_chained u g s bridge fit at es s (ground_of u g s at es s (begun_same u s at es)) (slice_get_within g.members at m o.member) (group.Recovers at v d) y.replica (carried_out y.script (once_mended v d m)) (carried y.script k) z.after z.ends
+        ends_chained u g s bridge fit at es [] es s (ground_of u g s at es s (begun_same u s at es)) (group.Recovers at v d) refl none_said (λ alone z j. absurd (none_of_stopped alone at m v d o reads es z j)) (slice_get_within g.members at m o.member) y.replica (carried_out y.script (once_mended v d m)) (carried y.script k) z.after z.ends
             (q.member ∙ ap (carried_out y.script) found) (q.made ∙ (ap (λ (hs : List Header). hs ++ made_in y.script) p.made ∙ sym (made_append x.script y.script)))
-            (q.said ∙ (ap (λ (os : List Output). os ++ outputs y.script) p.said ∙ sym (outputs_append x.script y.script))) z.tables tt,
+            (q.said ∙ (ap (λ (os : List Output). os ++ outputs y.script) p.said ∙ sym (outputs_append x.script y.script))) z.tables tt tt,
       )
 
   starts_cut_so : (at : ℕ) (m : group.Member) (v : SuperValue) (d : Lying) (k : ℕ) → Opens g at m v d → ReadsWell lying d → (z : Group Header) × Chained u s z (record { before = g; move = group.RecoversCut at v d k; moved = group.start_cut g at m v d k })
@@ -614,9 +755,14 @@ module _ (u : Setup) (fits : Fits u) (hash : u.hash ≡ lying.hash) (g : group.G
       let p = leaves x.script (local m) in
       let l : Local = keeping v x (carried x.script (local m)) in
       let found : l.member ≡ once_mended v d m = ap (keeps_all (group.found v d)) p.member in
+      let said : (carried y.script l).said ≡ outputs (opening_script v d) = (leaves y.script l).said ∙ (ap (λ (os : List Output). os ++ outputs y.script) p.said ∙ sym (outputs_append x.script y.script)) in
       let es : List Effect = take (k + 1) (opening_script v d) in
       let chained : (w : group.Member) (j : Local) (z : Stopped u s at j) → j.member ≡ w → j.made ≡ made_in es → w ≡ cut_in_two x.script y.script (keeps_all (group.found v d)) k m → (z : Group Header) × Chained u s z (record { before = g; move = group.RecoversCut at v d k; moved = group.start_cut g at m v d k }) =
-      λ w j z member made is. (z.group, stops_chained u g s bridge fit at es s (ground_of u g s at es s (begun_same u s at es)) (group.RecoversCut at v d k) (cut_in_two x.script y.script (keeps_all (group.found v d)) k m) j z (member ∙ is) made tt) in
+      λ w j z member made is. (
+        z.group,
+        stops_chained u g s bridge fit at es [] (take k es) s (ground_of u g s at es s (begun_same u s at es)) (group.RecoversCut at v d k) refl none_said (λ alone x h. absurd (none_of_stopped alone at m v d o reads (take k es) x h)) (cut_in_two x.script y.script (keeps_all (group.found v d)) k m) j z (member ∙ is) made tt tt
+            (λ w i. line_true u s.sent c.finishes.after.sent (outputs (opening_script v d)) (subst (Every (IsTrue u s.sent c.finishes.after.sent)) said c.finishes.ends.told) w (outputs_take (k + 1) (opening_script v d) (output.Commit w) i)),
+      ) in
       elim (cases_lt k (length x.script)) [
         | inl first ↦
             let z = cut_at (Stopped u s at) x.script (local m) k first c.mends in

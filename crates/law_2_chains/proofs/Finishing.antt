@@ -12,7 +12,9 @@ use Rattle.law_1_machine.specs.Basics.{In}
 use Rattle.law_1_machine.specs.Group.{Group, sends}
 use Rattle.law_1_machine.specs.Members.{Memory, Message}
 use Rattle.law_1_machine.specs.Members as machine
-use Rattle.law_1_machine.specs.Laws.{Backed}
+use Rattle.law_1_machine.specs.Headers.{Headers}
+use Rattle.law_1_machine.specs.Laws.{Backed, Committed, at_root, stands_on}
+use Rattle.law_1_machine.specs.Quorums.{Quorums}
 use Rattle.law_1_machine.specs.Machine as move
 use Rattle.law_1_machine.proofs.Laws.{log_backed}
 use Rattle.law_1_machine.proofs.Moves.{memory_of, reached_good}
@@ -23,6 +25,12 @@ use Rattle.vr_world.specs.Deciding.{log_of}
 use Rattle.law_2_chains.specs.Chains.{WasMade, Setup, IsReached, WasSent, MayBeSent, MayBeSaid, Every, Mid, Goes}
 use Rattle.law_2_chains.proofs.Moving.{stops}
 use Rattle.law_2_chains.specs.Finished.{AreBacked, IsSaid, acknowledged, prepared, a_commit, a_start, a_checkpoint, a_statement, IsTrue, Finished, Finishes}
+
+-- where more was sent, what is committed stays so
+pub committed_more : {H : Type 0} (q : Quorums) (hs : Headers H) (a b : List (Message H)) → ((m : Message H) → In m a → In m b) → (u k : ℕ) (c : H) → Committed q hs a u k c → Committed q hs b u k c
+committed_more q hs a b f _ _ _ at_root = at_root
+committed_more q hs a b f _ _ _ (stands_on u v k c d le before e set enough each) =
+    stands_on u v k c d le (committed_more q hs a b f v k d before) e set enough (λ i l t. elim (each i l t) [ inl h ↦ inl (f _ h) | inr p ↦ inr (p.0, (p.1.0, f _ p.1.1)) ])
 
 -- more was sent
 pub sent_more : (u : Setup) (a b : List (Message Header)) → ((m : Message Header) → In m a → In m b) → (x : Frame) → WasSent u a x → WasSent u b x

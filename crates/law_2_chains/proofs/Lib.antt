@@ -20,6 +20,8 @@ pub mod Visits
 pub mod Counting
 pub mod NewEntries
 pub mod Requests
+pub mod StoredLists
+pub mod Calm
 pub mod LoneSteps
 pub mod LoneRequests
 pub mod Choosing
@@ -47,6 +49,7 @@ pub mod Resuming
 pub mod Opening
 pub mod Sizes
 pub mod Fresh
+pub mod Grounds
 pub mod Bridging
 pub mod Waking
 pub mod Facts
@@ -65,6 +68,7 @@ pub use Rattle.vr_world.proofs.InTwo
 pub use Rattle.vr_world.proofs.Keeping
 pub use Rattle.vr_world.proofs.Openings
 pub use Rattle.vr_world.proofs.Reacting
+pub use Rattle.vr_world.proofs.Rising
 pub use Rattle.vr_world.proofs.Ruling
 pub use Rattle.vr_world.proofs.SendsOpening
 pub use Rattle.vr_world.proofs.SendsScripts

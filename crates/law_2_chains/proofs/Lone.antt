@@ -11,9 +11,10 @@ use Rattle.vr_world.specs.Replica.{Replica, part_at}
 use Rattle.law_1_machine.specs.Basics.{In}
 use Rattle.law_1_machine.specs.Group.{Group, sends}
 use Rattle.law_1_machine.specs.Machine as move
+use Rattle.law_1_machine.proofs.Moves.{memory_of, reached_good}
 use Rattle.law_1_machine.specs.Members.{Message, Prepare_ok}
 use Rattle.law_2_chains.specs.Local.{Local}
-use Rattle.law_2_chains.specs.Reflecting.{IsDisk}
+use Rattle.law_2_chains.specs.Reflecting.{IsDisk, IsValue, entries_by}
 use Rattle.law_2_chains.specs.Chains.{Setup, IsReached, Every, AsksNothing, WasMade, Mid}
 use Rattle.law_2_chains.specs.Finished.{Finished}
 use Rattle.law_2_chains.specs.Lone.{IsStored, Vouched}
@@ -88,9 +89,9 @@ module _ (u : Setup) (i : ℕ) (r : Replica) (l : Local) (free : Every AsksNothi
     made : after.made ≡ s.made
     chosen : after.chosen ≡ s.chosen
     members : after.members ≡ s.members
-    all : (k : ℕ) (h : Header) → In k xs → part_at r k ≡ Here h → In (Prepare_ok i r.view k h) after.sent
+    all : (k : ℕ) (h : Header) → In k xs → r.checkpoint < k → part_at r k ≡ Here h → In (Prepare_ok i r.view k h) after.sent
 
-  none : (k : ℕ) (s : Group Header) → Mid u s i r l s → ((h : Header) → part_at r k ≡ Here h → ⊥) → Told (k ∷ []) s
+  none : (k : ℕ) (s : Group Header) → Mid u s i r l s → ((h : Header) → r.checkpoint < k → part_at r k ≡ Here h → ⊥) → Told (k ∷ []) s
   none k s x not = record {
     after = s;
     mid = x;
@@ -99,11 +100,11 @@ module _ (u : Setup) (i : ℕ) (r : Replica) (l : Local) (free : Every AsksNothi
     made = refl;
     chosen = refl;
     members = refl;
-    all = λ j h within e. elim within [ inl same ↦ absurd (not h (subst (λ n. part_at r n ≡ Here h) same e)) | inr empty ↦ absurd empty ];
+    all = λ j h within above e. elim within [ inl same ↦ absurd (not h (omega (arith, same, above)) (subst (λ n. part_at r n ≡ Here h) same e)) | inr empty ↦ absurd empty ];
   }
 
-  some : (k : ℕ) (h : Header) (s : Group Header) → Mid u s i r l s → part_at r k ≡ Here h → Told (k ∷ []) s
-  some k h s x is =
+  some : (k : ℕ) (h : Header) (s : Group Header) → Mid u s i r l s → r.checkpoint < k → part_at r k ≡ Here h → Told (k ∷ []) s
+  some k h s x up is =
       let v = may_vouch u s i r l s x k h begun is in
       let b : Group Header = sends s (Prepare_ok i x.memory.log_view k h) in
       let log : x.memory.log_view ≡ r.view = v.of_log in
@@ -113,13 +114,13 @@ module _ (u : Setup) (i : ℕ) (r : Replica) (l : Local) (free : Every AsksNothi
         mid = rooted u s i r l s b x free reached refl refl;
         kept = λ m g. inr g;
         only = λ m g. elim g [
-          | inl e ↦ inr (record { op = k; header = h; here = is; is = e ∙ ap (λ w. Prepare_ok i w k h) log })
+          | inl e ↦ inr (record { begun = begun; op = k; above = up; header = h; here = is; is = e ∙ ap (λ w. Prepare_ok i w k h) log })
           | inr old ↦ inl old
         ];
         made = refl;
         chosen = refl;
         members = refl;
-        all = λ j g within e. elim within [
+        all = λ j g within above e. elim within [
           | inl same ↦
               let at : Here h ≡ Here g = sym is ∙ subst (λ n. part_at r n ≡ Here g) same e in
               let one : g ≡ h = cc in
@@ -129,14 +130,14 @@ module _ (u : Setup) (i : ℕ) (r : Replica) (l : Local) (free : Every AsksNothi
       }
 
   by_part : (k : ℕ) (p : Part) (s : Group Header) → Mid u s i r l s → part_at r k ≡ p → Told (k ∷ []) s
-  by_part k (Here h) s x e = some k h s x e
-  by_part k (Lost h) s x e = none k s x (λ g f. let z = sym e ∙ f in cc)
-  by_part k (Wanted h) s x e = none k s x (λ g f. let z = sym e ∙ f in cc)
-  by_part k Unknown s x e = none k s x (λ g f. let z = sym e ∙ f in cc)
-  by_part k Nothing s x e = none k s x (λ g f. let z = sym e ∙ f in cc)
+  by_part k (Here h) s x e = elim (cases_lt r.checkpoint k) [ inl above ↦ some k h s x above e | inr low ↦ none k s x (λ g above f. omega (arith, low, above)) ]
+  by_part k (Lost h) s x e = none k s x (λ g above f. let z = sym e ∙ f in cc)
+  by_part k (Wanted h) s x e = none k s x (λ g above f. let z = sym e ∙ f in cc)
+  by_part k Unknown s x e = none k s x (λ g above f. let z = sym e ∙ f in cc)
+  by_part k Nothing s x e = none k s x (λ g above f. let z = sym e ∙ f in cc)
 
   tell : (xs : List ℕ) (s : Group Header) → Mid u s i r l s → Told xs s
-  tell [] s x = record { after = s; mid = x; kept = λ m h. h; only = λ m h. inl h; made = refl; chosen = refl; members = refl; all = λ k h j e. absurd j }
+  tell [] s x = record { after = s; mid = x; kept = λ m h. h; only = λ m h. inl h; made = refl; chosen = refl; members = refl; all = λ k h j above e. absurd j }
   tell (k ∷ ks) s x =
       let one = by_part k (part_at r k) s x refl in
       let rest = tell ks one.after one.mid in
@@ -148,9 +149,9 @@ module _ (u : Setup) (i : ℕ) (r : Replica) (l : Local) (free : Every AsksNothi
         made = rest.made ∙ one.made;
         chosen = rest.chosen ∙ one.chosen;
         members = rest.members ∙ one.members;
-        all = λ j h within e. elim within [
-          | inl same ↦ rest.kept _ (one.all j h (inl same) e)
-          | inr later ↦ rest.all j h later e
+        all = λ j h within above e. elim within [
+          | inl same ↦ rest.kept _ (one.all j h (inl same) above e)
+          | inr later ↦ rest.all j h later above e
         ];
       }
 
@@ -165,7 +166,7 @@ module _ (u : Setup) (i : ℕ) (r : Replica) (l : Local) (free : Every AsksNothi
           made = y.made;
           chosen = y.chosen;
           members = y.members;
-          all = λ begun k h e. let p = within_parts r k h e in y.all k h (in_range (length r.parts) r.first k p.0 p.1) e;
+          all = λ begun k h above e. let p = within_parts r k h e in y.all k h (in_range (length r.parts) r.first k p.0 p.1) above e;
         },
       )
 
@@ -186,3 +187,13 @@ pub vouches_at_end : (u : Setup) (start : Group Header) (i : ℕ) (r : Replica) 
 vouches_at_end u start i r l s x =
     let y = vouches u s s i r (record l { said = [] }) (ended u start i r l s x) tt in
     (y.0, y.1.under.reached, y.2)
+
+-- the value that a replica saved last is of its view and log view
+pub saved_views : (u : Setup) (start s : Group Header) (i : ℕ) (r : Replica) (l : Local) → Mid u start i r l s → (r.saved.fields.view ≡ r.view) × (r.saved.fields.log_view ≡ r.log_view)
+saved_views u start s i r l x =
+    let q = u.quorums in
+    let hs = entries_by u.hash u.cluster in
+    let good = reached_good q hs s x.under.reached in
+    let tied = (memory_of q hs good.0 s good.1 i x.memory x.running).0 in
+    let value : IsValue r.saved (s.members i).last = subst (λ v. IsValue v (s.members i).last) x.stored.1 x.under.disk.last in
+    (sym value.view ∙ (sym tied.view ∙ x.reflects.view), sym value.log_view ∙ (sym tied.log_view ∙ x.reflects.log_view))

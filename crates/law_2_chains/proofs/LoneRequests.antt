@@ -1,19 +1,20 @@
 -- A request at a replica that is a group by itself: what it has just made and stored is counted, since it has vouched for that.
-use Rattle.std.proofs.Common.{ℕ, ◌+◌, ◌%◌, ◌≤◌, ◌<◌, ◌≡◌, ◌∙◌, inl, inr, arith, refl, sym, ap, subst, true, List, [], ◌∷◌, map, is_some}
+use Rattle.std.proofs.Common.{ℕ, zero, suc, ◌+◌, ◌%◌, ◌≤◌, ◌<◌, ◌≡◌, ◌∙◌, inl, inr, arith, refl, sym, ap, subst, true, List, [], ◌∷◌, ◌++◌, map, take, is_some}
 use Rattle.vr_base.specs.declared.replicas.Replicas.{Replicas}
-use Rattle.vr_base.specs.Replicas.{has_replica, size}
+use Rattle.vr_base.specs.Replicas.{has_replica}
 use Rattle.vr_header.specs.declared.header.Header.{Header}
 use Rattle.vr_header.specs.Made.{Whole}
 use Rattle.vr_msg.specs.declared.event.Event.{Event}
 use Rattle.vr_msg.specs.declared.frame.Frame.TheVariants as frame
 use Rattle.vr_msg.specs.declared.request.RequestFields.{RequestFields}
 use Rattle.vr_world.specs.Sound.{IsNameBytes}
-use Rattle.vr_world.specs.Replica.{Replica, last_view, replication, head, header_at}
+use Rattle.vr_world.specs.Commitment.{Stored}
+use Rattle.vr_world.specs.Replica.{Replica, forgetting, last_view, replication, head, header_at, with_part}
 use Rattle.vr_world.specs.Outputs.{prepare, send_to_all}
 use Rattle.vr_world.specs.Steps.{Effect, Say, Setting, Step, ◌⨾◌, change, does, says, after_all}
 use Rattle.vr_world.specs.Words.{writes, write, stored, advance}
 use Rattle.vr_world.specs.Rules.{make, on_request}
-use Rattle.vr_world.specs.Group.{made_in}
+use Rattle.vr_world.specs.Storing.{here_in, in_view, stored_by}
 use Rattle.vr_world.specs.Laws.{IsMessage}
 use Rattle.vr_world.specs.Deciding.{first_of, request_table}
 use Rattle.vr_world.proofs.SilentSteps.{mute_request}
@@ -27,7 +28,7 @@ use Rattle.law_2_chains.specs.Local.{Local, carried}
 use Rattle.law_2_chains.specs.Chains.{Setup, Every, AsksNothing, Mid, Goes}
 use Rattle.law_2_chains.specs.Begins.{one_made, with_made}
 use Rattle.law_2_chains.specs.Finished.{Finishes}
-use Rattle.law_2_chains.specs.Lone.{IsLoneChain, LoneChooses, Vouched}
+use Rattle.law_2_chains.specs.Lone.{CountsNoMore, IsLoneChain, IsStored, LoneChooses, Vouched, counted_by, vouch_for}
 use Rattle.law_2_chains.specs.Tables.{HasVouchedAt}
 use Rattle.law_2_chains.proofs.Tallies.{Tallies, tables_vouched}
 use Rattle.law_2_chains.proofs.Scripts.{every_append}
@@ -37,12 +38,23 @@ use Rattle.law_2_chains.proofs.Learning.{HasVouched, goes_advance}
 use Rattle.law_2_chains.proofs.Finishing.{goes_finishes}
 use Rattle.law_2_chains.proofs.Repairs.{leads_is, may_prepare}
 use Rattle.law_2_chains.proofs.Counting.{counts, counted_has, counted_within, quorum_vouched, voter}
-use Rattle.law_2_chains.proofs.NewEntries.{MayMake, by_request, fields, made, makes, mid_makes, not_made, now}
-use Rattle.law_2_chains.proofs.Lone.{vouches, vouches_at_end}
-use Rattle.law_2_chains.proofs.LoneSteps.{lone_goes, lone_mute}
+use Rattle.law_2_chains.proofs.NewEntries.{MayMake, by_request, fields, makes, mid_makes, not_made, now}
+use Rattle.law_2_chains.proofs.Calm.{Calms, calms_advance, calms_says, calms_then}
+use Rattle.law_2_chains.proofs.Lone.{saved_views, vouches, vouches_at_end}
+use Rattle.law_2_chains.proofs.LoneSteps.{begins_counted, begins_held, in_order, lone_goes, lone_mute}
+use Rattle.law_2_chains.proofs.StoredLists.{IsCalm, counts_late, held_by, in_its, in_parts, of_view, view_has}
 use Rattle.law_2_chains.proofs.Staying.{stays_advance}
-use Rattle.law_2_chains.proofs.Tabling.{tables_stay}
+use Rattle.law_2_chains.proofs.Tabling.{in_left, in_right, tables_stay}
 use Rattle.law_2_chains.proofs.TabledWords.{tables_stored}
+
+stored_checkpoint : (e : Whole) (r : Replica) → (stored e r).checkpoint ≡ r.checkpoint
+unfolding forgetting with_part
+stored_checkpoint e r = refl
+
+-- before the Write has finished nothing counts but what did
+made_early : (e : Whole) (r : Replica) (k : ℕ) → k < 1 → CountsNoMore r (take k (writes e r ∷ [])) []
+made_early e r zero l x h = h
+made_early e r (suc k) l x h = absurd (omega arith)
 
 module _ (u : Setup) (quorum : replication u.quorums.n ≡ u.quorums.replication) where
   module _ (start : Group Header) (i : ℕ) (e : Whole) (r : Replica) (l : Local) (y : MayMake u start i e r l) where
@@ -88,7 +100,7 @@ module _ (u : Setup) (quorum : replication u.quorums.n ≡ u.quorums.replication
         quorum_vouched u quorum b i q k w.size (counted_has q k above within) (λ j t. elim (voter q k j t) [
           | inl mine ↦
               let place : j ≡ i = mine.0 ∙ w.place in
-              let vouch = has.all view k mine.1.0 mine.1.1 in
+              let vouch = has.all view k mine.1.0 (let c = in_order q w.sound in omega arith) mine.1.1 in
               rw place (let m = w.place in omega arith, (mine.1.0, inl (subst (λ g. In (Prepare_ok i g k mine.1.0) b.sent) view vouch)))
           | inr acker ↦
               let over : r.checkpoint < k = omega arith in
@@ -102,9 +114,60 @@ module _ (u : Setup) (quorum : replication u.quorums.n ≡ u.quorums.replication
         (goes_says_then u b i (send_to_all (prepare e)) advance t q d _ b w (may_prepare u b i e q _ b w view (c.0 ∙ (p.1 ∙ rw (v.0, c.2) refl)) (stored_here e r sound y.may)) (λ k a d z.
         goes_advance u b i t q d k a z (counted_within q z.sound.order.known) each))
 
+    -- what counts
+
+    calms_prepares : {F : Type 0} → Calms {F = F} (says (send_to_all (prepare e)) ⨾ advance)
+    calms_prepares = calms_then _ _ (calms_says (send_to_all (prepare e))) calms_advance
+
+    saved_is : (r.saved.fields.view ≡ r.view) × (r.saved.fields.log_view ≡ r.log_view)
+    saved_is = saved_views u start start i r l y.mid
+
+    writes_counted : r.view ≡ r.log_view → In (in_its r.view e.header) (stored_by r.saved (here_in r) (wrote ∷ []))
+    unfolding stored_by
+    writes_counted begun = in_left _ (in_view r.saved (e.header ∷ [])) [] (view_has r.saved (e.header ∷ []) r.view e.header saved_is.0 (saved_is.1 ∙ sym begun) (inl refl))
+
+    made_based : (h : Header) → In h (held_by (here_in r) (wrote ∷ [])) → q.view ≡ q.log_view → In (in_its q.view h) (counted_by r (wrote ∷ []))
+    unfolding held_by
+    made_based h j begun =
+        let v = stored_views e r y.mid.sound y.may in
+        let begun_r : r.view ≡ r.log_view = sym v.0 ∙ (begun ∙ v.1) in
+        subst (λ (w : ℕ). In (in_its w h) (counted_by r (wrote ∷ []))) (sym v.0) (elim j [
+          | inl new ↦ subst (λ (g : Header). In (in_its r.view g) (counted_by r (wrote ∷ []))) (sym new) (in_right _ (in_view r.saved (here_in r)) (stored_by r.saved (here_in r) (wrote ∷ [])) (writes_counted begun_r))
+          | inr old ↦ in_left _ (in_view r.saved (here_in r)) (stored_by r.saved (here_in r) (wrote ∷ [])) (begins_counted u start i r l y.mid y.free h begun_r old)
+        ])
+
+    made_late : (es : List Effect) → Every (IsCalm q.view q.log_view) es → (k : ℕ) → CountsNoMore r ((wrote ∷ []) ++ take k es) (wrote ∷ [])
+    made_late es calm k = counts_late r q.view q.log_view (wrote ∷ []) es calm made_based k
+
+    made_held : (m : Message Header) → IsStored i q m → (x : Stored) × In x (counted_by r (wrote ∷ [])) × (m ≡ vouch_for i x)
+    made_held m x =
+        let v = stored_views e r y.mid.sound y.may in
+        let begun_r : r.view ≡ r.log_view = sym v.0 ∙ (x.begun ∙ v.1) in
+        elim (stored_held e r y.mid.sound y.may x.op x.header x.here) [
+          | inl old ↦ begins_held u start i r l y.mid y.free (wrote ∷ []) m (record { begun = begun_r; op = x.op; above = subst (λ c. c < x.op) (stored_checkpoint e r) x.above; header = x.header; here = old; is = x.is ∙ ap (λ w. Prepare_ok i w x.op x.header) v.0 })
+          | inr new ↦ (
+            in_its r.view e.header,
+            in_right _ (in_view r.saved (here_in r)) (stored_by r.saved (here_in r) (wrote ∷ [])) (writes_counted begun_r),
+            x.is ∙ (ap (λ w. Prepare_ok i w x.op x.header) v.0 ∙ (ap (λ k. Prepare_ok i r.view k x.header) (sym new.1) ∙ ap (λ (g : Header). Prepare_ok i r.view e.header.op g) new.0)),
+          )
+        ]
+
+    made_counted : (b : Group Header) → In (Prepare_ok i r.view e.header.op e.header) b.sent → (x : Stored) → In x (stored_by r.saved (here_in r) (wrote ∷ [])) → In (vouch_for i x) b.sent
+    unfolding stored_by
+    made_counted b vouch x j =
+        elim (in_parts x (in_view r.saved (e.header ∷ [])) [] j) [
+          | inl it ↦
+              let z = of_view r.saved (e.header ∷ []) x it in
+              elim z.2 [
+                | inl same ↦ subst (λ (g : Header). In (Prepare_ok i x.view g.op g) b.sent) (sym same) (subst (λ (w : ℕ). In (Prepare_ok i w e.header.op e.header) b.sent) (sym (z.1 ∙ saved_is.0)) vouch)
+                | inr none ↦ absurd none
+              ]
+          | inr none ↦ absurd none
+        ]
+
     -- where the first part ended it vouches; then it goes on
     lone_make : {F : Type 0} (t : Setting F) (f : F) → IsLoneChain u start i l r (make e t r f)
-    unfolding make write does change ◌⨾◌ says made_in
+    unfolding make write does change ◌⨾◌ says
     lone_make t f =
         let sound = y.mid.sound in
         let may = y.may in
@@ -121,7 +184,9 @@ module _ (u : Setup) (quorum : replication u.quorums.n ≡ u.quorums.replication
         let view = stored_views e r sound may in
         let begun_view : q.view ≡ q.log_view = view.0 ∙ (p.0 ∙ sym view.1) in
         let here = stored_here e r sound may in
-        let vouch : HasVouchedAt u w.0 r.view e.header.op i = (e.header, inl (w.2.kept _ (h.ends.kept _ (subst (λ (n : ℕ). In (Prepare_ok i n e.header.op e.header) v.0.sent) view.0 (v.2.all begun_view e.header.op e.header here))))) in
+        let above : q.checkpoint < e.header.op = subst (λ c. c < e.header.op) (sym (stored_checkpoint e r)) may.above in
+        let it_vouches : In (Prepare_ok i q.view e.header.op e.header) v.0.sent = v.2.all begun_view e.header.op e.header above here in
+        let vouch : HasVouchedAt u w.0 r.view e.header.op i = (e.header, inl (w.2.kept _ (h.ends.kept _ (subst (λ (n : ℕ). In (Prepare_ok i n e.header.op e.header) v.0.sent) view.0 it_vouches)))) in
         let made_is : w.0.made ≡ begun.made = w.2.made ∙ (h.ends.none_made ∙ (v.2.made ∙ a.under.none_made)) in
         let up = stored_next e r sound may y.op in
         let over = stored_up e r sound may in
@@ -140,15 +205,17 @@ module _ (u : Setup) (quorum : replication u.quorums.n ≡ u.quorums.replication
           begins = one_made _ e _ refl first_place (not_made u start i e r l y);
           goes = g;
           silent = silent;
-          view = view.0;
-          held = λ k h is. elim (stored_held e r sound may k h is) [ inl old ↦ inl old | inr new ↦ inr (inl new.0, ap (λ (g : Header). g.op) new.0 ∙ new.1) ];
+          early = made_early e r;
+          late = made_late second.script (calms_prepares.every t q d);
           ground = v.0;
           grounds = v.2;
+          held = made_held;
+          counted = λ x j. made_counted v.0 (subst (λ (n : ℕ). In (Prepare_ok i n e.header.op e.header) v.0.sent) view.0 it_vouches) x j;
           finishes = h;
           after = w.0;
           reached = w.1;
           vouches = w.2;
-          tables = λ b. tables_vouched u w.0 i second.replica h.after w.2 (tables_stay u start i advance t q (after_all t d (map Say (send_to_all (prepare e) q))) w.0 stays_advance (kept_stored e r sound may).sound stored_tables);
+          tables = λ b. tables_vouched u w.0 i second.replica h.after (in_order second.replica h.ends.sound) w.2 (tables_stay u start i advance t q (after_all t d (map Say (send_to_all (prepare e) q))) w.0 stays_advance (kept_stored e r sound may).sound stored_tables);
         }
 
   pub lone_request : {F : Type 0} (start : Group Header) (i : ℕ) (event : Event) (q : RequestFields) (t : Setting F) (r : Replica) (f : F) (l : Local) → Mid u start i r l start → Tallies u start i r → t.hash ≡ u.hash → r.cluster ≡ u.cluster
@@ -157,4 +224,4 @@ module _ (u : Setup) (quorum : replication u.quorums.n ≡ u.quorums.replication
   unfolding on_request
   lone_request start i event q t r f l x tables same group names last top free m =
       lone_mute u start i event (on_request q) (mute_naming _ (λ hash. mute_by _ (λ r. mute_request hash q (first_of (request_table q r))))) t r f l
-      (by_request u start i (IsLoneChain u start i l r) q t r f l (λ z go. lone_goes u start i r l x free z tables go) (λ e y. lone_make start i e r l y t f) x tables same group names last top free m)
+      (by_request u start i (IsLoneChain u start i l r) q t r f l (λ z calm go. lone_goes u start i r l x free z calm tables go) (λ e y. lone_make start i e r l y t f) x tables same group names last top free m)

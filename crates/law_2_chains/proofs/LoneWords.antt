@@ -7,7 +7,7 @@ use Rattle.vr_msg.specs.declared.choice.Choice.TheVariants.{Ends, TooFew, WaitsA
 use Rattle.vr_world.specs.Outputs.{do_view_change, send_to_all, start_view_change, to_primary}
 use Rattle.vr_world.specs.Replica.{Replica, is_primary, is_started, view_change}
 use Rattle.vr_world.specs.Rules.{changing_ticks, idler, next_view}
-use Rattle.vr_world.specs.Steps.{Setting, ◌⨾◌, by, change, naming, says, when}
+use Rattle.vr_world.specs.Steps.{Setting, ◌⨾◌, by, change, says, when}
 use Rattle.vr_world.specs.Words.{apply, ask, begin_view, decided, obey_choice, speak, stated, try, try_log, visit}
 use Rattle.law_2_chains.specs.LoneWords.{begin_ending, obey_choice_ending, speak_ending, ticks_ending, try_ending, try_log_ending}
 use Rattle.law_2_chains.proofs.LoneTicks.{same_then, then_same}

@@ -42,6 +42,8 @@ use Rattle.law_2_chains.proofs.Writing.{told_header, stored_fields}
 use Rattle.law_2_chains.proofs.Staying.{Stays, stays_quiet, stays_says}
 use Rattle.law_2_chains.proofs.Tabling.{Tabled, tabled_stays}
 use Rattle.law_2_chains.proofs.Repairs.{leads_is}
+use Rattle.law_2_chains.proofs.Calm.{Calms, calms_quiet, calms_says}
+use Rattle.law_2_chains.proofs.StoredLists.{IsCalm}
 
 same_text : (xs : List ℕ) → pointwise nat_eq xs xs ≡ true
 same_text [] = refl
@@ -170,6 +172,13 @@ stays_reply a answer.Old = stays_says _
 stays_reply a answer.Gap = stays_says _
 stays_reply a answer.Evicted = stays_says _
 
+pub calms_reply : {F : Type 0} (a : Asker) (x : SessionAnswer) → Calms {F = F} (stored_reply a x)
+calms_reply a answer.Fresh = calms_quiet
+calms_reply a (answer.Repeat outcome op) = calms_says _
+calms_reply a answer.Old = calms_says _
+calms_reply a answer.Gap = calms_says _
+calms_reply a answer.Evicted = calms_says _
+
 -- what it writes first
 pub make_script : {F : Type 0} (e : Whole) (t : Setting F) (r : Replica) (f : F) → (later : List Effect) × ((make e t r f).script ≡ writes e r ∷ later)
 unfolding make write does change ◌⨾◌
@@ -177,16 +186,16 @@ make_script e t r f = (((says (send_to_all (prepare e)) ⨾ advance) t (stored e
 
 module _ (u : Setup) (start : Group Header) (i : ℕ) where
   -- what is asked of the handling of a request holds, where it holds of each way to handle it
-  pub by_request : {F : Type 0} (P : Step → Type 0) (q : RequestFields) (t : Setting F) (r : Replica) (f : F) (l : Local) → ((z : Step) → ((s : Group Header) → Mid u s i r l s → Tallies u s i r → Goes u s i l z × Tabled u s i z) → P z)
+  pub by_request : {F : Type 0} (P : Step → Type 0) (q : RequestFields) (t : Setting F) (r : Replica) (f : F) (l : Local) → ((z : Step) → Every (IsCalm r.view r.log_view) z.script → ((s : Group Header) → Mid u s i r l s → Tallies u s i r → Goes u s i l z × Tabled u s i z) → P z)
       → ((e : Whole) → MayMake u start i e r l → P (make e t r f)) → Mid u start i r l start → Tallies u start i r → t.hash ≡ u.hash → r.cluster ≡ u.cluster → ((bytes : List ℕ) → IsNameBytes (t.hash bytes)) → r.view ≤ last_view
       → (0 < head r → is_some (header_at r (head r)) ≡ true) → Every AsksNothing l.said → IsMessage (frame.Request q) → P (on_request q t r f)
   unfolding on_request naming by
   by_request P q t r f l so makes_it x tables same group names last top free m =
       let h = x.sound in
-      let idle = so (quiet t r f) (λ s y z. (goes_quiet u s i t r f l s y, tabled_stays u s i quiet t r f stays_quiet y.sound z)) in
+      let idle = so (quiet t r f) (calms_quiet.every t r f) (λ s y z. (goes_quiet u s i t r f l s y, tabled_stays u s i quiet t r f stays_quiet y.sound z)) in
       let says_it : (os : Replica → List Output) → Every AsksNothing (os r) → P (says os t r f) =
       λ os plain.
-      so (says os t r f) (λ s y z. (goes_says u s i os t r f l s y (free_ready u s.sent i y.memory (s.members i).slots (os r) plain), tabled_stays u s i (says os) t r f (stays_says os) y.sound z)) in
+      so (says os t r f) ((calms_says os).every t r f) (λ s y z. (goes_says u s i os t r f l s y (free_ready u s.sent i y.memory (s.members i).slots (os r) plain), tabled_stays u s i (says os) t r f (stays_says os) y.sound z)) in
       by_rows (λ z. P (obey_request t.hash q z t r f)) (request_table q r) (
         λ c. idle,
         λ n0. (
@@ -196,7 +205,7 @@ module _ (u : Setup) (start : Group Header) (i : ℕ) where
             λ n2. (
               λ c. idle,
               λ n3. (
-                λ c. so (stored_reply (asker_by t.hash q) (session_answer q r) t r f) (λ s y z. (says_reply u s i (asker_by t.hash q) (session_answer q r) t r f l s y, tabled_stays u s i _ t r f (stays_reply (asker_by t.hash q) (session_answer q r)) y.sound z)),
+                λ c. so (stored_reply (asker_by t.hash q) (session_answer q r) t r f) ((calms_reply (asker_by t.hash q) (session_answer q r)).every t r f) (λ s y z. (says_reply u s i (asker_by t.hash q) (session_answer q r) t r f l s y, tabled_stays u s i _ t r f (stays_reply (asker_by t.hash q) (session_answer q r)) y.sound z)),
                 λ n4. (
                   λ c. says_it _ (tt, tt),
                   λ n5. (

@@ -1,5 +1,5 @@
 -- A request that arrives (rules 1 to 6): the primary makes an entry, stores it and prepares it. What it has just made isn't counted.
-use Rattle.std.proofs.Common.{ℕ, ◌+◌, ◌-◌, ◌%◌, ◌≤◌, ◌<◌, ◌≡◌, ◌∙◌, inl, inr, arith, refl, sym, ap, subst, true, List, is_some}
+use Rattle.std.proofs.Common.{ℕ, ◌+◌, ◌%◌, ◌≤◌, ◌<◌, ◌≡◌, ◌∙◌, inl, inr, arith, refl, sym, ap, subst, true, List, is_some}
 use Rattle.std.proofs.lemmas.Bool.{cases_lt, leb-true}
 use Rattle.vr_base.specs.declared.replicas.Replicas.{Replicas}
 use Rattle.vr_base.specs.Replicas.{has_replica, size}
@@ -17,7 +17,6 @@ use Rattle.vr_world.specs.Rules.{make, on_request}
 use Rattle.vr_world.specs.Laws.{IsMessage}
 use Rattle.law_1_machine.specs.Group.{Group, made_at}
 use Rattle.law_1_machine.specs.Machine as move
-use Rattle.law_1_machine.specs.Parts.{header}
 use Rattle.law_2_chains.specs.Local.{Local}
 use Rattle.law_2_chains.specs.Chains.{Setup, Every, AsksNothing, Mid, Goes}
 use Rattle.law_2_chains.specs.Begins.{IsChain, one_made}
@@ -131,4 +130,4 @@ pub chain_request : {F : Type 0} (u : Setup) (fits : Fits u) (several : 2 ≤ u.
     → ((bytes : List ℕ) → IsNameBytes (t.hash bytes)) → r.view ≤ last_view → (0 < head r → is_some (header_at r (head r)) ≡ true) → Every AsksNothing l.said → IsMessage (frame.Request q)
     → IsChain u start i l (on_request q t r f)
 chain_request u fits several start i q t r f l x tables same group names last top free m =
-    by_request u start i (IsChain u start i l) q t r f l (λ z go. let g = go start x tables in chain_of u several start i l z (goes_finishes u start i l z g.0) g.1) (λ e y. chain_make u fits several start i e r l y t f) x tables same group names last top free m
+    by_request u start i (IsChain u start i l) q t r f l (λ z calm go. let g = go start x tables in chain_of u several start i l z (goes_finishes u start i l z g.0) g.1) (λ e y. chain_make u fits several start i e r l y t f) x tables same group names last top free m

@@ -69,6 +69,19 @@ pub ended_is : (h : Header) (p : Part) (b : Bool) → cond b Nothing p ≡ Here 
 ended_is h p true t = absurd cc
 ended_is h p false t = t
 
+-- what is stored stays so, where its header stays
+stays_mapped : (h : Header) (o : Option Header) → header_of (option_map_or (λ e. replaced_by e (Here h)) o (Here h)) ≡ Some h → option_map_or (λ e. replaced_by e (Here h)) o (Here h) ≡ Here h
+stays_mapped h None t = refl
+stays_mapped h (Some e) t =
+    elim (same_header h e) as (λ b. same_header h e ≡ b → header_of (cond b (Here h) (Wanted e)) ≡ Some h → cond b (Here h) (Wanted e) ≡ Here h) [
+      | true ↦ λ s z. refl
+      | false ↦ λ s z. let one : h ≡ e = cc in absurd (true≢false (sym (same_header_of h e one) ∙ s))
+    ] refl t
+
+stays_ended : (h : Header) (b : Bool) → header_of (cond b Nothing (Here h)) ≡ Some h → cond b Nothing (Here h) ≡ Here h
+stays_ended h true t = absurd cc
+stays_ended h false t = refl
+
 -- ---- the Parts, by op
 
 module _ (l : Log) (r : Replica) (sound : IsSound r) (log : IsLogFor r l) (may : MayTake l r) where
@@ -230,6 +243,35 @@ module _ (l : Log) (r : Replica) (sound : IsSound r) (log : IsLogFor r l) (may :
       elim (cases_lt l.head k) [
         | inl past ↦ ended_is h (part_at r k) (nat_lt r.log_view l.view) (sym (above k past) ∙ is)
         | inr within ↦ let room = may.room in mapped_is h (part_at r k) (log_header l k) (sym (inside k (omega arith) (omega arith) ∙ part_within k a within) ∙ is)
+      ]
+
+  over_stays : (k : ℕ) (h : Header) → r.checkpoint < k → part_at r k ≡ Here h → header_of (part_at (over l r) k) ≡ Some h → part_at (over l r) k ≡ Here h
+  over_stays k h a is known =
+      elim (cases_lt l.head k) [
+        | inl past ↦
+            let e : part_at (over l r) k ≡ cond (nat_lt r.log_view l.view) Nothing (Here h) = above k past ∙ ap (λ p. cond (nat_lt r.log_view l.view) Nothing p) is in
+            e ∙ stays_ended h (nat_lt r.log_view l.view) (sym (ap header_of e) ∙ known)
+        | inr within ↦
+            let room = may.room in
+            let first = sound.lists.reach in
+            let e : part_at (over l r) k ≡ option_map_or (λ e. replaced_by e (Here h)) (log_header l k) (Here h) =
+            inside k (omega arith) (omega arith) ∙ (part_within k a within ∙ ap (λ p. option_map_or (λ e. replaced_by e p) (log_header l k) p) is) in
+            e ∙ stays_mapped h (log_header l k) (sym (ap header_of e) ∙ known)
+      ]
+
+  pub taken_stays : (k : ℕ) (h : Header) → r.checkpoint < k → part_at r k ≡ Here h → header_of (part_at (taken l r) k) ≡ Some h → part_at (taken l r) k ≡ Here h
+  taken_stays k h a is known = taken_at k a ∙ over_stays k h a is (sym (ap header_of (taken_at k a)) ∙ known)
+
+  pub taken_top : l.head ≤ head (taken l r)
+  unfolding taken
+  taken_top = let same = forgetting_head (over l r) spans_over in let top = head_over in omega arith
+
+  -- nothing is stored above a log that is taken over in a later view
+  pub taken_near : (k : ℕ) (h : Header) → r.checkpoint < k → r.log_view < l.view → part_at (taken l r) k ≡ Here h → k ≤ l.head
+  taken_near k h a later is =
+      elim (cases_lt l.head k) [
+        | inr within ↦ within
+        | inl past ↦ let none : Nothing ≡ Here h = sym (above_later k past later) ∙ (sym (taken_at k a) ∙ is) in absurd cc
       ]
 
   pub taken_held : (k : ℕ) (h : Header) → part_at (taken l r) k ≡ Here h → part_at r k ≡ Here h

@@ -1,6 +1,6 @@
 -- A replica's tables, where that it has vouched itself for what it has stored is asked in a group of several alone: a replica that is a
 -- group by itself does so at the end of each step.
-use Rattle.std.proofs.Common.{ℕ, ◌≤◌, ◌<◌, ◌≡◌, inl, true, Some, None}
+use Rattle.std.proofs.Common.{ℕ, ◌≤◌, ◌<◌, ◌≡◌, inl, arith, true, Some, None}
 use Rattle.std.specs.Prelude.{slice_index_or}
 use Rattle.vr_base.specs.Replicas.{has_replica}
 use Rattle.vr_header.specs.declared.header.Header.{Header}
@@ -29,5 +29,5 @@ module _ (u : Setup) (s : Group Header) (i : ℕ) (r : Replica) where
   tables_of several x = record { acks = x.acks; own = x.own several; top = x.top; stated = x.stated }
 
   -- where it has vouched for all that it has stored
-  pub tables_vouched : (before : Group Header) → Vouched i r before s → Tallies u s i r → Tables u s i r
-  tables_vouched before v x = record { acks = x.acks; own = λ l k h above is. (h, inl (v.all (leads_is r l).0 k h is)); top = x.top; stated = x.stated }
+  pub tables_vouched : (before : Group Header) → r.checkpoint ≤ r.commit → Vouched i r before s → Tallies u s i r → Tables u s i r
+  tables_vouched before order v x = record { acks = x.acks; own = λ l k h above is. (h, inl (v.all (leads_is r l).0 k h (omega arith) is)); top = x.top; stated = x.stated }

@@ -115,7 +115,7 @@ module _ (u : Setup) (kinds : ℕ → Kind) (c n : ℕ) (are : AreKinds kinds n)
         reflects = reflects_fresh u (kinds i) c n i size m n_is;
         stored = keeps_fresh u (kinds i) c n i size m n_is;
         tables = λ free. tables_fresh u (kinds i) c n i size m n_is s refl;
-        vouched = λ alone views k h here. let none : Nothing ≡ Here h = sym (fresh_nothing (kinds i) c n i k) ∙ here in absurd cc;
+        vouched = λ alone views k h above here. let none : Nothing ≡ Here h = sym (fresh_nothing (kinds i) c n i k) ∙ here in absurd cc;
       } in
       record {
         disk = subst (IsDisk (fresh_member (kinds i) c n i)) (sym same) (record { last = d.last; under = d.under; slots = d.slots; size = d.size });

@@ -37,5 +37,6 @@ pub use Rattle.vr_world.specs.Safe
 pub use Rattle.vr_world.specs.Sectors
 pub use Rattle.vr_world.specs.Sound
 pub use Rattle.vr_world.specs.Steps
+pub use Rattle.vr_world.specs.Storing
 pub use Rattle.vr_world.specs.Words
 pub use Rattle.vr_world.specs.World

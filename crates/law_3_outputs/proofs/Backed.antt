@@ -1,5 +1,5 @@
--- What an output says is so, by what was put out before it; and what is committed stands in what is said in later views.
-use Rattle.std.proofs.Common.{ℕ, suc, ◌-◌, ◌≤◌, ◌<◌, ◌≡◌, ◌∙◌, arith, refl, sym, ap, subst, List, length, take, Some}
+-- What an output says is so, by what was put out and stored before it; and what is committed stands in what is said in later views.
+use Rattle.std.proofs.Common.{ℕ, suc, ◌-◌, ◌≤◌, ◌<◌, ◌≡◌, ◌∙◌, arith, refl, sym, ap, subst, List, length, Some}
 use Rattle.std.specs.Prelude.{slice_get}
 use Rattle.std.proofs.lemmas.Bool.{lt-leb}
 use Rattle.std.proofs.lemmas.Option.{slice_get_within}
@@ -22,26 +22,27 @@ use Rattle.law_2_chains.specs.Steps.{Write}
 use Rattle.law_2_chains.specs.Words.{log_header, sync_log}
 use Rattle.law_2_chains.specs.Checkpoints.{IsCheckpointOf}
 use Rattle.vr_msg.specs.declared.frame.SyncView.{SyncView}
+use Rattle.law_2_chains.proofs.Finishing.{committed_more}
 use Rattle.law_3_outputs.specs.Replied.{root_told}
 use Rattle.law_1_machine.specs.Basics.{In}
 use Rattle.law_1_machine.specs.Group.{Group}
 use Rattle.law_1_machine.specs.Laws.{Durability}
 use Rattle.law_1_machine.specs.Laws as law
 use Rattle.law_1_machine.specs.Members as machine
+use Rattle.law_1_machine.specs.Members.{Message}
 use Rattle.law_1_machine.proofs.Laws.{durability}
-use Rattle.law_1_machine.proofs.Moves.{reached_good}
 use Rattle.law_2_chains.specs.Chains.{Setup, WasSent}
 use Rattle.law_2_chains.specs.Reflecting.{entries_by}
-use Rattle.law_2_chains.specs.Commitment.{IsCommitted, AreCommitted, IsBackedMessage, IsLine}
-use Rattle.law_2_chains.specs.Safe.{IsHashed, IsOutput, KeepsEntry, CarriesEntry, wrote, given, before, run_outputs}
+use Rattle.law_2_chains.specs.Commitment.{Evidence, IsCommitted, AreCommitted, IsBackedMessage, IsLine}
+use Rattle.law_2_chains.specs.Safe.{IsHashed, IsOutput, KeepsEntry, CarriesEntry, wrote, given, before, evidence, run_outputs}
 use Rattle.law_2_chains.specs.Safe as safe
 use Rattle.law_2_chains.specs.Finished.{AreBacked, IsNumbered}
-use Rattle.law_3_outputs.specs.Followed.{IsFollowed, IsGoodEntry, IsLineOf}
+use Rattle.law_3_outputs.specs.Followed.{IsFollowed, IsGoodEntry, IsLineOf, by_then}
 use Rattle.law_3_outputs.proofs.Reading.{runs_read}
-use Rattle.law_3_outputs.proofs.Sets.{get_in, in_left, in_contains}
+use Rattle.law_3_outputs.proofs.Sets.{get_in, in_contains}
 use Rattle.law_3_outputs.proofs.Traces.{WasWritten, last, sent_later, chosen_later, said_of, sent_of, output_in}
-use Rattle.law_3_outputs.proofs.Machine.{committed_more, number_is}
-use Rattle.law_3_outputs.proofs.Forth.{CommittedAt, good, is_committed}
+use Rattle.law_3_outputs.proofs.Machine.{number_is}
+use Rattle.law_3_outputs.proofs.Forth.{CommittedAt, good, is_committed, then_later}
 use Rattle.law_3_outputs.proofs.Back.{back}
 use Rattle.law_3_outputs.proofs.Log.{in_log, the_log}
 
@@ -57,39 +58,43 @@ one_whole IsBody never d e same gd ge hd he =
     λ i. record { header = same i; operation = operation i }
 
 module _ (cluster n : ℕ) (u : Setup) (run : List Played) (x : IsFollowed cluster n u run) where
-  -- what is committed by what was sent so far is so at the end
+  -- what is committed by what was sent, or counts before an output, is so at the end
   pub at_end : (t : ℕ) → t ≤ length run → (v k : ℕ) (c : Header) → law.Committed u.quorums (entries_by u.hash u.cluster) (x.group t).sent v k c → CommittedAt cluster n u run x v k c
   at_end t l v k c h = committed_more u.quorums (entries_by u.hash u.cluster) (x.group t).sent (last cluster n u run x).sent (λ m i. sent_later cluster n u run x (length run) t l (omega arith) m i) v k c h
+
+  pub then_end : (t : ℕ) (p : Played) → slice_get run t ≡ Some p → (number v k : ℕ) (c : Header) → law.Committed u.quorums (entries_by u.hash u.cluster) (by_then u (x.group t) p number) v k c → CommittedAt cluster n u run x v k c
+  then_end t p is number v k c h = committed_more u.quorums (entries_by u.hash u.cluster) (by_then u (x.group t) p number) (last cluster n u run x).sent (then_later cluster n u run x t p is number) v k c h
 
   -- ---- of one output
 
   module _ (move number : ℕ) (p : Played) (at : slice_get run move ≡ Some p) where
-    within : move ≤ length run
-    within = let l = slice_get_within run move p at in omega arith
-
-    abbrev earlier : List Output
+    abbrev earlier : Evidence
     earlier = before run move number p
 
-    back_then : (v k : ℕ) (c : Header) → law.Committed u.quorums (entries_by u.hash u.cluster) (x.group move).sent v k c → IsCommitted cluster n earlier v c
-    back_then = back cluster n u run x move within earlier (λ o i. in_left (run_outputs (take move run)) (take number p.moved.outputs) o i)
+    abbrev counts : List (Message Header)
+    counts = by_then u (x.group move) p number
 
-    pub backed_numbers : (view commit : ℕ) → AreBacked u (x.group move).sent view commit → AreCommitted cluster n earlier (the_log cluster n u run x) view commit
+    back_then : (v k : ℕ) (c : Header) → law.Committed u.quorums (entries_by u.hash u.cluster) counts v k c → IsCommitted cluster n earlier v c
+    back_then v k c h = back cluster n u run x move p at number v k c h
+
+    pub backed_numbers : (view commit : ℕ) → AreBacked u counts view commit → AreCommitted cluster n earlier (the_log cluster n u run x) view commit
     backed_numbers view commit f op z l =
         let b = f op z l in
         let h = b.0 in
         let c = b.1.2 in
-        let w = in_log cluster n u run x b.1.0 op h z (at_end move within b.1.0 op h c) in
-        let good = reached_good u.quorums (entries_by u.hash u.cluster) (x.group move) (x.reached move within) in
+        let sure = then_end move p at number b.1.0 op h c in
+        let w = in_log cluster n u run x b.1.0 op h z sure in
+        let g = good cluster n u run x in
         record {
           entry = w.0.entry;
           at = w.1;
-          number = ap (λ (k : Header). k.op) w.0.is ∙ number_is u.quorums (entries_by u.hash u.cluster) good.0 (x.group move) good.1 b.1.0 op h c;
+          number = ap (λ (k : Header). k.op) w.0.is ∙ number_is u.quorums (entries_by u.hash u.cluster) g.0 (last cluster n u run x) g.1 b.1.0 op h sure;
           view = b.1.0;
           early = b.1.1;
           committed = subst (IsCommitted cluster n earlier b.1.0) (sym w.0.is) (back_then b.1.0 op h c);
         }
 
-    pub backed_frame : (m : Frame) → IsNumbered u (x.group move).sent m → ((v : SyncView) → m ≡ frame.SyncView v → IsCheckpointOf cluster (the_log cluster n u run x) v.checkpoint (root_told v)) → IsBackedMessage cluster n earlier (the_log cluster n u run x) m
+    pub backed_frame : (m : Frame) → IsNumbered u counts m → ((v : SyncView) → m ≡ frame.SyncView v → IsCheckpointOf cluster (the_log cluster n u run x) v.checkpoint (root_told v)) → IsBackedMessage cluster n earlier (the_log cluster n u run x) m
     backed_frame (frame.Prepare m) f of = backed_numbers m.view m.commit f
     backed_frame (frame.Commit m) f of = backed_numbers m.view m.commit f
     backed_frame (frame.StartView m) f of = backed_numbers m.view m.commit f
@@ -107,13 +112,13 @@ module _ (cluster n : ℕ) (u : Setup) (run : List Played) (x : IsFollowed clust
     backed_frame (frame.SyncView m) f of = (backed_numbers m.view m.commit f, of m refl)
 
     -- a commit line
-    pub backed_line : NoCollision (IsHashed run (root_header cluster)) → (c : Committed) → In (output.Commit c) p.moved.outputs → IsLineOf cluster u run (x.group move).sent c.entry → IsLine cluster n earlier (the_log cluster n u run x) c
+    pub backed_line : NoCollision (IsHashed run (root_header cluster)) → (c : Committed) → In (output.Commit c) p.moved.outputs → IsLineOf cluster u run counts c.entry → IsLine cluster n earlier (the_log cluster n u run x) c
     backed_line never c i f =
         let h = c.entry.header in
         let read = runs_read cluster n run x.fit move p at c i in
         let op = read.form.op.0 in
         let above : 0 < h.op = omega arith in
-        let w = in_log cluster n u run x f.view h.op h above (at_end move within f.view h.op h f.committed) in
+        let w = in_log cluster n u run x f.view h.op h above (then_end move p at number f.view h.op h f.committed) in
         let e = w.0 in
         let hashed : IsHashed run (root_header cluster) (operation_bytes e.entry.operation) =
         wrote e.move (Write e.again e.entry) _ (in_contains run e.move e.of_run) (in_contains e.move.moved.script _ e.of_move) (safe.IsWritten.operation e.again e.entry) in
@@ -122,7 +127,7 @@ module _ (cluster n : ℕ) (u : Setup) (run : List Played) (x : IsFollowed clust
 
   -- ---- an entry that is committed
 
-  module _ (view : ℕ) (c : Header) (fits : IsHeader c) (never : NoCollision (IsHashed run c)) (above : 0 < c.op) (committed : IsCommitted cluster n (run_outputs run) view c) where
+  module _ (view : ℕ) (c : Header) (fits : IsHeader c) (never : NoCollision (IsHashed run c)) (above : 0 < c.op) (committed : IsCommitted cluster n (evidence run) view c) where
     is : CommittedAt cluster n u run x view c.op c × WasWritten run c
     is = is_committed cluster n u run x c never view c fits given above committed
 
@@ -171,7 +176,7 @@ module _ (cluster n : ℕ) (u : Setup) (run : List Played) (x : IsFollowed clust
         λ less.
         let y = said_of cluster n u run x (output.Choose l) i in
         let w = slice_get_within run y.0 y.1 y.2 in
-        let line = y.3 in
+        let line = y.3.1 in
         let of_view = line.of_view in
         let of_head = line.of_head in
         let d = lasts.chosen line.made (chosen_later cluster n u run x (length run) (suc y.0) (omega arith) (omega arith) line.made line.is_made) (omega arith) in

@@ -1,5 +1,5 @@
 -- What is asked of the messages and choose lines of a move, from what a step puts out.
-use Rattle.std.proofs.Common.{ℕ, ◌≡◌, ◌∙◌, inl, inr, refl, sym, ap, subst, List, [], ◌∷◌, Some}
+use Rattle.std.proofs.Common.{ℕ, ◌≡◌, ◌∙◌, sym, ap, subst, List, Some}
 use Rattle.std.specs.Prelude.{All}
 use Rattle.vr_header.specs.declared.header.Header.{Header}
 use Rattle.vr_msg.specs.declared.frame.Frame.{Frame}
@@ -13,15 +13,10 @@ use Rattle.law_2_chains.specs.Group.{Played}
 use Rattle.law_3_outputs.specs.Picked.{IsChosenBy}
 use Rattle.law_2_chains.specs.Laws.{IsEvent, IsPresentFrame}
 use Rattle.law_2_chains.specs.Replica.{Replica, version}
-use Rattle.law_1_machine.specs.Basics.{In}
-use Rattle.law_2_chains.specs.Chains.{Setup, Every}
+use Rattle.law_2_chains.specs.Chains.{Setup}
 use Rattle.law_2_chains.specs.Choices.{IsMadeFrom}
 use Rattle.law_2_chains.specs.Safe.{actor, all_heard, event_of}
 use Rattle.law_3_outputs.specs.Followed.{IsChoiceLine, IsFrom}
-
-pub every_of : {X : Type 0} (P : X → Type 0) (xs : List X) → ((x : X) → In x xs → P x) → Every P xs
-every_of P [] f = tt
-every_of P (x ∷ xs) f = (f x (inl refl), every_of P xs (λ y i. f y (inr i)))
 
 pub from_is : (MayAsk : ℕ → Type 0) (old new : Replica) (from : ℕ) (m : Frame) → from ≡ new.index → IsPresentFrame MayAsk old new m → IsFrom from m
 from_is MayAsk old new from (frame.Prepare p) e h = e ∙ sym h.0

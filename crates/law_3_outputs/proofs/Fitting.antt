@@ -1,5 +1,5 @@
 -- Every move of a run of a group writes good entries.
-use Rattle.std.proofs.Common.{ℕ, zero, suc, ◌≡◌, ◌≤◌, ◌+◌, arith, sym, subst, List, [], ◌∷◌, Some}
+use Rattle.std.proofs.Common.{ℕ, zero, suc, ◌≡◌, ◌≤◌, ◌+◌, sym, subst, List, [], ◌∷◌, Some}
 use Rattle.std.specs.Prelude.{All, slice_get}
 use Rattle.std.proofs.lemmas.List.Elements.{All-nil, All-head, All-tail, All-take, All-contains}
 use Rattle.vr_header.specs.Made.{Whole}
@@ -22,13 +22,8 @@ use Rattle.law_2_chains.proofs.FitOpening.{openings_fit}
 use Rattle.law_2_chains.proofs.FitLies.{lies_fit}
 use Rattle.law_2_chains.proofs.FitGroups.{good_value, groups_fit}
 use Rattle.law_3_outputs.proofs.Sets.{in_contains}
-use Rattle.law_2_chains.specs.Chains.{Setup}
-use Rattle.law_3_outputs.specs.Followed.{IsFitRun, IsFollowed, IsGoodEntry}
+use Rattle.law_3_outputs.specs.Followed.{IsFitRun, IsGoodEntry}
 use Rattle.law_3_outputs.specs.Written.{WritesGood}
-
--- it is of several replicas
-pub several_in : (cluster n : ℕ) (u : Setup) (run : List Played) → IsFollowed cluster n u run → 2 ≤ u.quorums.n
-several_in cluster n u run x = let size = x.size_is in let few = x.fit.few in omega arith
 
 -- a move of the run
 pub move_of : (g : Group) (ps : List Played) → Run g ps → (k : ℕ) (p : Played) → slice_get ps k ≡ Some p → Moves p.before p.move p.moved

@@ -1,5 +1,7 @@
--- What is committed by outputs is committed in the machine, for headers whose names don't collide.
-use Rattle.std.proofs.Common.{ℕ, suc, ◌%◌, ◌≤◌, ◌<◌, ◌≡◌, ◌∙◌, inl, inr, arith, refl, sym, ap, subst, Bool, true, List, length}
+-- What is committed by what was put out and stored is committed in the machine, for headers whose names don't collide.
+use Rattle.std.specs.Prelude.{Contains, slice_get}
+use Rattle.std.proofs.lemmas.Option.{slice_get_within}
+use Rattle.std.proofs.Common.{ℕ, suc, ◌%◌, ◌≤◌, ◌<◌, ◌≡◌, ◌∙◌, inl, inr, arith, refl, sym, ap, subst, Bool, true, List, length, Some}
 use Rattle.vr_base.specs.Replicas.{has_replica}
 use Rattle.vr_header.specs.declared.header.Header.{Header}
 use Rattle.vr_header.specs.Names.{header_name, name_by, root_by}
@@ -9,6 +11,7 @@ use Rattle.vr_header.proofs.NameLaws.{one_header}
 use Rattle.law_2_chains.specs.Replica.{replication}
 use Rattle.law_2_chains.specs.Group.{Played}
 use Rattle.law_2_chains.specs.Steps.{Write}
+use Rattle.law_2_chains.specs.Storing.{run_stored, stored_of}
 use Rattle.law_1_machine.specs.Basics.{In}
 use Rattle.law_1_machine.specs.Group.{Group, Vouches}
 use Rattle.law_1_machine.specs.History.{History}
@@ -24,12 +27,13 @@ use Rattle.law_2_chains.specs.Reflecting.{entries_by}
 use Rattle.law_2_chains.proofs.Counting.{size_count}
 use Rattle.law_2_chains.proofs.Making.{logged_made}
 use Rattle.law_2_chains.specs.Commitment as said
-use Rattle.law_2_chains.specs.Commitment.{IsCommitted}
-use Rattle.law_2_chains.specs.Safe.{IsHashed, wrote, IsWritten, run_outputs}
+use Rattle.law_2_chains.specs.Commitment.{IsCommitted, Stored}
+use Rattle.law_2_chains.specs.Safe.{IsHashed, wrote, IsWritten, evidence, run_outputs}
 use Rattle.law_2_chains.specs.Safe as safe
-use Rattle.law_3_outputs.specs.Followed.{IsFollowed}
-use Rattle.law_3_outputs.proofs.Sets.{get_in, in_contains}
-use Rattle.law_3_outputs.proofs.Traces.{WasWritten, last, sent_of, from_of, written_of}
+use Rattle.law_3_outputs.specs.Followed.{IsFollowed, by_then, own_vouches, stored_until, vouch_of}
+use Rattle.law_3_outputs.proofs.Sets.{contains_in, get_in, in_contains}
+use Rattle.law_3_outputs.proofs.Stored.{own_in, own_more, stored_of_move, until_all}
+use Rattle.law_3_outputs.proofs.Traces.{WasWritten, in_either, last, sent_later, sent_of, from_of, written_of}
 use Rattle.law_3_outputs.proofs.Machine.{joins}
 
 ok_is : (h : Header) (r s v w k l : ℕ) → r ≡ s → v ≡ w → k ≡ l → machine.Prepare_ok r v k h ≡ machine.Prepare_ok s w l h
@@ -54,8 +58,24 @@ module _ (cluster n : ℕ) (u : Setup) (run : List Played) (x : IsFollowed clust
   name_same : (h : Header) → name_by u.hash h ≡ header_name h
   name_same h = ap (λ (f : List ℕ → List ℕ). name_by f h) x.hash_is
 
-  -- who vouches by outputs vouches in the machine, for a header of that name
-  pub vouch_told : (view r : ℕ) (c : Header) → said.Vouches n (run_outputs run) view r c → (h : Header) × VouchedFor r view c.op h × (header_name h ≡ header_name c)
+  -- what counts before an output is sent at the end
+  pub then_later : (t : ℕ) (p : Played) → slice_get run t ≡ Some p → (number : ℕ) (m : Message Header) → In m (by_then u (x.group t) p number) → In m end.sent
+  then_later t p is number m h =
+      let within = slice_get_within run t p is in
+      elim (in_either (x.group t).sent (own_vouches u (stored_until p number)) m h) [
+        | inl old ↦ sent_later cluster n u run x (length run) t (omega arith) (omega arith) m old
+        | inr own ↦ sent_later cluster n u run x (length run) (suc t) (omega arith) (omega arith) m ((x.carried t p is).vouched m (own_more u (stored_until p number) (stored_of p) (until_all p number) m own))
+      ]
+
+  -- what was stored in the run
+  stored_told : n ≡ 1 → (z : Stored) → Contains (run_stored run) z → In (vouch_of z) end.sent
+  stored_told one z h =
+      let y = stored_of_move run z (contains_in (run_stored run) z h) in
+      let within = slice_get_within run y.0 y.1 y.2 in
+      sent_later cluster n u run x (length run) (suc y.0) (omega arith) (omega arith) (vouch_of z) ((x.carried y.0 y.1 y.2).vouched (vouch_of z) (own_in u (stored_of y.1) z (x.size_is ∙ one) y.3))
+
+  -- who vouches by what was put out and stored vouches in the machine, for a header of that name
+  pub vouch_told : (view r : ℕ) (c : Header) → said.Vouches n (evidence run) view r c → (h : Header) × VouchedFor r view c.op h × (header_name h ≡ header_name c)
   vouch_told view r c (said.acknowledged a s of_view of_op name) =
       let i = get_in (run_outputs run) s.at _ s.is in
       let told = sent_of cluster n u run x _ i in
@@ -69,6 +89,9 @@ module _ (cluster n : ℕ) (u : Setup) (run : List Played) (x : IsFollowed clust
       let is = prepare_is p.entry.header c p.replica r p.view view p.commit (sym from) of_view same in
       let leads' : r ≡ view % u.quorums.n = leads ∙ ap (λ (m : ℕ). view % m) (sym x.size_is) in
       (c, inr (leads', (p.commit, subst (λ (m : Message Header). In m end.sent) is told)), refl)
+  vouch_told view r c (said.alone one first stored) =
+      let told = stored_told one (record { view = view; header = c }) stored in
+      (c, inl (subst (λ (k : ℕ). In (machine.Prepare_ok k view c.op c) end.sent) (sym first) told), refl)
 
   -- and that header was written
   pub vouch_written : (r view op : ℕ) (h : Header) → VouchedFor r view op h → WasWritten run h
@@ -94,13 +117,13 @@ module _ (cluster n : ℕ) (u : Setup) (run : List Played) (x : IsFollowed clust
         let b = written_hashed c0 k wk in
         one_header (IsHashed run c0) never h k a.1 b.1 a.0 b.0 e
 
-    -- what is committed by outputs
+    -- what is committed by what was put out and stored
     pub record Told (view : ℕ) (c : Header) : Type 0 where
       pub header : Header
       pub committed : CommittedAt view c.op header
       pub written : 0 < c.op → WasWritten run header × (header_name header ≡ header_name c)
 
-    pub told : (view : ℕ) (c : Header) → IsCommitted cluster n (run_outputs run) view c → Told view c
+    pub told : (view : ℕ) (c : Header) → IsCommitted cluster n (evidence run) view c → Told view c
     told _ _ said.root = record { header = root_by u.hash u.cluster; committed = at_root; written = λ l. absurd (omega (arith, l)) }
     told _ _ (said.stands_on earlier view d c prior le stands quorum) =
         let before = told earlier d prior in
@@ -124,7 +147,7 @@ module _ (cluster n : ℕ) (u : Setup) (run : List Played) (x : IsFollowed clust
         record { header = h; committed = subst (λ (k : ℕ). CommittedAt view k h) (sym op) done; written = λ l. (wh, v.2) }
 
     -- the header itself, where its bytes count among those hashed
-    pub is_committed : (view : ℕ) (c : Header) → IsHeader c → IsHashed run c0 (named_bytes c) → 0 < c.op → IsCommitted cluster n (run_outputs run) view c → CommittedAt view c.op c × WasWritten run c
+    pub is_committed : (view : ℕ) (c : Header) → IsHeader c → IsHashed run c0 (named_bytes c) → 0 < c.op → IsCommitted cluster n (evidence run) view c → CommittedAt view c.op c × WasWritten run c
     is_committed view c fits hashed above h =
         let t = told view c h in
         let w = t.written above in

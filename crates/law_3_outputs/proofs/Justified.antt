@@ -28,7 +28,7 @@ use Rattle.law_1_machine.specs.Parts.{header, denied}
 use Rattle.law_1_machine.proofs.Laws.{cut_by_nacks}
 use Rattle.law_2_chains.specs.Chains.{Setup, statement_told}
 use Rattle.law_2_chains.specs.Reflecting.{entries_by, told_of}
-use Rattle.law_2_chains.specs.Safe.{IsDenier, IsJustified, all_heard, heard_from, run_outputs}
+use Rattle.law_2_chains.specs.Safe.{IsDenier, IsJustified, all_heard, evidence, heard_from}
 use Rattle.law_2_chains.proofs.Choosing.{told_some}
 use Rattle.law_2_chains.specs.Replica.{version}
 use Rattle.law_3_outputs.specs.Followed.{IsChoiceLine, IsFollowed}
@@ -105,7 +105,7 @@ module _ (cluster n : ℕ) (u : Setup) (run : List Played) (x : IsFollowed clust
       let w = slice_get_within run move p at in
       cut_by_nacks u.quorums (entries_by u.hash u.cluster) g.0 end g.1 line.made (chosen_later cluster n u run x (length run) (suc move) (omega arith) (omega arith) line.made line.is_made)
 
-  denier : (i : ℕ) → i < u.quorums.n → cut.chosen.deniers i ≡ true → IsDenier n (run_outputs run) ss l.log_view (l.head + 1) i (heard_from l.view line.event line.replica i)
+  denier : (i : ℕ) → i < u.quorums.n → cut.chosen.deniers i ≡ true → IsDenier n (evidence run) ss l.log_view (l.head + 1) i (heard_from l.view line.event line.replica i)
   denier i b d =
       let y = cut.chosen.deny i b d in
       let t = told_some (heard_from l.view line.event line.replica i) y.0 (sym (line.of_heard i) ∙ y.1) in
@@ -122,7 +122,7 @@ module _ (cluster n : ℕ) (u : Setup) (run : List Played) (x : IsFollowed clust
             cut.silent i b d w.0 (subst (λ z. Vouches u.quorums end.sent i z (suc line.made.head) w.0) (sym line.of_log_view) (subst (λ z. Vouches u.quorums end.sent i l.log_view z w.0) k w.1));
       }
 
-  pub justified : IsJustified n (run_outputs run) p l
+  pub justified : IsJustified n (evidence run) p l
   justified =
       let above = meets.ends.next.above in
       let end = end_is in

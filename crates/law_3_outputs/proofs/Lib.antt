@@ -1,6 +1,8 @@
 pub mod Sets
 pub mod Machine
 pub mod Traces
+pub mod Stored
+pub mod Then
 pub mod Forth
 pub mod Back
 pub mod Log
@@ -29,10 +31,13 @@ pub use Rattle.law_2_chains.proofs.FitFresh
 pub use Rattle.law_2_chains.proofs.FitGroups
 pub use Rattle.law_2_chains.proofs.FitLies
 pub use Rattle.law_2_chains.proofs.FitSteps
+pub use Rattle.law_2_chains.proofs.Grounds
 pub use Rattle.law_2_chains.proofs.Halves
 pub use Rattle.law_2_chains.proofs.Opening
 pub use Rattle.law_2_chains.proofs.Playing
+pub use Rattle.law_2_chains.proofs.Reacting
 pub use Rattle.law_2_chains.proofs.Repairs
+pub use Rattle.law_2_chains.proofs.Rising
 pub use Rattle.law_2_chains.proofs.Ruling
 pub use Rattle.law_2_chains.proofs.Scripts
 pub use Rattle.law_2_chains.proofs.SendsScripts

@@ -1,13 +1,11 @@
 -- What is committed in the machine stands in the logs of views.
-use Rattle.std.proofs.Common.{ℕ, zero, suc, ◌%◌, ◌≤◌, ◌<◌, ◌≡◌, ◌∙◌, inl, inr, arith, sym, ap, subst, Bool, true, List}
+use Rattle.std.proofs.Common.{ℕ, zero, suc, ◌%◌, ◌≤◌, ◌<◌, ◌≡◌, ◌∙◌, inl, inr, arith, sym, ap, subst, Bool, true}
 use Rattle.std.proofs.lemmas.Bool.{cases_lt}
-use Rattle.law_1_machine.specs.Basics.{In}
 use Rattle.law_1_machine.specs.Group.{Group, Vouches}
 use Rattle.law_1_machine.specs.Headers.{Headers}
 use Rattle.law_1_machine.specs.History.{CommittedUpTo, HasQuorum, History}
 use Rattle.law_1_machine.specs.Invariant.{Invariant}
 use Rattle.law_1_machine.specs.Laws.{Committed, at_root, stands_on}
-use Rattle.law_1_machine.specs.Members.{Message}
 use Rattle.law_1_machine.specs.Quorums.{Quorums, count}
 use Rattle.law_1_machine.proofs.Agreeing.{committed_agree}
 use Rattle.law_1_machine.proofs.Chains.{chain_top}
@@ -68,13 +66,3 @@ module _ {H : Type 0} (q : Quorums) (hs : Headers H) (g : History H) (s : Group 
   -- views that have begun are bounded
   pub begun_least : (w : ℕ) → g.finished w ≡ true → w ≤ g.log_view (w % q.n)
   begun_least w f = y.led w f
-
--- where more was sent, what is committed stays so
-vouches_more : {H : Type 0} (q : Quorums) (a b : List (Message H)) → ((m : Message H) → In m a → In m b) → (i u k : ℕ) (c : H) → Vouches q a i u k c → Vouches q b i u k c
-vouches_more q a b f i u k c (inl h) = inl (f _ h)
-vouches_more q a b f i u k c (inr p) = inr (p.0, (p.1.0, f _ p.1.1))
-
-pub committed_more : {H : Type 0} (q : Quorums) (hs : Headers H) (a b : List (Message H)) → ((m : Message H) → In m a → In m b) → (u k : ℕ) (c : H) → Committed q hs a u k c → Committed q hs b u k c
-committed_more q hs a b f _ _ _ at_root = at_root
-committed_more q hs a b f _ _ _ (stands_on u v k c d le before e set enough each) =
-    stands_on u v k c d le (committed_more q hs a b f v k d before) e set enough (λ i l t. vouches_more q a b f i u (suc k) c (each i l t))

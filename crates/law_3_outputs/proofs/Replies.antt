@@ -1,5 +1,5 @@
 -- The replies of a run: each is the plain sessions' and machine's over entries that are committed.
-use Rattle.std.proofs.Common.{ℕ, zero, suc, ◌+◌, ◌-◌, ◌≤◌, ◌≡◌, ◌∙◌, ◌⊎◌, inl, inr, arith, refl, sym, ap, subst, Bool, true, false, cond, ◌||◌, List, [], ◌∷◌, map, length, take, drop, set, Some, None}
+use Rattle.std.proofs.Common.{ℕ, zero, suc, ◌+◌, ◌-◌, ◌≤◌, ◌<◌, ◌≡◌, ◌∙◌, ◌⊎◌, inl, inr, arith, refl, sym, ap, subst, Bool, true, false, cond, ◌||◌, List, [], ◌∷◌, map, length, take, drop, set, Some, None}
 use Rattle.std.specs.Prelude.{slice_get, count_by}
 use Rattle.std.specs.List.{list_any, range_with_len}
 use Rattle.std.specs.Option.{option_map_or}
@@ -22,19 +22,23 @@ use Rattle.law_2_chains.proofs.InTwo.{opening_in_two}
 use Rattle.law_2_chains.specs.Lying.{Lying, lying}
 use Rattle.law_2_chains.specs.Steps.{Step, by, outputs, quiet}
 use Rattle.law_1_machine.specs.Basics.{In}
+use Rattle.law_2_chains.specs.Bridge.{ServesWell}
 use Rattle.law_2_chains.specs.Chains.{Setup}
+use Rattle.law_2_chains.specs.Finished.{AreBacked}
+use Rattle.law_2_chains.specs.Reflecting.{entries_by}
 use Rattle.law_2_chains.specs.Commitment.{IsReplyOf, is_line_of, lines_by}
 use Rattle.law_2_chains.specs.Safe.{IsHashed, IsTrueReply}
-use Rattle.law_3_outputs.specs.Followed.{IsFollowed, IsSo}
+use Rattle.law_2_chains.proofs.Finishing.{committed_more}
+use Rattle.law_3_outputs.specs.Followed.{IsFollowed, by_then, own_vouches, stored_until}
 use Rattle.law_3_outputs.specs.Answering.{one_if, HasState, IsMute, Jumps, lines, IsTold, Told, Leaves}
-use Rattle.law_3_outputs.specs.Replied.{IsReplied, IsServed}
+use Rattle.law_3_outputs.specs.Replied.{IsReplied, IsServed, IsStepped}
 use Rattle.law_3_outputs.proofs.Fitting.{arrives, fit_at, move_of, opening_of}
 use Rattle.law_3_outputs.proofs.Orders.{in_order_lined}
 use Rattle.law_3_outputs.proofs.Resuming.{resumed_have, said_right}
 use Rattle.law_3_outputs.proofs.Ordering.{come_in_order}
 use Rattle.law_2_chains.specs.GroupFit.{IsFitMove}
 use Rattle.law_2_chains.proofs.FitLies.{lies_fit}
-use Rattle.law_3_outputs.proofs.Sets.{get_in}
+use Rattle.law_3_outputs.proofs.Sets.{get_in, in_get, in_left}
 use Rattle.law_3_outputs.proofs.Traces.{every_in}
 use Rattle.law_3_outputs.proofs.Log.{the_log, log_numbered, is_log, in_log}
 use Rattle.law_3_outputs.proofs.Backed.{backed_line, backed_numbers, at_end}
@@ -64,6 +68,22 @@ lines_front i zero [] = omega arith
 lines_front i (suc number) [] = omega arith
 lines_front i zero (o ∷ os) = omega arith
 lines_front i (suc number) (o ∷ os) = let rest = lines_front i number os in omega arith
+
+-- where there is one, it stands at a place
+line_before : (i number : ℕ) (os : List Output) → 0 < lines i (take number os) → (j : ℕ) × (c : Committed) × (j < number) × (slice_get os j ≡ Some (output.Commit c))
+unfolding lines
+line_before i zero [] h = absurd (omega (arith, h))
+line_before i (suc number) [] h = absurd (omega (arith, h))
+line_before i zero (o ∷ os) h = absurd (omega (arith, h))
+line_before i (suc number) (output.Commit c ∷ os) h = (0, c, omega arith, refl)
+line_before i (suc number) (output.Send s ∷ os) h = let r = line_before i number os (omega (arith, h)) in let l = r.2 in (suc r.0, r.1, omega arith, r.3)
+line_before i (suc number) (output.Reply a ∷ os) h = let r = line_before i number os (omega (arith, h)) in let l = r.2 in (suc r.0, r.1, omega arith, r.3)
+line_before i (suc number) (output.Choose l ∷ os) h = let r = line_before i number os (omega (arith, h)) in let l = r.2 in (suc r.0, r.1, omega arith, r.3)
+line_before i (suc number) (output.Wait w ∷ os) h = let r = line_before i number os (omega (arith, h)) in let l = r.2 in (suc r.0, r.1, omega arith, r.3)
+line_before i (suc number) (output.Start s ∷ os) h = let r = line_before i number os (omega (arith, h)) in let l = r.2 in (suc r.0, r.1, omega arith, r.3)
+line_before i (suc number) (output.Halted n ∷ os) h = let r = line_before i number os (omega (arith, h)) in let l = r.2 in (suc r.0, r.1, omega arith, r.3)
+line_before i (suc number) (output.Done ∷ os) h = let r = line_before i number os (omega (arith, h)) in let l = r.2 in (suc r.0, r.1, omega arith, r.3)
+line_before i (suc number) (output.KeptOut ∷ os) h = let r = line_before i number os (omega (arith, h)) in let l = r.2 in (suc r.0, r.1, omega arith, r.3)
 
 -- the last output is a line, or there is none and the one before was
 after : ℕ → Bool → List Output → Bool
@@ -143,7 +163,7 @@ module _ (cluster n : ℕ) (u : Setup) (run : List Played) (x : IsFollowed clust
   -- at one place of the run
   module _ (t : ℕ) (p : Played) (is : slice_get run t ≡ Some p) where
     line_at : (c : Committed) → In (output.Commit c) p.moved.outputs → slice_get log (c.entry.header.op - 1) ≡ Some c.entry
-    line_at c i = (backed_line cluster n u run x t 0 p is never c i (every_in (IsSo cluster u run (x.group t) (x.group (suc t)) p) p.moved.outputs (output.Commit c) i (x.carried t p is).said)).at
+    line_at c i = let k = in_get p.moved.outputs (output.Commit c) i in (backed_line cluster n u run x t k.0 p is never c i ((x.carried t p is).said k.0 (output.Commit c) k.1)).at
 
     -- a step
     step_leaves : (at : ℕ) (arrival : Arrival) (e : Event) (f : Lying) (m : Member) (r : Replica) → p.move ≡ Steps at arrival e f → IsArrival p.before at arrival e → Runs p.before at m r → p.moved.outputs ≡ outputs (stepped e r f).script → HasState log r
@@ -222,6 +242,31 @@ module _ (cluster n : ℕ) (u : Setup) (run : List Played) (x : IsFollowed clust
     no_jump z r os said there (inl left) = left
     no_jump z r os said there (inr jump) = absurd (every_in IsMute (outputs z.script) (output.Reply a) (subst (λ (x : List Output). In (output.Reply a) x) said (get_in os number (output.Reply a) there)) jump.mute)
 
+    -- what the replica has applied when it replies
+    applied_backed : (p : Played) (is : slice_get run t ≡ Some p) (at : ℕ) (arrival : Arrival) (e : Event) (f : Lying) (m : Member) (r : Replica) → p.move ≡ Steps at arrival e f → Runs p.before at m r → IsStepped r (stepped e r f).replica p.moved.outputs → a.view ≡ (stepped e r f).replica.view
+        → (stepped e r f).replica.applied ≡ r.applied + lines r.index p.moved.outputs → AreBacked u (by_then u (x.group t) p number) a.view (r.applied + lines r.index (take number p.moved.outputs))
+    applied_backed p is at arrival e f m r move runs step view applied k z l =
+        let os = p.moved.outputs in
+        let own = y.served t at p m r is runs in
+        let now : List Output = take number os in
+        let few : lines r.index now ≤ lines r.index os = lines_front r.index number os in
+        let order = own.applied in
+        let order' = step.applied in
+        let views = step.views in
+        let rises = step.rises in
+        elim (cases_lt 0 (lines r.index now)) [
+          | inr none ↦
+              let b = own.backed k z (omega arith) in
+              let early = b.1.1 in
+              (b.0, (b.1.0, omega arith, committed_more u.quorums (entries_by u.hash u.cluster) (x.group t).sent (by_then u (x.group t) p number) (λ h i. in_left (x.group t).sent (own_vouches u (stored_until p number)) h i) b.1.0 k b.0 b.1.2))
+          | inl some ↦
+              let j = line_before r.index number os some in
+              let serves : ServesWell u p.before (Steps at arrival e f) (by_then u (x.group t) p number) = subst (λ (y : Move). ServesWell u p.before y (by_then u (x.group t) p number)) move ((x.carried t p is).served j.0 number j.1 j.2 j.3) in
+              let b = serves m r runs k z (omega arith) in
+              let early = b.1.1 in
+              (b.0, (b.1.0, omega arith, b.1.2))
+        ]
+
     reply_of_step : (p : Played) (is : slice_get run t ≡ Some p) (at : ℕ) (arrival : Arrival) (e : Event) (f : Lying) (m : Member) (r : Replica) → p.move ≡ Steps at arrival e f → IsArrival p.before at arrival e → p.moved.outputs ≡ outputs (stepped e r f).script → Runs p.before at m r
         → slice_get p.moved.outputs number ≡ Some (output.Reply a) → HasState log r → IsTrueReply cluster n log run t number p a
     reply_of_step p is at arrival e f m r move came said runs there had =
@@ -232,21 +277,16 @@ module _ (cluster n : ℕ) (u : Setup) (run : List Played) (x : IsFollowed clust
         let own = step.present a (subst (λ (z : List Output). In (output.Reply a) z) said (get_in os number (output.Reply a) there)) in
         let place : a.replica ≡ at = own.0 ∙ (((fit_at cluster n run x.fit t p is).0.0.members at m runs.member).running r runs.running).1.index in
         let by_lines : lines_by a.replica front ≡ lines r.index front = lines_are a.replica front ∙ ap (λ i. lines i front) own.0 in
-        let few : lines r.index front ≤ lines r.index os = lines_front r.index number os in
         let applied : (stepped e r f).replica.applied ≡ r.applied + lines r.index os = left.applied ∙ ap (λ (z : List Output). r.applied + lines r.index z) (sym said) in
-        let order = step.served.applied in
-        let views = step.served.views in
-        let view = own.1 in
         let told : Told log r.index r.applied false os = subst (Told log r.index r.applied false) (sym said) left.told in
         let so = told_at log r.index r.applied false os number (output.Reply a) told there in
         let last : after r.index false front ≡ list_any (is_line_of a.replica) (drop (length front - 1) front) = ap (λ i. after i false front) (sym own.0) ∙ after_is a.replica front in
         record {
           replica = r;
           is_of = ap (λ i. option_map_or (λ (z : Member). z.replica) (slice_get p.before.members i) None) place ∙ (ap (λ o. option_map_or (λ (z : Member). z.replica) o None) runs.member ∙ runs.running);
-          applied = backed_numbers cluster n u run x t number p is a.view (r.applied + lines_by a.replica front) (λ k z l.
-              let b = step.served.backed k z (omega arith) in
-              let early = b.1.1 in
-              (b.0, (b.1.0, omega arith, b.1.2)));
+          applied = backed_numbers cluster n u run x t number p is a.view (r.applied + lines_by a.replica front)
+              (subst (λ c. AreBacked u (by_then u (x.group t) p number) a.view (r.applied + c)) (sym by_lines)
+              (applied_backed p is at arrival e f m r move runs (subst (IsStepped r (stepped e r f).replica) (sym said) step) own.1 applied));
           said = subst (λ c. IsReplyOf log (r.applied + lines_by a.replica front) (r.applied + lines_by a.replica front - one_if c) a a.kind) last
               (subst (λ c. IsReplyOf log (r.applied + c) (r.applied + c - one_if (after r.index false front)) a a.kind) (sym by_lines) so);
         }

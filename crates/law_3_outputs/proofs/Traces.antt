@@ -22,9 +22,9 @@ use Rattle.law_1_machine.specs.Members.{Choice, Message}
 use Rattle.law_1_machine.specs.Members as machine
 use Rattle.law_2_chains.specs.Chains.{Setup, Every, WasSent}
 use Rattle.law_2_chains.specs.Finished.{IsSaid, acknowledged, prepared, a_commit, a_start, a_checkpoint, a_statement}
-use Rattle.law_2_chains.proofs.Finishing.{said_more, true_more}
+use Rattle.law_2_chains.proofs.Finishing.{sent_more}
 use Rattle.law_2_chains.specs.Safe.{run_outputs}
-use Rattle.law_3_outputs.specs.Followed.{IsFrom, IsGoodEntry, IsSo, IsFollowed}
+use Rattle.law_3_outputs.specs.Followed.{IsFrom, IsGoodEntry, IsSo, IsFollowed, by_then}
 use Rattle.law_3_outputs.proofs.Fitting.{writes_good}
 use Rattle.law_3_outputs.proofs.Sets.{get_in, in_left, in_right, every_at, in_get}
 
@@ -134,31 +134,21 @@ module _ (cluster n : ℕ) (u : Setup) (run : List Played) (x : IsFollowed clust
         | inr d ↦ let p = log_reaches run k (omega arith) in (x.carried k p.0 p.1).chosen m (chosen_later k t (omega arith) (omega arith) m h)
       ]
 
-  -- what was sent was put out
-  pub came : (t : ℕ) → t ≤ length run → (m : Message Header) → In m (x.group t).sent → IsSaid u (run_outputs (take t run)) m
-  came zero l m h = absurd (subst (In m) x.none_sent h)
-  came (suc t) l m h =
-      let p = log_reaches run t (omega arith) in
-      let next = outputs_next run t p.0 p.1 in
-      subst (λ (os : List Output). IsSaid u os m) (sym next) (elim ((x.carried t p.0 p.1).only m h) [
-        | inl old ↦ said_more u (run_outputs (take t run)) (run_outputs (take t run) ++ p.0.moved.outputs) (λ o i. in_left (run_outputs (take t run)) p.0.moved.outputs o i) m (came t (omega arith) m old)
-        | inr said ↦ said_more u p.0.moved.outputs (run_outputs (take t run) ++ p.0.moved.outputs) (λ o i. in_right (run_outputs (take t run)) p.0.moved.outputs o i) m said
-      ])
-
   -- what was put out is so
-  pub said_of : (o : Output) → In o (run_outputs run) → (t : ℕ) × (p : Played) × (slice_get run t ≡ Some p) × IsSo cluster u run (x.group t) (x.group (suc t)) p o
+  pub said_of : (o : Output) → In o (run_outputs run) → (t : ℕ) × (p : Played) × (slice_get run t ≡ Some p) × ((number : ℕ) × IsSo cluster u run (by_then u (x.group t) p number) (x.group (suc t)) p o)
   said_of o h =
       let y = output_of_move run o h in
-      (y.0, y.1, y.2, every_in (IsSo cluster u run (x.group y.0) (x.group (suc y.0)) y.1) y.1.moved.outputs o y.3 (x.carried y.0 y.1 y.2).said)
+      let k = in_get y.1.moved.outputs o y.3 in
+      (y.0, y.1, y.2, (k.0, (x.carried y.0 y.1 y.2).said k.0 o k.1))
 
   pub sent_of : (s : Sent) → In (output.Send s) (run_outputs run) → WasSent u last.sent s.message
   sent_of s h =
       let y = said_of (output.Send s) h in
       let within = slice_get_within run y.0 y.1 y.2 in
-      (true_more u (x.group y.0).sent (x.group (suc y.0)).sent last.sent (λ m i. sent_later (length run) (suc y.0) (omega arith) (omega arith) m i) (output.Send s) (y.3.sent, y.3.numbered)).0
+      sent_more u (x.group (suc y.0)).sent last.sent (λ m i. sent_later (length run) (suc y.0) (omega arith) (omega arith) m i) s.message y.3.1.sent
 
   pub from_of : (s : Sent) → In (output.Send s) (run_outputs run) → IsFrom s.from s.message
-  from_of s h = (said_of (output.Send s) h).3.from
+  from_of s h = (said_of (output.Send s) h).3.1.from
 
   pub written_of : (t : ℕ) → t ≤ length run → (z : Made Header) → In z (x.group t).made → WasWritten run z.entry
   written_of zero l z h = absurd (subst (In z) x.none_made h)

@@ -1,7 +1,7 @@
 -- What the machine of small moves gives of a run of a group: for each move of the run a chain of the machine's, at whose end all that
 -- was put out is so, and nothing else was sent, made or chosen. It is what a run of the machine gives for what is said of its outputs.
 use Rattle.vr_base.specs.declared.kind.Kind.{Kind}
-use Rattle.std.specs.Prelude.{ℕ, suc, ◌^◌, ◌<◌, ◌≤◌, ◌≡◌, ◌⊎◌, ⊤, List, [], length, All, slice_get, Some}
+use Rattle.std.specs.Prelude.{ℕ, suc, ◌^◌, ◌<◌, ◌≤◌, ◌≡◌, ◌==◌, ◌⊎◌, ⊤, List, [], ◌++◌, map, length, All, slice_get, Some, if◌then◌else◌}
 use Rattle.vr_base.specs.Bytes.{name_of}
 use Rattle.vr_header.specs.declared.header.Header.{Header}
 use Rattle.vr_header.specs.Bodies.{operation_bytes}
@@ -13,6 +13,7 @@ use Rattle.vr_msg.specs.declared.event.Event.{Event}
 use Rattle.vr_msg.specs.declared.frame.Frame.{Frame}
 use Rattle.vr_msg.specs.declared.frame.Frame.TheVariants as frame
 use Rattle.vr_msg.specs.declared.output.Chosen.{Chosen}
+use Rattle.vr_msg.specs.declared.output.Committed.{Committed as Line}
 use Rattle.vr_msg.specs.declared.output.Output.{Output}
 use Rattle.vr_msg.specs.declared.output.Output.TheVariants as output
 use Rattle.vr_msg.specs.declared.output.Sent.{Sent}
@@ -20,22 +21,43 @@ use Rattle.vr_msg.specs.Choice.{choice, named, top_commit, top_view}
 use Rattle.vr_msg.specs.Logs.{IsStatement}
 use Rattle.vr_base.specs.Groups.{quorums_of}
 use Rattle.vr_base.specs.declared.table.Quorums.{Quorums}
+use Rattle.law_2_chains.specs.Commitment.{Stored}
 use Rattle.law_2_chains.specs.Group.{Played, Run, fresh_group, made_in}
 use Rattle.law_2_chains.specs.Files.{IsOfFile}
 use Rattle.law_2_chains.specs.GroupFit.{IsFitMove}
 use Rattle.law_2_chains.specs.Opening.{AreKinds}
 use Rattle.law_2_chains.specs.Replica.{Replica, version}
+use Rattle.law_2_chains.specs.Steps.{outputs}
+use Rattle.law_2_chains.specs.Storing.{done_in, stored_from, stored_of, until_said}
 use Rattle.law_2_chains.specs.Words.{log_end}
 use Rattle.law_1_machine.specs.Basics.{In}
 use Rattle.law_1_machine.specs.Group.{Group, Made}
 use Rattle.law_1_machine.specs.Laws.{Committed}
-use Rattle.law_1_machine.specs.Members.{Choice, Message}
+use Rattle.law_1_machine.specs.Members.{Choice, Message, Prepare_ok}
 use Rattle.law_2_chains.specs.Reflecting.{entries_by}
-use Rattle.law_2_chains.specs.Chains.{Setup, IsReached, WasSent, Every}
+use Rattle.law_2_chains.specs.Bridge.{ServesWell}
+use Rattle.law_2_chains.specs.Chains.{Setup, IsBackedLine, IsReached, WasSent}
 use Rattle.law_2_chains.specs.Choices.{told_if}
 use Rattle.law_2_chains.specs.Finished.{IsNumbered, IsSaid}
 use Rattle.law_2_chains.specs.Tables.{Fits}
 use Rattle.law_2_chains.specs.Safe.{IsHashed, actor, all_heard, event_of, heard_from}
+
+-- ---- a group of one
+
+-- the vouches of its replica in the machine, for what it had stored; of another group none
+abbrev pub vouch_of : Stored → Message Header
+vouch_of x = Prepare_ok 0 x.view x.header.op x.header
+
+unfoldable pub own_vouches : Setup → List Stored → List (Message Header)
+own_vouches u xs = if u.quorums.n == 1 then map vouch_of xs else []
+
+-- what it had stored by the time at which a move puts out the output of this number
+abbrev pub stored_until : Played → ℕ → List Stored
+stored_until p number = stored_from p.before (until_said number (done_in p.move p.moved.script))
+
+-- what counts by then: what was sent before the move, and what was stored
+abbrev pub by_then : Setup → Group Header → Played → ℕ → List (Message Header)
+by_then u before p number = before.sent ++ own_vouches u (stored_until p number)
 
 -- ---- what is so of each output of a move
 
@@ -48,7 +70,7 @@ IsFrom from _ = ⊤
 pub record IsSaidSo (u : Setup) (before after : List (Message Header)) (s : Sent) : Type 0 where
   pub sent : WasSent u after s.message
   pub from : IsFrom s.from s.message
-  -- by what was sent before the move
+  -- by what counts before it
   pub numbered : IsNumbered u before s.message
 
 -- an entry with the values of the program
@@ -56,7 +78,7 @@ pub record IsGoodEntry (e : Whole) : Type 0 where
   pub header : IsHeader e.header
   pub body : IsBodyOf e.header e.operation
 
--- a commit line is of an entry that is committed by what was sent before, and that was read or written in the run: its operation's bytes
+-- a commit line is of an entry that is committed by what counts before it, and that was read or written in the run: its operation's bytes
 -- were hashed
 pub record IsLineOf (cluster : ℕ) (u : Setup) (run : List Played) (before : List (Message Header)) (e : Whole) : Type 0 where
   pub view : ℕ
@@ -87,9 +109,9 @@ pub record IsChoiceLine (u : Setup) (chosen : List (Choice Header)) (p : Played)
   pub of_heard : (j : ℕ) → made.heard j ≡ told_if (heard_from l.view event replica j)
   pub of_log : (k : ℕ) → made.log k ≡ named (all_heard l.view event replica) k
 
-abbrev pub IsSo : ℕ → Setup → List Played → Group Header → Group Header → Played → Output → Type 0
-IsSo cluster u run before after p (output.Send s) = IsSaidSo u before.sent after.sent s
-IsSo cluster u run before after p (output.Commit c) = IsLineOf cluster u run before.sent c.entry
+abbrev pub IsSo : ℕ → Setup → List Played → List (Message Header) → Group Header → Played → Output → Type 0
+IsSo cluster u run before after p (output.Send s) = IsSaidSo u before after.sent s
+IsSo cluster u run before after p (output.Commit c) = IsLineOf cluster u run before c.entry
 IsSo cluster u run before after p (output.Choose l) = IsChoiceLine u after.chosen p l
 IsSo cluster u run before after p _ = ⊤
 
@@ -111,10 +133,16 @@ pub record IsCarried (cluster : ℕ) (u : Setup) (run : List Played) (before aft
   pub sent : (m : Message Header) → In m before.sent → In m after.sent
   pub chosen : (c : Choice Header) → In c before.chosen → In c after.chosen
   -- what was put out is so
-  pub said : Every (IsSo cluster u run before after p) p.moved.outputs
-  -- nothing else was sent, and only what was written was made
-  pub only : (m : Message Header) → In m after.sent → In m before.sent ⊎ IsSaid u p.moved.outputs m
+  pub said : (number : ℕ) (o : Output) → slice_get p.moved.outputs number ≡ Some o → IsSo cluster u run (by_then u before p number) after p o
+  -- the replica of a group of one has vouched for what it had stored
+  pub vouched : (m : Message Header) → In m (own_vouches u (stored_of p)) → In m after.sent
+  -- nothing else was sent, but for what counts from the beginning of the next move on; and only what was written was made
+  pub only : (m : Message Header) → In m after.sent → In m before.sent ⊎ (IsSaid u p.moved.outputs m ⊎ In m (own_vouches u (stored_of p ++ stored_from p.moved.group [])))
   pub made : (x : Made Header) → In x after.made → In x before.made ⊎ In x.entry (made_in p.moved.script)
+  -- behind a commit line all that the replica of a step has committed at its end is so by what counts
+  pub served : (line number : ℕ) (c : Line) → line < number → slice_get p.moved.outputs line ≡ Some (output.Commit c) → ServesWell u p.before p.move (by_then u before p number)
+  -- each commit line that it began to put out is of an entry that is committed in the machine
+  pub lines : (c : Line) → In (output.Commit c) (outputs p.moved.script) → IsBackedLine u after.sent c.entry.header
 
 pub record IsFollowed (cluster n : ℕ) (u : Setup) (run : List Played) : Type 0 where
   pub hash_is : u.hash ≡ name_of

@@ -31,6 +31,7 @@ pub use Rattle.law_2_chains.specs.Rules
 pub use Rattle.law_2_chains.specs.Safe
 pub use Rattle.law_2_chains.specs.Sectors
 pub use Rattle.law_2_chains.specs.Steps
+pub use Rattle.law_2_chains.specs.Storing
 pub use Rattle.law_2_chains.specs.Tables
 pub use Rattle.law_2_chains.specs.Words
 pub use Rattle.law_2_chains.specs.World

@@ -1,4 +1,4 @@
--- What the run of a group gives beside, for its replies: of steps, that commit numbers are backed; and that a checkpoint that is loaded
+-- What the run of a group gives beside, for its replies: that commit numbers are backed before a step, and don't fall in it; and that a checkpoint that is loaded
 -- is that of the log.
 use Rattle.std.specs.Prelude.{ℕ, ◌-◌, ◌<◌, ◌≤◌, ◌≡◌, false, List, length, slice_get, Some}
 use Rattle.vr_header.specs.declared.header.Header.{Header}
@@ -39,9 +39,11 @@ pub record IsServed (u : Setup) (sent : List (Message Header)) (q : Replica) : T
   pub views : q.log_view ≤ q.view
   pub backed : AreBacked u sent q.log_view q.commit
 
--- a step from r to q, by what was sent before it
-pub record IsStepped (u : Setup) (sent : List (Message Header)) (r q : Replica) (os : List Output) : Type 0 where
-  pub served : IsServed u sent q
+-- a step from r to q
+pub record IsStepped (r q : Replica) (os : List Output) : Type 0 where
+  pub applied : q.applied ≤ q.commit
+  pub views : q.log_view ≤ q.view
+  pub rises : r.log_view ≤ q.log_view
   pub present : (a : ReplyFields) → In (output.Reply a) os → (a.replica ≡ r.index) × (a.view ≡ q.view)
 
 -- a log that has what is committed, each entry with its operation
@@ -67,7 +69,7 @@ pub record IsReplied (cluster n : ℕ) (u : Setup) (run : List Played) (x : IsFo
   -- of each member that runs before a move
   pub served : (t at : ℕ) (p : Played) (m : Member) (r : Replica) → slice_get run t ≡ Some p → Runs p.before at m r → IsServed u (x.group t).sent r
   pub steps : (t at : ℕ) (arrival : Arrival) (p : Played) (e : Event) (d : Lying) (m : Member) (r : Replica) → slice_get run t ≡ Some p → p.move ≡ Steps at arrival e d → Runs p.before at m r
-      → IsStepped u (x.group t).sent r (stepped e r d).replica (outputs (stepped e r d).script)
+      → IsStepped r (stepped e r d).replica (outputs (stepped e r d).script)
   -- a checkpoint that is loaded is that of the log, where names don't collide
   pub puts : NoCollision (IsHashed run (root_header cluster)) → (log : List Whole) → IsLogOf cluster u run (x.group (length run)).sent log
       → (t at : ℕ) (arrival : Arrival) (p : Played) (e : Event) (d : Lying) (m : Member) (r : Replica) → slice_get run t ≡ Some p → p.move ≡ Steps at arrival e d → Runs p.before at m r → PutsWell log lying r d e

@@ -30,7 +30,7 @@ use Rattle.law_4_disks.specs.Worlds.{AreBeside, IsHashedCut, Work, begun_in, beg
 use Rattle.law_4_disks.proofs.Fresh.{fresh_beside, schedules_begin}
 use Rattle.law_6_one_log.specs.Schedules.{IsHashed}
 use Rattle.law_6_one_log.proofs.Blank.{reads_nothing}
-use Rattle.law_6_one_log.proofs.Names.{contains_in}
+use Rattle.law_3_outputs.proofs.Sets.{contains_in}
 use Rattle.law_6_one_log.specs.ScheduleLaws.{SomeEntryMay, registers}
 
 -- the replica of a group of two that is asked

@@ -1,9 +1,8 @@
 -- What a run of the group hashes was hashed in its lines.
 use Rattle.std.proofs.Common.{ℕ, ◌≡◌, ◌⊎◌, inl, inr, refl, sym, subst, List, [], ◌∷◌, ◌++◌, length, Some}
-use Rattle.std.specs.Prelude.{All, Contains, slice_get}
+use Rattle.std.specs.Prelude.{Contains, slice_get}
 use Rattle.std.specs.List.{AllByRecursion}
 use Rattle.std.proofs.lemmas.List.{append-nil}
-use Rattle.std.proofs.lemmas.List.Elements.{All-nil, All-cons, All-contains, All-weaker}
 use Rattle.vr_header.specs.declared.header.Header.{Header}
 use Rattle.vr_header.specs.Names.{root_header}
 use Rattle.vr_header.specs.Spelling.{named_bytes}
@@ -13,18 +12,10 @@ use Rattle.law_3_outputs.specs.Safe as safe
 use Rattle.law_3_outputs.specs.Safe.{disks_of, given, read, wrote}
 use Rattle.law_3_outputs.specs.Steps.{Effect}
 use Rattle.law_3_outputs.specs.World.{Happening, World, happens}
-use Rattle.law_1_machine.specs.Basics.{In}
 use Rattle.law_4_disks.specs.Worlds.{IsOneMove, begun_in, moved_once, read_in, unmoved}
-use Rattle.law_3_outputs.proofs.Sets.{in_contains}
+use Rattle.law_3_outputs.proofs.Sets.{contains_in, in_contains}
 use Rattle.law_3_outputs.proofs.Traces.{in_either}
 use Rattle.law_6_one_log.specs.Schedules.{IsHashedOf, IsUsedAt}
-
-all_in : {X : Type 0} (xs : List X) → All (λ x. In x xs) xs
-all_in [] = All-nil (λ x. In x [])
-all_in {X} (y ∷ ys) = All-cons (λ x. In x (y ∷ ys)) y ys (inl refl) (All-weaker (λ (x : X). In x ys) (λ x. In x (y ∷ ys)) (λ x i. inr i) ys (all_in ys))
-
-pub contains_in : {X : Type 0} (xs : List X) (x : X) → Contains xs x → In x xs
-contains_in xs x h = All-contains (λ y. In y xs) xs x (all_in xs) h
 
 pub contains_none : {X : Type 0} (x : X) → Contains [] x → ⊥
 contains_none x h = contains_in [] x h

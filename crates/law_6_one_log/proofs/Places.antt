@@ -51,7 +51,7 @@ pub record Placed (run : List Played) (i : ℕ) (o : Output) : Type 0 where
   pub number : ℕ
   pub moved : Played
   pub is : IsOutput run move number moved o
-  pub same : before run move number moved ≡ take i (run_outputs run)
+  pub same : (before run move number moved).outputs ≡ take i (run_outputs run)
 
 -- in these, or behind them
 data Split {X : Type 0} (xs ys : List X) (i : ℕ) (x : X) : Type 0 where

@@ -37,24 +37,17 @@ use Rattle.law_3_outputs.proofs.FitGroups.{fresh_at, good_value, start_is, step_
 use Rattle.law_3_outputs.proofs.SendsScripts.{outputs_append}
 use Rattle.law_1_machine.specs.Basics.{In}
 use Rattle.law_3_outputs.specs.Chains.{Every, IsBackedLine, Setup}
-use Rattle.law_3_outputs.specs.Finished.{IsTrue}
-use Rattle.law_3_outputs.specs.Local.{Local, carried}
-use Rattle.law_3_outputs.specs.Openings.{keeping}
-use Rattle.law_3_outputs.proofs.Opening as opening
-use Rattle.law_3_outputs.proofs.Playing.{leaves}
 use Rattle.law_3_outputs.specs.Bridge.{Bridges}
-use Rattle.law_3_outputs.proofs.Bridging.{begun_of, chain_of, local, may_begin}
 use Rattle.law_3_outputs.specs.Answering.{one_if}
 use Rattle.law_3_outputs.specs.Followed.{IsFollowed}
 use Rattle.law_3_outputs.specs.Ordered.{AreInOrder}
 use Rattle.law_3_outputs.specs.Replied.{IsLogOf}
-use Rattle.law_3_outputs.proofs.Fitting.{IsOpening, arrives, file_at, fit_at, move_of, opening_of, several_in}
+use Rattle.law_3_outputs.proofs.Fitting.{IsOpening, arrives, file_at, fit_at, move_of, opening_of}
 use Rattle.law_3_outputs.proofs.Ordering.{come_in_order}
 use Rattle.law_3_outputs.proofs.Reading.{opening_reads, reads_good}
 use Rattle.law_3_outputs.proofs.Resuming.{on_disk, resumed_order, said_right}
 use Rattle.law_3_outputs.proofs.Sets.{every_at, get_in, in_contains, in_left, in_right}
 use Rattle.law_3_outputs.proofs.SlotCalls.{IsTaken, member_taken, read_or_written}
-use Rattle.law_3_outputs.proofs.Traces.{every_in}
 use Rattle.law_6_one_log.specs.Hashed.{ReadsHashed}
 use Rattle.law_6_one_log.proofs.Disks.{Begun}
 use Rattle.law_6_one_log.proofs.Lines.{lines_may}
@@ -115,6 +108,38 @@ every_first : {X : Type 0} (P : X → Type 0) (k : ℕ) (xs ys : List X) → k �
 every_first P zero xs ys l h = tt
 every_first P (suc k) [] ys l h = absurd (omega arith)
 every_first P (suc k) (x ∷ xs) ys l h = (h.0, every_first P k xs ys (omega arith) h.1)
+
+-- ---- what effects put out
+
+said_by : (es : List Effect) (o : Output) → In o (outputs es) → In (Say o) es
+unfolding outputs
+said_by [] o h = absurd h
+said_by (Write again e ∷ es) o h = inr (said_by es o h)
+said_by (Rewrite x ∷ es) o h = inr (said_by es o h)
+said_by (Save old new ∷ es) o h = inr (said_by es o h)
+said_by (Mend v ∷ es) o h = inr (said_by es o h)
+said_by (Checkpoint by texts op old ∷ es) o h = inr (said_by es o h)
+said_by (PutBlock name block ∷ es) o h = inr (said_by es o h)
+said_by (Say p ∷ es) o (inl e) = inl (ap Say e)
+said_by (Say p ∷ es) o (inr h) = inr (said_by es o h)
+
+said_out : (es : List Effect) (o : Output) → In (Say o) es → In o (outputs es)
+unfolding outputs
+said_out [] o h = absurd h
+said_out (Write again e ∷ es) o (inl same) = absurd cc
+said_out (Write again e ∷ es) o (inr h) = said_out es o h
+said_out (Rewrite x ∷ es) o (inl same) = absurd cc
+said_out (Rewrite x ∷ es) o (inr h) = said_out es o h
+said_out (Save old new ∷ es) o (inl same) = absurd cc
+said_out (Save old new ∷ es) o (inr h) = said_out es o h
+said_out (Mend v ∷ es) o (inl same) = absurd cc
+said_out (Mend v ∷ es) o (inr h) = said_out es o h
+said_out (Checkpoint by texts op old ∷ es) o (inl same) = absurd cc
+said_out (Checkpoint by texts op old ∷ es) o (inr h) = said_out es o h
+said_out (PutBlock name block ∷ es) o (inl same) = absurd cc
+said_out (PutBlock name block ∷ es) o (inr h) = said_out es o h
+said_out (Say p ∷ es) o (inl same) = inl (let e : Say o ≡ Say p = same in cc)
+said_out (Say p ∷ es) o (inr h) = inr (said_out es o h)
 
 -- ---- messages
 
@@ -212,8 +237,12 @@ module _ (cluster n : ℕ) (u : Setup) (run : List Played) (x : IsFollowed clust
     mine : IsFitGroup u.cluster p.before
     mine = subst (λ c. IsFitGroup c p.before) (sym x.cluster_is) fit_group
 
-    within : t ≤ length run
-    within = let w = slice_get_within run t p is in omega arith
+    later : suc t ≤ length run
+    later = let w = slice_get_within run t p is in omega arith
+
+    -- a commit line that the move begins to put out
+    begun_told : (xs : List Effect) → ((z : Effect) → In z xs → In z p.moved.script) → (c : Committed) → In (output.Commit c) (outputs xs) → IsBackedLine u (x.group (suc t)).sent c.entry.header
+    begun_told xs has c j = (x.carried t p is).lines c (said_out p.moved.script (output.Commit c) (has (Say (output.Commit c)) (said_by xs (output.Commit c) j)))
 
     -- ---- a step
 
@@ -234,20 +263,13 @@ module _ (cluster n : ℕ) (u : Setup) (run : List Played) (x : IsFollowed clust
       step_taken : All (IsTaken d.version) es
       step_taken = member_taken cluster p.before.n at acting.edition m.last d es acting.last (file m runs.member) (step_is cluster p.before.n at acting.edition r e d own.0 own.1 event fit.1).known
 
-      step_told : (c : Committed) → In (output.Commit c) (outputs es) → IsBackedLine u (x.group t).sent c.entry.header
-      step_told c j =
-          let y = (chain_of u x.fits x.hash_is p.before (x.group t) mine (bridges t p is) (several_in cluster n u run x) at arrival e d m r runs.member runs.running fit.0 came).chain in
-          let before = (begun_of u (x.group t) at es y.begun y.begins).sent in
-          let all : Every (IsTrue u y.begun.sent y.finishes.after.sent) (outputs es) = subst (Every (IsTrue u y.begun.sent y.finishes.after.sent)) (leaves es (local m)).said y.finishes.ends.told in
-          subst (λ s. IsBackedLine u s c.entry.header) before (every_in (IsTrue u y.begun.sent y.finishes.after.sent) (outputs es) (output.Commit c) j all)
-
       step_may : (xs ys : List Effect) → xs ++ ys ≡ es → ((z : Effect) → In z xs → In z p.moved.script) → AllMay H cluster log r.index r.applied d xs
       step_may xs ys are has =
           let said : outputs es ≡ outputs xs ++ outputs ys = ap outputs (sym are) ∙ outputs_append xs ys in
           let order = (come_in_order lying r d e lies_fit.names own.0.sound event).ordered in
-          lines_may cluster n u run x never log is_log t within r.index r.applied d xs (all_front (IsTaken d.version) xs ys (subst (All (IsTaken d.version)) (sym are) step_taken)) (ordered_front r.index r.applied (outputs xs) (outputs ys) (subst (AreInOrder r.index r.applied) said order))
+          lines_may cluster n u run x never log is_log (suc t) later r.index r.applied d xs (all_front (IsTaken d.version) xs ys (subst (All (IsTaken d.version)) (sym are) step_taken)) (ordered_front r.index r.applied (outputs xs) (outputs ys) (subst (AreInOrder r.index r.applied) said order))
           (λ c j. let i = subst (λ (os : List Output). In (output.Commit c) os) (sym said) (in_left (outputs xs) (outputs ys) (output.Commit c) j) in
-          (step_told c i, reads_good lying d r e lies_fit.program lies_fit.roots fit.1 own.0.sound own.0.savable own.0.blocks event c i))
+          (begun_told xs has c j, reads_good lying d r e lies_fit.program lies_fit.roots fit.1 own.0.sound own.0.savable own.0.blocks event c i))
           (λ z i. begun_in z (has z i)) (entries_in d face)
 
       event_told : IsTrueEvent H cluster log e
@@ -329,13 +351,6 @@ module _ (cluster n : ℕ) (u : Setup) (run : List Played) (x : IsFollowed clust
       script_taken : All (IsTaken d.version) (xs ++ ys)
       script_taken = member_taken cluster p.before.n at waking.edition v d (xs ++ ys) value file (start_is cluster p.before.n at waking.edition v d fit_group.several value fit).known
 
-      told_rest : (c : Committed) → In (output.Commit c) (outputs ys) → IsBackedLine u (x.group t).sent c.entry.header
-      told_rest c j =
-          let y = opening.opens u (x.group t) at (local m) p.before.made v lying d (may_begin u x.fits x.hash_is p.before (x.group t) mine (bridges t p is) at m v d wakes fit) in
-          let k : Local = keeping v (mended v d) (carried xs (local m)) in
-          let all : Every (IsTrue u (x.group t).sent y.finishes.after.sent) (k.said ++ outputs ys) = subst (Every (IsTrue u (x.group t).sent y.finishes.after.sent)) (leaves ys k).said y.finishes.ends.told in
-          every_in (IsTrue u (x.group t).sent y.finishes.after.sent) (k.said ++ outputs ys) (output.Commit c) (in_right k.said (outputs ys) (output.Commit c) j) all
-
       rest_may : ((z : Effect) → In z xs → In z p.moved.script) → (fs gs : List Effect) → fs ++ gs ≡ ys → ((z : Effect) → In z fs → In z p.moved.script) → AllMay H cluster log (recovered v d).index (recovered v d).applied (on_disk v d) fs
       rest_may first fs gs are has =
           let q : Replica = recovered v d in
@@ -343,9 +358,9 @@ module _ (cluster n : ℕ) (u : Setup) (run : List Played) (x : IsFollowed clust
           let order = (resumed_order v d good.0 good.1 fit).ordered in
           let ver = (on_disk v d).version in
           let taken : All (IsTaken ver) ys = subst (λ (k : ℕ). All (IsTaken k) ys) (sym (same_version xs d)) (all_back (IsTaken d.version) xs ys script_taken) in
-          lines_may cluster n u run x never log is_log t within q.index q.applied (on_disk v d) fs (all_front (IsTaken ver) fs gs (subst (All (IsTaken ver)) (sym are) taken)) (ordered_front q.index q.applied (outputs fs) (outputs gs) (subst (AreInOrder q.index q.applied) said order))
+          lines_may cluster n u run x never log is_log (suc t) later q.index q.applied (on_disk v d) fs (all_front (IsTaken ver) fs gs (subst (All (IsTaken ver)) (sym are) taken)) (ordered_front q.index q.applied (outputs fs) (outputs gs) (subst (AreInOrder q.index q.applied) said order))
           (λ c j. let i = subst (λ (os : List Output). In (output.Commit c) os) (sym said) (in_left (outputs fs) (outputs gs) (output.Commit c) j) in
-          (told_rest c i, opening_reads v d good fit c (said_right xs ys (output.Commit c) i)))
+          (begun_told fs has c j, opening_reads v d good fit c (said_right xs ys (output.Commit c) i)))
           (λ z i. begun_in z (has z i))
           (λ slot e l q. elim (read_or_written xs d (all_front (IsTaken d.version) xs ys script_taken) slot e l q) [
             | inl old ↦ entries_in d face slot e l old

@@ -1,5 +1,5 @@
 -- What a running member has applied is committed by what was sent, before a step and after it; and a reply names its replica and its view.
-use Rattle.std.proofs.Common.{ℕ, ◌≤◌, ◌≡◌, ◌∙◌, sym, subst, arith, List, Some}
+use Rattle.std.proofs.Common.{ℕ, ◌≡◌, ◌∙◌, sym, subst, arith, List, Some}
 use Rattle.std.specs.Prelude.{⊤, slice_get}
 use Rattle.std.proofs.lemmas.List.Elements.{All-contains}
 use Rattle.vr_header.specs.declared.header.Header.{Header}
@@ -19,11 +19,14 @@ use Rattle.law_3_outputs.specs.Reflecting.{entries_by}
 use Rattle.law_3_outputs.specs.Tables.{Fits}
 use Rattle.law_3_outputs.proofs.Finishing.{counted}
 use Rattle.law_3_outputs.specs.Bridge.{Bridges}
-use Rattle.law_3_outputs.proofs.Bridging.{begun_of, chain_of, local, mid_of}
+use Rattle.law_3_outputs.proofs.Bridging.{local, mid_of}
 use Rattle.law_3_outputs.specs.Followed.{IsFollowed}
 use Rattle.law_3_outputs.specs.Replied.{IsServed, IsStepped}
-use Rattle.law_3_outputs.proofs.Fitting.{fit_at, move_of, several_in}
+use Rattle.law_3_outputs.proofs.Fitting.{arrives, fit_at, move_of}
+use Rattle.law_3_outputs.proofs.FitLies.{lies_fit}
 use Rattle.law_3_outputs.proofs.Placing.{placed_at, step_present}
+use Rattle.law_3_outputs.proofs.Reacting.{steps_stay_sound}
+use Rattle.law_3_outputs.proofs.Rising.{steps_rise}
 use Rattle.law_3_outputs.proofs.Sets.{in_contains}
 
 module _ (u : Setup) (fits : Fits u) (hash : u.hash ≡ lying.hash) (g : group.Group) (s : Group Header) (fit : IsFitGroup u.cluster g) (bridge : Bridges u g s) where
@@ -38,22 +41,17 @@ module _ (u : Setup) (fits : Fits u) (hash : u.hash ≡ lying.hash) (g : group.G
         backed = λ k z a. subst (λ v. (h : Header) × Backed u.quorums (entries_by u.hash u.cluster) s.sent v k h) f.log_view (counted u s at r (local m) s x k z (let c = f.commit in omega arith));
       }
 
-  stepped_now : 2 ≤ u.quorums.n → (at : ℕ) (a : Arrival) (e : Event) (d : Lying) (m : Member) (r : Replica) → Runs g at m r → IsFitArrival a → IsArrival g at a e → IsPlaced r
-      → IsStepped u s.sent r (stepped e r d).replica (outputs (stepped e r d).script)
-  stepped_now several at a e d m r runs h i placed =
-      let c = (chain_of u fits hash g s fit bridge several at a e d m r runs.member runs.running h i).chain in
-      let x = c.finishes.ends in
-      let before : c.begun.sent ≡ s.sent = (begun_of u s at (stepped e r d).script c.begun c.begins).sent in
-      let f = x.reflects in
-      let order = x.sound.order in
+  stepped_now : (at : ℕ) (a : Arrival) (e : Event) (d : Lying) (m : Member) (r : Replica) → Runs g at m r → IsFitArrival a → IsArrival g at a e → IsPlaced r
+      → IsStepped r (stepped e r d).replica (outputs (stepped e r d).script)
+  stepped_now at a e d m r runs h i placed =
+      let own = ((fit.members at m runs.member).running r runs.running).0.sound in
+      let event = arrives u.cluster g at a e fit h i in
+      let order = (steps_stay_sound lying d r e lies_fit.names own event).order in
       let p = step_present r e d placed in
       record {
-        served = record {
-          applied = order.commit;
-          views = order.views;
-          backed = λ k z l. subst (λ v. (y : Header) × Backed u.quorums (entries_by u.hash u.cluster) s.sent v k y) f.log_view
-              (subst (λ sent. (y : Header) × Backed u.quorums (entries_by u.hash u.cluster) sent x.memory.log_view k y) before (x.served k z (let c = f.commit in omega arith)));
-        };
+        applied = order.commit;
+        views = order.views;
+        rises = (steps_rise lying d r e own event).log_view;
         present = λ reply j.
             let q = All-contains (IsPresentOutput (Answers e) r (stepped e r d).replica) (outputs (stepped e r d).script) (output.Reply reply) p.each (in_contains (outputs (stepped e r d).script) (output.Reply reply) j) in
             (q.0.replica ∙ p.index, q.1);
@@ -81,9 +79,9 @@ module _ (cluster n : ℕ) (u : Setup) (run : List Played) (x : IsFollowed clust
   run_serves t at p m r is runs = served_now u x.fits x.hash_is p.before (x.group t) (mine t p is) (bridges t p is) at m r runs
 
   pub run_steps : (t at : ℕ) (arrival : Arrival) (p : Played) (e : Event) (d : Lying) (m : Member) (r : Replica) → slice_get run t ≡ Some p → p.move ≡ Steps at arrival e d → Runs p.before at m r
-      → IsStepped u (x.group t).sent r (stepped e r d).replica (outputs (stepped e r d).script)
+      → IsStepped r (stepped e r d).replica (outputs (stepped e r d).script)
   run_steps t at arrival p e d m r is step runs =
       let moves = move_of (fresh_group x.fit.kinds cluster n) run x.fit.of_run t p is in
       let i : IsArrival p.before at arrival e = subst (Arrives p.before) step (moves_arrive p.before p.move p.moved moves) in
       let h = subst IsFitMove step (fit_at cluster n run x.fit t p is).1 in
-      stepped_now u x.fits x.hash_is p.before (x.group t) (mine t p is) (bridges t p is) (several_in cluster n u run x) at arrival e d m r runs h.0 i (placed_at cluster n run x.fit t p is at m r runs)
+      stepped_now u x.fits x.hash_is p.before (x.group t) (mine t p is) (bridges t p is) at arrival e d m r runs h.0 i (placed_at cluster n run x.fit t p is at m r runs)

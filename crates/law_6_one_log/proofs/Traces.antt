@@ -16,19 +16,19 @@ use Rattle.vr_msg.specs.declared.output.Output.TheVariants as output
 use Rattle.vr_msg.specs.declared.output.Sent.{Sent}
 use Rattle.vr_ckpt.proofs.Once.{each_once}
 use Rattle.law_3_outputs.specs.Commitment as said
-use Rattle.law_3_outputs.specs.Commitment.{AreCommitted, HasSent, IsBackedMessage, IsCommitted, IsLine, Vouches}
+use Rattle.law_3_outputs.specs.Commitment.{AreCommitted, Evidence, HasSent, IsBackedMessage, IsCommitted, IsLine, Stored, Vouches}
 use Rattle.law_3_outputs.specs.Group.{Played, fresh_group}
 use Rattle.law_3_outputs.specs.Opening.{AreKinds, IsKind}
 use Rattle.law_3_outputs.specs.Lying.{Lying}
-use Rattle.law_3_outputs.specs.Safe.{IsHashed, IsJustified, KeepsEntry, Safe, before, run_outputs}
+use Rattle.law_3_outputs.specs.Safe.{IsHashed, IsJustified, KeepsEntry, Safe, before, evidence, run_outputs}
+use Rattle.law_3_outputs.specs.Storing.{run_stored}
 use Rattle.law_3_outputs.specs.World.{Happened}
 use Rattle.law_1_machine.specs.Basics.{In}
 use Rattle.law_4_disks.specs.Worlds.{IsAside, IsMatched, Said}
 use Rattle.law_4_disks.specs.Worlds as worlds
 use Rattle.law_3_outputs.specs.Followed.{IsFitRun}
-use Rattle.law_3_outputs.proofs.Sets.{get_in, in_get, in_left, in_right}
+use Rattle.law_3_outputs.proofs.Sets.{contains_in, get_in, in_get, in_left, in_right}
 use Rattle.law_3_outputs.proofs.Traces.{in_either, output_of_move}
-use Rattle.law_6_one_log.proofs.Names.{contains_in}
 use Rattle.law_6_one_log.specs.Laws.{HasOneLog, KeepsLog, KeepsOneLog}
 use Rattle.law_6_one_log.specs.Outputs.{IsCutByNacks, IsOnceInSession, IsPlaced, RestsOn}
 use Rattle.law_6_one_log.proofs.Places.{in_said, matches, placed}
@@ -55,28 +55,36 @@ to_run ws gs all s i = said_in ws gs all (output.Send s) (λ a. a) i
 from_run : (ws gs : List Output) → Said ws gs → SendNoMore gs ws
 from_run ws gs all s i = in_said ws gs all (output.Send s) i
 
-module _ (xs ys : List Output) (all : SendNoMore xs ys) where
+-- with the same stored
+module _ (stored : List Stored) (xs ys : List Output) (all : SendNoMore xs ys) where
+  abbrev less : Evidence
+  less = record { outputs = xs; stored = stored }
+
+  abbrev more : Evidence
+  more = record { outputs = ys; stored = stored }
+
   sent_said : (r : ℕ) (m : Frame) → HasSent xs r m → HasSent ys r m
   sent_said r m h =
       let g = in_get ys (output.Send (record { from = r; to = h.to; message = m })) (all (record { from = r; to = h.to; message = m }) (get_in xs h.at _ h.is)) in
       record { at = g.0; to = h.to; is = g.1 }
 
-  vouch_said : (n view r : ℕ) (c : Header) → Vouches n xs view r c → Vouches n ys view r c
+  vouch_said : (n view r : ℕ) (c : Header) → Vouches n less view r c → Vouches n more view r c
   vouch_said n view r c (said.acknowledged a s v k e) = said.acknowledged a (sent_said r _ s) v k e
   vouch_said n view r c (said.prepared p s l v e) = said.prepared p (sent_said r _ s) l v e
+  vouch_said n view r c (said.alone one first there) = said.alone one first there
 
-  committed_said : (cluster n view : ℕ) (c : Header) → IsCommitted cluster n xs view c → IsCommitted cluster n ys view c
+  committed_said : (cluster n view : ℕ) (c : Header) → IsCommitted cluster n less view c → IsCommitted cluster n more view c
   committed_said cluster n _ _ said.root = said.root
   committed_said cluster n _ _ (said.stands_on earlier view d c prior le stands quorum) =
       said.stands_on earlier view d c (committed_said cluster n earlier d prior) le stands
       (record { voters = quorum.voters; enough = quorum.enough; each = λ r h. let y = quorum.each r h in (y.0, vouch_said n view r c y.1) })
 
-  numbers_said : (home n : ℕ) (log : List Whole) (last commit : ℕ) → AreCommitted home n xs log last commit → AreCommitted home n ys log last commit
+  numbers_said : (home n : ℕ) (log : List Whole) (last commit : ℕ) → AreCommitted home n less log last commit → AreCommitted home n more log last commit
   numbers_said home n log last commit h op above upto =
       let e = h op above upto in
       record { entry = e.entry; at = e.at; number = e.number; view = e.view; early = e.early; committed = committed_said home n e.view e.entry.header e.committed }
 
-  message_said : (home n : ℕ) (log : List Whole) (m : Frame) → IsBackedMessage home n xs log m → IsBackedMessage home n ys log m
+  message_said : (home n : ℕ) (log : List Whole) (m : Frame) → IsBackedMessage home n less log m → IsBackedMessage home n more log m
   message_said home n log (frame.Request q) h = tt
   message_said home n log (frame.Reply r) h = tt
   message_said home n log (frame.Prepare p) h = numbers_said home n log p.view p.commit h
@@ -94,7 +102,7 @@ module _ (xs ys : List Output) (all : SendNoMore xs ys) where
   message_said home n log (frame.SyncView v) h = (numbers_said home n log v.view v.commit h.0, h.1)
 
   -- a choice of a log is justified in what says no more
-  justified_said : (n : ℕ) (p : Played) (l : Chosen) → IsJustified n ys p l → IsJustified n xs p l
+  justified_said : (n : ℕ) (p : Played) (l : Chosen) → IsJustified n more p l → IsJustified n less p l
   justified_said n p l j = record {
     replica = j.replica;
     is_of = j.is_of;
@@ -109,7 +117,7 @@ module _ (xs ys : List Output) (all : SendNoMore xs ys) where
     each = λ i h. let d = j.each i h in record { statement = d.statement; stated = d.stated; denies = d.denies; silent = λ c op v. d.silent c op (vouch_said n l.log_view i c v) };
   }
 
-  line_said : (home n : ℕ) (log : List Whole) (c : Committed) → IsLine home n xs log c → IsLine home n ys log c
+  line_said : (home n : ℕ) (log : List Whole) (c : Committed) → IsLine home n less log c → IsLine home n more log c
   line_said home n log c h = record { at = h.at; number = h.number; view = h.view; committed = committed_said home n h.view c.entry.header h.committed }
 
 -- ---- a safe run
@@ -126,8 +134,8 @@ module _ (cluster n : ℕ) (run : List Played) (safe : Safe cluster n run) where
       let two : Some c.entry ≡ Some d.entry = sym (line_at never c i) ∙ (ap (λ (k : ℕ). slice_get safe.log (k - 1)) same ∙ line_at never d j) in
       cc
 
-  one_entry : (v w : ℕ) (c d : Header) → IsHeader c → IsHeader d → NoCollision (IsHashed run c) → NoCollision (IsHashed run d) → 0 < c.op → c.op ≡ d.op → IsCommitted cluster n (run_outputs run) v c
-      → IsCommitted cluster n (run_outputs run) w d → c ≡ d
+  one_entry : (v w : ℕ) (c d : Header) → IsHeader c → IsHeader d → NoCollision (IsHashed run c) → NoCollision (IsHashed run d) → 0 < c.op → c.op ≡ d.op → IsCommitted cluster n (evidence run) v c
+      → IsCommitted cluster n (evidence run) w d → c ≡ d
   one_entry v w c d fc fd nc nd above same kc kd =
       let a = safe.one v c fc nc above kc in
       let b = safe.one w d fd nd (omega arith) kd in
@@ -140,14 +148,14 @@ module _ (home n : ℕ) (run : List Played) (safe : Safe home n run) where
   rests : NoCollision (IsHashed run (root_header home)) → (front : List Output) (o : Output) → IsPlaced run front o → RestsOn home n safe.log run front o
   rests never front (output.Send s) x =
       let gs = before run x.move x.number x.moved in
-      message_said gs front (from_run front gs x.place) home n safe.log s.message (safe.backed x.move x.number x.moved (output.Send s) never x.is)
+      record { at = x; so = message_said gs.stored gs.outputs front (from_run front gs.outputs x.place) home n safe.log s.message (safe.backed x.move x.number x.moved (output.Send s) never x.is) }
   rests never front (output.Commit c) x =
       let gs = before run x.move x.number x.moved in
-      line_said gs front (from_run front gs x.place) home n safe.log c (safe.backed x.move x.number x.moved (output.Commit c) never x.is)
+      record { at = x; so = line_said gs.stored gs.outputs front (from_run front gs.outputs x.place) home n safe.log c (safe.backed x.move x.number x.moved (output.Commit c) never x.is) }
   rests never front (output.Reply a) x =
       let gs = before run x.move x.number x.moved in
       let so = safe.backed x.move x.number x.moved (output.Reply a) never x.is in
-      record { at = x; so = so; committed = numbers_said gs front (from_run front gs x.place) home n safe.log a.view _ so.applied }
+      record { at = x; so = so; committed = numbers_said gs.stored gs.outputs front (from_run front gs.outputs x.place) home n safe.log a.view _ so.applied }
   rests never front (output.Choose l) x = tt
   rests never front (output.Wait w) x = tt
   rests never front (output.Start s) x = tt
@@ -155,14 +163,14 @@ module _ (home n : ℕ) (run : List Played) (safe : Safe home n run) where
   rests never front output.Done x = tt
   rests never front output.KeptOut x = tt
 
-  kept_in : (view : ℕ) (c : Header) → IsHeader c → NoCollision (IsHashed run c) → 0 < c.op → IsCommitted home n (run_outputs run) view c → (o : Output) → In o (run_outputs run) → KeepsEntry view c o
+  kept_in : (view : ℕ) (c : Header) → IsHeader c → NoCollision (IsHashed run c) → 0 < c.op → IsCommitted home n (evidence run) view c → (o : Output) → In o (run_outputs run) → KeepsEntry view c o
   kept_in view c form never above is o i =
       let m = output_of_move run o i in
       let k = in_get m.1.moved.outputs o m.3 in
       safe.kept view c form never above is m.0 k.0 m.1 o (record { at = m.2; is = k.1 })
 
   cut_in : NoCollision (IsHashed run (root_header home)) → (front outputs : List Output) → SendNoMore outputs (run_outputs run) → (l : Chosen) → IsPlaced run front (output.Choose l) → IsCutByNacks n run front outputs l
-  cut_in never front outputs all l x = record { at = x; so = justified_said outputs (run_outputs run) all n x.moved l (safe.backed x.move x.number x.moved (output.Choose l) never x.is) }
+  cut_in never front outputs all l x = record { at = x; so = justified_said (run_stored run) outputs (run_outputs run) all n x.moved l (safe.backed x.move x.number x.moved (output.Choose l) never x.is) }
 
 -- ---- what happened
 
@@ -214,9 +222,9 @@ keeps_log kinds home n k number few many one h m never =
       rests = λ number o e. rests_aside home n s.log m.run (take number h.outputs) o (λ not. rests home n m.run s never (take number h.outputs) o (place_of m.run h.outputs m.said number o e not));
       lines = λ c d i j same. one_line home n m.run s never c d (said_in h.outputs gs m.said (output.Commit c) (λ a. a) (contains_in h.outputs (output.Commit c) i))
           (said_in h.outputs gs m.said (output.Commit d) (λ a. a) (contains_in h.outputs (output.Commit d) j)) same;
-      logged = λ v c fc nc above kc. s.one v c fc nc above (committed_said h.outputs gs all home n v c kc);
-      one = λ v w c d fc fd nc nd above same kc kd. one_entry home n m.run s v w c d fc fd nc nd above same (committed_said h.outputs gs all home n v c kc) (committed_said h.outputs gs all home n w d kd);
-      kept = λ v c fc nc above kc o i. kept_aside v c o (λ not. kept_in home n m.run s v c fc nc above (committed_said h.outputs gs all home n v c kc) o (said_in h.outputs gs m.said o not (contains_in h.outputs o i)));
+      logged = λ v c fc nc above kc. s.one v c fc nc above (committed_said (run_stored m.run) h.outputs gs all home n v c kc);
+      one = λ v w c d fc fd nc nd above same kc kd. one_entry home n m.run s v w c d fc fd nc nd above same (committed_said (run_stored m.run) h.outputs gs all home n v c kc) (committed_said (run_stored m.run) h.outputs gs all home n w d kd);
+      kept = λ v c fc nc above kc o i. kept_aside v c o (λ not. kept_in home n m.run s v c fc nc above (committed_said (run_stored m.run) h.outputs gs all home n v c kc) o (said_in h.outputs gs m.said o not (contains_in h.outputs o i)));
       cut = λ number l e. cut_in home n m.run s never (take number h.outputs) h.outputs all l (place_of m.run h.outputs m.said number (output.Choose l) e (λ a. a));
       once = once s.log;
     }

@@ -25,7 +25,8 @@ use Rattle.law_4_disks.proofs.Fresh.{fresh_beside, schedules_begin}
 use Rattle.law_6_one_log.specs.ScheduleLaws.{SomeScheduleMay}
 use Rattle.law_6_one_log.specs.Schedules.{IsHashed, IsUsedAt, MayAll}
 use Rattle.law_6_one_log.proofs.Blank.{reads_nothing}
-use Rattle.law_6_one_log.proofs.Names.{contains_in, contains_none}
+use Rattle.law_3_outputs.proofs.Sets.{contains_in}
+use Rattle.law_6_one_log.proofs.Names.{contains_none}
 
 module _ (kind : Kind) (is : IsKind kind) where
   abbrev start : World Lying

@@ -24,7 +24,7 @@ use Rattle.law_4_disks.specs.Worlds.{IsLine, IsMatched, first_world}
 use Rattle.law_6_one_log.specs.Schedules.{IsHashedOf, MayAll, room}
 use Rattle.law_3_outputs.specs.Answering.{HasState}
 use Rattle.law_3_outputs.specs.Followed.{IsFitRun}
-use Rattle.law_6_one_log.specs.Outputs.{IsCutByNacks, IsOnceInSession, RestsOn}
+use Rattle.law_6_one_log.specs.Outputs.{IsCutByNacks, IsOnceInSession, RestsOn, counts_in}
 
 -- 2 to 6 replicas, whatever is delivered, stopped, cut, started and read, where what moves read has the forms of the program
 abbrev pub RunsAreSafe : Type 0
@@ -66,17 +66,17 @@ pub record KeepsLog (kinds : ℕ → Kind) (cluster n : ℕ) (h : Happened Lying
   pub names : NoCollision (IsHashed matched.run (root_header cluster))
   -- the state of each running replica is the plain fold of the log, also after it has taken over another's checkpoint
   pub folds : (t : ℕ) (p : Played) → slice_get matched.run t ≡ Some p → HaveFolds safe.log p.moved.group
-  -- commit lines, the commit numbers of messages, and replies rest on the log, and on what was put out before them
+  -- commit lines, the commit numbers of messages, and replies rest on the log, and on what was put out and stored before them
   pub rests : (number : ℕ) (o : Output) → slice_get h.outputs number ≡ Some o → RestsOn cluster n safe.log matched.run (take number h.outputs) o
   -- two commit lines of one number are of one entry
   pub lines : (c d : Committed) → Contains h.outputs (output.Commit c) → Contains h.outputs (output.Commit d)
       → c.entry.header.op ≡ d.entry.header.op → c.entry ≡ d.entry
   -- an entry that is committed is the log's at its number; so two entries that are committed at one number are one
-  pub logged : (view : ℕ) (c : Header) → IsHeader c → NoCollision (IsHashed matched.run c) → 0 < c.op → IsCommitted cluster n h.outputs view c → (e : Whole) × (slice_get safe.log (c.op - 1) ≡ Some e) × (e.header ≡ c)
+  pub logged : (view : ℕ) (c : Header) → IsHeader c → NoCollision (IsHashed matched.run c) → 0 < c.op → IsCommitted cluster n (counts_in h.outputs matched.run) view c → (e : Whole) × (slice_get safe.log (c.op - 1) ≡ Some e) × (e.header ≡ c)
   pub one : (v w : ℕ) (c d : Header) → IsHeader c → IsHeader d → NoCollision (IsHashed matched.run c) → NoCollision (IsHashed matched.run d) → 0 < c.op → c.op ≡ d.op
-      → IsCommitted cluster n h.outputs v c → IsCommitted cluster n h.outputs w d → c ≡ d
+      → IsCommitted cluster n (counts_in h.outputs matched.run) v c → IsCommitted cluster n (counts_in h.outputs matched.run) w d → c ≡ d
   -- and keeps its number in every later view: what is prepared, chosen and taken over there has it
-  pub kept : (view : ℕ) (c : Header) → IsHeader c → NoCollision (IsHashed matched.run c) → 0 < c.op → IsCommitted cluster n h.outputs view c → (o : Output) → Contains h.outputs o → KeepsEntry view c o
+  pub kept : (view : ℕ) (c : Header) → IsHeader c → NoCollision (IsHashed matched.run c) → 0 < c.op → IsCommitted cluster n (counts_in h.outputs matched.run) view c → (o : Output) → Contains h.outputs o → KeepsEntry view c o
   -- only a nack quorum shortens a log
   pub cut : (number : ℕ) (l : Chosen) → slice_get h.outputs number ≡ Some (output.Choose l) → IsCutByNacks n matched.run (take number h.outputs) h.outputs l
   -- in one session no number is executed twice over the log

@@ -163,7 +163,7 @@ module _ (kinds : ℕ → Kind) (cluster n : ℕ) (first : ℕ → Host Lying) (
       let names : header_name (asked_by c.entry.header) ≡ header_name (header_of q) = sym a.0 ∙ (sym to.name ∙ name) in
       let q_is = request_is_header q asked range in
       let same : asked_by c.entry.header ≡ header_of q = one_header (IsNamed xs own) never (asked_by c.entry.header) (header_of q) (entry_is_header c.entry.header q a.1 q_is) q_is (named.IsNamed.entered c (in_contains (all_said xs) (output.Commit c) i)) (named.IsNamed.asked q (in_contains own q mine)) names in
-      record { client = to.client ∙ ap (λ (h : Header). h.client) same; number = to.request ∙ ap (λ (h : Header). h.request) same; reached = as_entry (c.entry.header.op - 1) c.entry line.at same }
+      record { client = to.client ∙ ap (λ (h : Header). h.client) same; number = to.request ∙ ap (λ (h : Header). h.request) same; reached = as_entry (c.entry.header.op - 1) c.entry line.so.at same }
 
   nobody : (s : Sent) → In s (world_of first n).sent → ⊥
   unfolding world_of

@@ -17,8 +17,7 @@ use Rattle.vr_node.specs.declared.node.Node.{Node}
 use Rattle.vr_serve.specs.Runs.{Did}
 use Rattle.vr_world.specs.Group.{Asked}
 use Rattle.law_1_machine.specs.Basics.{In}
-use Rattle.law_3_outputs.proofs.Sets.{in_contains}
-use Rattle.law_6_one_log.proofs.Names.{contains_in}
+use Rattle.law_3_outputs.proofs.Sets.{contains_in, in_contains}
 use Rattle.law_7_members.specs.Files.{ActBy, Handles, act_by}
 use Rattle.law_7_members.specs.Whole.{all_said}
 use Rattle.law_9_answers.specs.Heard.{IsNamed, asked_by, header_of}

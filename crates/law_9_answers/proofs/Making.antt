@@ -1,7 +1,6 @@
 -- Every entry of which a commit line is put out in a run was made of a request: it has that request's name.
 use Rattle.std.proofs.Common.{ℕ, zero, suc, ◌+◌, ◌≤◌, ◌<◌, ◌≡◌, ◌∙◌, inl, inr, arith, refl, sym, ap, subst, true, List, [], ◌∷◌, length, take, Some}
 use Rattle.std.specs.Prelude.{Bool, slice_get}
-use Rattle.std.proofs.lemmas.Option.{slice_get_within}
 use Rattle.vr_base.specs.Bytes.{name_of}
 use Rattle.vr_header.specs.Made.{Whole}
 use Rattle.vr_header.specs.Names.{header_name}
@@ -42,6 +41,7 @@ use Rattle.law_3_outputs.specs.Chains.{Setup, WasMade, WasSent}
 use Rattle.law_3_outputs.specs.Followed.{IsFitRun, IsFollowed}
 use Rattle.law_3_outputs.specs.Reflecting.{entries_by}
 use Rattle.law_3_outputs.specs.Written.{IsWellRead}
+use Rattle.law_3_outputs.proofs.Backed.{then_end}
 use Rattle.law_3_outputs.proofs.Fitting.{at_place, move_of}
 use Rattle.law_3_outputs.proofs.Machine.{committed_begun, logged}
 use Rattle.law_3_outputs.proofs.Reading.{runs_read}
@@ -185,16 +185,17 @@ module _ (cluster n : ℕ) (u : Setup) (run : List Played) (x : IsFollowed clust
       let o = output_of_move run (output.Commit c) i in
       let read : IsWellRead c.entry = runs_read cluster n run x.fit o.0 o.1 o.2 c o.3 in
       let a = said_of cluster n u run x (output.Commit c) i in
-      let within = slice_get_within run a.0 a.1 a.2 in
-      let s : Group Header = x.group a.0 in
+      let line = a.3.1 in
+      let s : Group Header = x.group (length run) in
       let q = u.quorums in
       let hs = entries_by u.hash u.cluster in
-      let good = reached_good q hs s (x.reached a.0 (omega arith)) in
+      let good = reached_good q hs s (x.reached (length run) (omega arith)) in
       let above = read.form.op.0 in
       let op : ℕ = c.entry.header.op in
-      let f = committed_begun q hs good.0 s good.1 a.3.view op c.entry.header (omega arith) a.3.committed in
-      let l = logged q hs good.0 s good.1 a.3.view a.3.view op c.entry.header f (omega arith) (omega arith) a.3.committed in
-      (made_asked s (all_asked a.0 (omega arith)) c.entry.header (log_made u s good.0 good.1 a.3.view op c.entry.header f (omega arith) l.0 l.1), read.good.header)
+      let committed = then_end cluster n u run x a.0 a.1 a.2 a.3.0 line.view op c.entry.header line.committed in
+      let f = committed_begun q hs good.0 s good.1 line.view op c.entry.header (omega arith) committed in
+      let l = logged q hs good.0 s good.1 line.view line.view op c.entry.header f (omega arith) (omega arith) committed in
+      (made_asked s (all_asked (length run) (omega arith)) c.entry.header (log_made u s good.0 good.1 line.view op c.entry.header f (omega arith) l.0 l.1), read.good.header)
 
 -- the entry of each commit line of a run
 pub lines_asked : (cluster n : ℕ) (run : List Played) → IsFitRun cluster n run → (c : Committed) → In (output.Commit c) (run_outputs run) → IsOfRequest c.entry.header × IsHeader c.entry.header

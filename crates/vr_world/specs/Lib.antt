@@ -3,6 +3,7 @@ pub mod Lying
 pub mod Group
 pub mod Checkpoints
 pub mod Commitment
+pub mod Storing
 pub mod Safe
 pub mod GroupFit
 pub mod Files

@@ -30,7 +30,8 @@ use Rattle.vr_ckpt.specs.declared.name.Name.{Name}
 use Rattle.vr_ckpt.specs.Saves.{written}
 use Rattle.vr_ckpt.specs.declared.table.PayloadTable.{PayloadTable}
 use Rattle.vr_rules.specs.Steps.{Effect, Write, Checkpoint, PutBlock}
-use Rattle.vr_world.specs.Commitment.{Vouches, IsCommitted, AreCommitted, IsBackedMessage, IsLine, IsReplyOf, is_line_of, lines_by}
+use Rattle.vr_world.specs.Commitment.{Evidence, Vouches, IsCommitted, AreCommitted, IsBackedMessage, IsLine, IsReplyOf, is_line_of, lines_by}
+use Rattle.vr_world.specs.Storing.{done_in, run_stored, stored_from, until_said}
 use Rattle.vr_rules.specs.Replica.{Replica, statement_of}
 use Rattle.vr_world.specs.Group.{Move, Steps, Cuts, Crashes, Recovers, RecoversCut, Played}
 
@@ -46,9 +47,16 @@ pub record IsOutput (run : List Played) (move number : ℕ) (p : Played) (o : Ou
   pub at : slice_get run move ≡ Some p
   pub is : slice_get p.moved.outputs number ≡ Some o
 
--- what was put out before it
-abbrev pub before : List Played → ℕ → ℕ → Played → List Output
-before run move number p = run_outputs (take move run) ++ take number p.moved.outputs
+-- what was put out and stored in a run
+abbrev pub evidence : List Played → Evidence
+evidence run = record { outputs = run_outputs run; stored = run_stored run }
+
+-- what was put out and stored before it
+abbrev pub before : List Played → ℕ → ℕ → Played → Evidence
+before run move number p = record {
+  outputs = run_outputs (take move run) ++ take number p.moved.outputs;
+  stored = run_stored (take move run) ++ stored_from p.before (until_said number (done_in p.move p.moved.script));
+}
 
 -- ---- a committed entry keeps its number in every later view
 
@@ -126,15 +134,15 @@ unfoldable pub all_heard : ℕ → Event → Replica → List Statement
 all_heard view e r = filter_map (heard_from view e r) (range_with_len 0 r.n)
 
 -- one that denies an op, and vouches for nothing there in the log's view, in the whole run
-pub record IsDenier (n : ℕ) (said : List Output) (heard : List Statement) (log_view op i : ℕ) (s : Option Statement) : Type 0 where
+pub record IsDenier (n : ℕ) (by : Evidence) (heard : List Statement) (log_view op i : ℕ) (s : Option Statement) : Type 0 where
   pub statement : Statement
   pub stated : s ≡ Some statement
   pub denies : denies heard op statement ≡ true
-  pub silent : (c : Header) → c.op ≡ op → ¬ Vouches n said log_view i c
+  pub silent : (c : Header) → c.op ≡ op → ¬ Vouches n by log_view i c
 
 -- A choice of a log, from what was heard: its log view and its commit number are the greatest there, each op above that commit number is
 -- intact, and a nack quorum denies the next.
-pub record IsJustified (n : ℕ) (said : List Output) (p : Played) (l : Chosen) : Type 0 where
+pub record IsJustified (n : ℕ) (by : Evidence) (p : Played) (l : Chosen) : Type 0 where
   pub replica : Replica
   pub is_of : actor p l.replica ≡ Some replica
   pub event : Event
@@ -145,7 +153,7 @@ pub record IsJustified (n : ℕ) (said : List Output) (p : Played) (l : Chosen) 
   pub intact : (k : ℕ) → l.commit < k → k ≤ l.head → IsIntact (all_heard l.view event replica) k
   pub deniers : Replicas
   pub enough : option_map_or (λ q. q.nack) (quorums_of n) 0 ≤ size deniers
-  pub each : (i : ℕ) → has_replica deniers i ≡ true → IsDenier n said (all_heard l.view event replica) l.log_view (l.head + 1) i (heard_from l.view event replica i)
+  pub each : (i : ℕ) → has_replica deniers i ≡ true → IsDenier n by (all_heard l.view event replica) l.log_view (l.head + 1) i (heard_from l.view event replica i)
 
 -- ---- all together
 
@@ -154,7 +162,7 @@ abbrev pub IsBacked : ℕ → ℕ → List Whole → List Played → ℕ → ℕ
 IsBacked cluster n log run move number p (output.Send s) = IsBackedMessage cluster n (before run move number p) log s.message
 IsBacked cluster n log run move number p (output.Commit c) = IsLine cluster n (before run move number p) log c
 IsBacked cluster n log run move number p (output.Reply a) = IsTrueReply cluster n log run move number p a
-IsBacked cluster n log run move number p (output.Choose l) = IsJustified n (run_outputs run) p l
+IsBacked cluster n log run move number p (output.Choose l) = IsJustified n (evidence run) p l
 IsBacked cluster n log run move number p _ = ⊤
 
 -- What a disk may give: the entries of its slots, as its version has them, and the contents of its blocks, each by the bytes that have a name.
@@ -187,7 +195,7 @@ pub data IsHashed (run : List Played) (c : Header) : List ℕ → Type 0 where
 pub record Safe (cluster n : ℕ) (run : List Played) : Type 0 where
   pub log : List Whole
   -- an entry that is committed is the log's at its number, where names don't collide
-  pub one : (view : ℕ) (c : Header) → IsHeader c → NoCollision (IsHashed run c) → 0 < c.op → IsCommitted cluster n (run_outputs run) view c → (e : Whole) × (slice_get log (c.op - 1) ≡ Some e) × (e.header ≡ c)
+  pub one : (view : ℕ) (c : Header) → IsHeader c → NoCollision (IsHashed run c) → 0 < c.op → IsCommitted cluster n (evidence run) view c → (e : Whole) × (slice_get log (c.op - 1) ≡ Some e) × (e.header ≡ c)
   pub backed : (move number : ℕ) (p : Played) (o : Output) → NoCollision (IsHashed run (root_header cluster)) → IsOutput run move number p o → IsBacked cluster n log run move number p o
   -- and what is said in later views has it, too
-  pub kept : (view : ℕ) (c : Header) → IsHeader c → NoCollision (IsHashed run c) → 0 < c.op → IsCommitted cluster n (run_outputs run) view c → (move number : ℕ) (p : Played) (o : Output) → IsOutput run move number p o → KeepsEntry view c o
+  pub kept : (view : ℕ) (c : Header) → IsHeader c → NoCollision (IsHashed run c) → 0 < c.op → IsCommitted cluster n (evidence run) view c → (move number : ℕ) (p : Played) (o : Output) → IsOutput run move number p o → KeepsEntry view c o
