@@ -8,7 +8,6 @@ use Rattle.std.proofs.lemmas.List.{append-nil}
 use Rattle.std.proofs.lemmas.Option.{slice_get_past, slice_get-get_or}
 use Rattle.vr_base.specs.declared.kind.Kind.{Kind}
 use Rattle.vr_base.specs.declared.memory.NoMemory.{NoMemory}
-use Rattle.vr_msg.specs.declared.event.Event.{Event}
 use Rattle.vr_msg.specs.declared.event.Event.TheVariants as event
 use Rattle.vr_msg.specs.declared.output.Output.{Output}
 use Rattle.vr_msg.specs.declared.output.Sent.{Sent}
@@ -116,9 +115,8 @@ hosts_more kind n k hs h e f = rw (e, f) (sym (map-range_with_len_more (fresh_ho
 pub letter_is : (w : World Lying) (at : ℕ) (s : Sent) (o : Option Sent) → o ≡ Some s → o ≡ slice_get w.sent at → slice_get w.sent at ≡ Some s
 letter_is w at s o e f = sym f ∙ e
 
-pub delivered_to : (w : World Lying) (at : ℕ) (s : Sent) (to : ℕ) (e : Event) (ms : List (Host Lying)) (sent : List Sent) (out : List Output) (before now : Outputs) → slice_get w.sent at ≡ Some s → to ≡ s.to → e ≡ event.Deliver s.message
-    → HaveActed (handles hazards e) w.members ms to out → sent ≡ w.sent ++ messages out → now ≡ with_outputs before (numbered (length w.sent) out)
+pub delivered_to : (w : World Lying) (at : ℕ) (s : Sent) (ms : List (Host Lying)) (sent : List Sent) (out : List Output) (before now : Outputs) → slice_get w.sent at ≡ Some s
+    → HaveActed (handles hazards (event.Deliver s.message)) w.members ms s.to out → sent ≡ w.sent ++ messages out → now ≡ with_outputs before (numbered (length w.sent) out)
     → HasHappened (delivered hazards w (slice_get w.sent at)) w (record { n = w.n; members = ms; sent = sent }) before now
-delivered_to w at s to e ms sent out before now there k f h i j =
-    let g : HaveActed (handles hazards (event.Deliver s.message)) w.members ms s.to out = subst (λ (to : ℕ). HaveActed (handles hazards (event.Deliver s.message)) w.members ms to out) k (subst (λ (e : Event). HaveActed (handles hazards e) w.members ms to out) f h) in
-    delivered_there w (record { n = w.n; members = ms; sent = sent }) at s before now there (happened_as w s.to (handles hazards (event.Deliver s.message)) ms sent out before now g i j)
+delivered_to w at s ms sent out before now there h i j =
+    delivered_there w (record { n = w.n; members = ms; sent = sent }) at s before now there (happened_as w s.to (handles hazards (event.Deliver s.message)) ms sent out before now h i j)

@@ -1,39 +1,42 @@
 //! Messages that were sent.
-ghost use Rattle.std.specs.Prelude.{◌≡◌};
+ghost use Rattle.std.specs.Prelude.{◌≡◌, IfOk};
 ghost use Rattle.vr_msg.specs.declared.event.Event.TheVariants as event;
+ghost use Rattle.vr_group.specs.Letters.{delivered_as};
 
+use crate::{Delivery, Kept};
+use std::alloc::{AllocError, Global};
 use std::marker::Model;
-use vr_msg::{Event, Message};
+use vr_msg::Message;
 
-/// A message that was sent. It is kept as the event of its delivery, so that each delivery reads it where it lies.
+/// A message that was sent.
 #[derive(Drop)]
 pub struct Letter {
     from: u8,
     to: u8,
-    event: Event,
+    kept: Kept,
 }
 
 impl Model for Letter {
     ghost use Rattle.vr_msg.specs.declared.output.Sent.{Sent};
-    ghost use Rattle.vr_group.specs.Letters.{IsDelivery, message_in};
+    ghost use Rattle.vr_group.specs.Letters.{IsKept, frame_in};
 
     ghost Value = { Sent };
 
-    ghost view = { λ l. record { from = l.from; to = l.to; message = message_in l.event } };
+    ghost view = { λ l. record { from = l.from; to = l.to; message = frame_in l.kept } };
 
-    ghost invariant = { λ l. IsDelivery l.event };
+    ghost invariant = { λ l. IsKept l.kept };
 }
 
 impl Letter {
     /// A message on its way from one member to another.
-    pub fn new(from: u8, to: u8, message: Message) -> Letter
-        ensures { result ≡ record { from = from; to = to; message = message } }
+    pub fn new(alloc: Global, from: u8, to: u8, message: Message) -> Result<Letter, AllocError>
+        ensures { IfOk result (λ l. l ≡ record { from = from; to = to; message = message }) }
     {
-        Letter {
+        Ok(Letter {
             from,
             to,
-            event: Event::Deliver(message),
-        }
+            kept: Kept::of(alloc, message)?,
+        })
     }
 
     /// The replica that it goes to.
@@ -44,9 +47,9 @@ impl Letter {
     }
 
     /// Its delivery.
-    pub fn delivery(&self) -> &Event
-        ensures { result.now ≡ event.Deliver self.now.message }
+    pub fn delivery(&self, alloc: Global) -> Result<Delivery<'_>, AllocError>
+        ensures { IfOk result (λ d. delivered_as d ≡ event.Deliver self.now.message) }
     {
-        &self.event
+        self.kept.delivery(alloc)
     }
 }

@@ -4,6 +4,7 @@
 mod asked;
 mod host;
 mod hosts;
+mod kept;
 mod letter;
 mod members;
 mod outputs;
@@ -11,6 +12,7 @@ mod views;
 mod world;
 
 pub use host::Host;
+pub use kept::{Delivery, Kept};
 pub use letter::Letter;
 pub use outputs::{Outputs, Put};
 pub use world::World;

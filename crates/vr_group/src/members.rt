@@ -5,7 +5,9 @@ ghost use Rattle.vr_lie.specs.Faults.{IsFault};
 ghost use Rattle.vr_lines.specs.Fits.{IsLineOf};
 ghost use Rattle.vr_lying.specs.Lying.{hazards};
 ghost use Rattle.vr_lying.specs.World.{Arrives, Lies, Starts, at_member, delivered, fresh_world, handles, happens};
+ghost use Rattle.vr_msg.specs.declared.event.Event.TheVariants as event;
 ghost use Rattle.vr_group.specs.Headline.{HasAsked};
+ghost use Rattle.vr_group.specs.Hosts.{HaveActed};
 ghost use Rattle.vr_group.specs.Lines.{happening};
 
 use crate::asked::asked;
@@ -16,7 +18,7 @@ use std::alloc::Global;
 use vr_base::{Kind, NoMemory, Seq};
 use vr_lie::Fault;
 use vr_lines::Line;
-use vr_msg::Event;
+use vr_msg::{Event, Outbox};
 
 /// The members of a group, and every message that they have sent.
 #[derive(Drop)]
@@ -31,6 +33,21 @@ fn letter_at(sent: &Seq<Letter>, at: usize) -> Option<&Letter>
     ensures { option_copied result ≡ slice_get sent.now at }
 {
     sent.as_slice().get(at)
+}
+
+// A message reaches its destination.
+fn hand_over(
+    hosts: &mut Vec<Host>,
+    alloc: Global,
+    letter: &Letter,
+    out: &mut Outbox,
+) -> Result<(), NoMemory>
+    ensures { OnOk result (HaveActed (handles hazards (event.Deliver letter.now.message)) hosts.old.items hosts.new.items letter.now.to out.new) }
+{
+    let delivery = letter.delivery(alloc)?;
+    let handed = handle_at(hosts, alloc, letter.to(), delivery.event(), out);
+    drop(delivery);
+    handed
 }
 
 impl Members {
@@ -61,7 +78,7 @@ impl Members {
     {
         let mut out = Seq::new(alloc);
         handle_at(&mut self.hosts, alloc, replica, event, &mut out)?;
-        record_outputs(&mut self.sent, out, to)?;
+        record_outputs(alloc, &mut self.sent, out, to)?;
         Ok(())
     }
 
@@ -74,14 +91,8 @@ impl Members {
         match letter_at(&self.sent, at) {
             None => Ok(()),
             Some(letter) => {
-                handle_at(
-                    &mut self.hosts,
-                    alloc,
-                    letter.to(),
-                    letter.delivery(),
-                    &mut out,
-                )?;
-                record_outputs(&mut self.sent, out, to)?;
+                hand_over(&mut self.hosts, alloc, letter, &mut out)?;
+                record_outputs(alloc, &mut self.sent, out, to)?;
                 Ok(())
             }
         }
@@ -106,7 +117,7 @@ impl Members {
     {
         let mut out = Seq::new(alloc);
         start_at(&mut self.hosts, alloc, replica, &mut out)?;
-        record_outputs(&mut self.sent, out, to)?;
+        record_outputs(alloc, &mut self.sent, out, to)?;
         Ok(())
     }
 
@@ -124,7 +135,7 @@ impl Members {
     {
         let mut out = Seq::new(alloc);
         lie_at(&mut self.hosts, replica, fault, &mut out)?;
-        record_outputs(&mut self.sent, out, to)?;
+        record_outputs(alloc, &mut self.sent, out, to)?;
         Ok(())
     }
 

@@ -39,28 +39,43 @@ impl Outputs {
 }
 
 // Keeps a message, which is put out by its number.
-fn keep_message(number: u64, sent: &mut Seq<Letter>, message: Sent) -> Result<Put, AllocError>
+fn keep_message(
+    alloc: Global,
+    number: u64,
+    sent: &mut Seq<Letter>,
+    message: Sent,
+) -> Result<Put, AllocError>
     ensures sent { OnOk result (sent.new ≡ sent.old ++ message ∷ []) }
     ensures put { IfOk result (λ p. p ≡ Message number) }
 {
-    sent.push(Letter::new(message.from, message.to, message.message))?;
+    sent.push(Letter::new(alloc, message.from, message.to, message.message)?)?;
     Ok(Put::Message(number))
 }
 
 // Keeps the output if it is a message.
-fn put_of(number: u64, sent: &mut Seq<Letter>, output: Output) -> Result<Put, AllocError>
+fn put_of(
+    alloc: Global,
+    number: u64,
+    sent: &mut Seq<Letter>,
+    output: Output,
+) -> Result<Put, AllocError>
     ensures sent { OnOk result (sent.new ≡ sent.old ++ message_of output) }
     ensures put { IfOk result (λ p. p ≡ put_as number output) }
 {
     match output {
-        Output::Send(message) => keep_message(number, sent, message),
+        Output::Send(message) => keep_message(alloc, number, sent, message),
         other => Ok(Put::Other(other)),
     }
 }
 
 // One output more: its text, and then itself, since a message is kept.
 #[tactic(auto, using(std::proofs::lemmas::Grind::common_steps, crate::proofs::Numbering::outputs_one))]
-fn record_output(sent: &mut Seq<Letter>, output: Output, to: &mut Outputs) -> Result<(), AllocError>
+fn record_output(
+    alloc: Global,
+    sent: &mut Seq<Letter>,
+    output: Output,
+    to: &mut Outputs,
+) -> Result<(), AllocError>
     ensures sent { OnOk result (sent.new ≡ sent.old ++ message_of output) }
     ensures numbered { OnOk result (to.new ≡ with_outputs to.old (with_number (length sent.old) output ∷ [])) }
 {
@@ -69,12 +84,13 @@ fn record_output(sent: &mut Seq<Letter>, output: Output, to: &mut Outputs) -> Re
         drop(output);
         return Err(wanted);
     }
-    to.puts.push(put_of(number, sent, output)?)
+    to.puts.push(put_of(alloc, number, sent, output)?)
 }
 
 /// The same for each output.
 #[tactic(auto, using(std::proofs::lemmas::Grind::common_steps, crate::proofs::Numbering::messages_more, crate::proofs::Numbering::messages_none, crate::proofs::Numbering::outputs_more, crate::proofs::Numbering::outputs_end))]
 pub fn record_outputs(
+    alloc: Global,
     sent: &mut Seq<Letter>,
     outputs: Outbox,
     to: &mut Outputs,
@@ -83,7 +99,7 @@ pub fn record_outputs(
     ensures numbered { OnOk result (to.new ≡ with_outputs to.old (numbered (length sent.old) outputs)) }
 {
     for output in outputs.into_vec() {
-        record_output(sent, output, to)?;
+        record_output(alloc, sent, output, to)?;
     }
     Ok(())
 }

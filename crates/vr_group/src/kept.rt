@@ -1,0 +1,188 @@
+//! Messages as they are kept.
+ghost use Rattle.std.specs.Prelude.{◌≡◌, IfOk, Some};
+ghost use Rattle.vr_header.specs.Made.{entry_of};
+ghost use Rattle.vr_msg.specs.declared.event.Event.TheVariants as event;
+ghost use Rattle.vr_msg.specs.declared.frame.Frame.TheVariants as frame;
+ghost use Rattle.vr_msg.specs.Forms.{IsFrame, IsPrepare, IsPrepareOk};
+ghost use Rattle.vr_group.specs.Letters.{IsKept, delivered_as, frame_in};
+
+use std::alloc::{AllocError, Global};
+use vr_base::{ByteList, Sum, Version};
+use vr_header::Entry;
+use vr_msg::{
+    Commit, Event, Frame, GetSync, GetView, Message, Prepare, PrepareOk, StartViewChange,
+};
+
+/// A message as it is kept for ever. Of kinds that are sent often it is what makes one up, in little room; an entry is kept as its bytes.
+#[derive(Drop)]
+pub enum Kept {
+    Prepare {
+        version: Version,
+        replica: u8,
+        view: u32,
+        commit: u64,
+        /// The bytes of the entry.
+        entry: ByteList,
+    },
+    PrepareOk {
+        version: Version,
+        replica: u8,
+        view: u32,
+        cluster: u64,
+        op: u64,
+        name: Sum,
+        made: u32,
+    },
+    Commit(Commit),
+    StartViewChange(StartViewChange),
+    GetView(GetView),
+    GetSync(GetSync),
+    /// Any other, as the event of its delivery.
+    Other(Box<Event>),
+}
+
+/// The delivery of a message that is kept.
+#[derive(Drop)]
+pub enum Delivery<'a> {
+    /// It is kept as such.
+    Kept(&'a Event),
+    /// It was made of what is kept.
+    Made(Event),
+}
+
+impl Delivery<'_> {
+    /// The event.
+    pub fn event(&self) -> &Event
+        ensures { result.now ≡ delivered_as self.now }
+    {
+        match self {
+            Delivery::Kept(event) => event,
+            Delivery::Made(event) => event,
+        }
+    }
+}
+
+// The bytes of an entry.
+fn entry_bytes(alloc: Global, entry: &Entry) -> Result<ByteList, AllocError>
+    ensures { IfOk result (λ bytes. entry_of bytes ≡ Some entry.now) }
+{
+    let size = entry.header().size.get() as usize;
+    let mut bytes = Vec::with_capacity(alloc, size)?;
+    entry.write(&mut bytes)?;
+    Ok(ByteList::from_vec(bytes))
+}
+
+fn keep_prepare(alloc: Global, prepare: &Prepare) -> Result<Kept, AllocError>
+    requires { IsPrepare prepare.now }
+    ensures frame { IfOk result (λ k. frame_in k ≡ frame.Prepare prepare.now) }
+    ensures kept { IfOk result IsKept }
+{
+    Ok(Kept::Prepare {
+        version: prepare.version,
+        replica: prepare.replica,
+        view: prepare.view,
+        commit: prepare.commit,
+        entry: entry_bytes(alloc, &prepare.entry)?,
+    })
+}
+
+fn keep_prepare_ok(ok: PrepareOk) -> Kept
+    requires { IsPrepareOk ok }
+    ensures frame { frame_in result ≡ frame.PrepareOk ok }
+    ensures kept { IsKept result }
+{
+    Kept::PrepareOk {
+        version: ok.version,
+        replica: ok.replica,
+        view: ok.view,
+        cluster: ok.cluster,
+        op: ok.op,
+        name: ok.name,
+        made: ok.made,
+    }
+}
+
+fn keep_other(alloc: Global, frame: Frame) -> Result<Kept, AllocError>
+    requires { IsFrame frame }
+    ensures frame { IfOk result (λ k. frame_in k ≡ frame) }
+    ensures kept { IfOk result IsKept }
+{
+    let event = Event::Deliver(Message::new(frame));
+    Ok(Kept::Other(Box::new(alloc, event)?))
+}
+
+fn made<'a>(frame: Frame) -> Delivery<'a>
+    requires { IsFrame frame }
+    ensures { delivered_as result ≡ event.Deliver frame }
+{
+    Delivery::Made(Event::Deliver(Message::new(frame)))
+}
+
+impl Kept {
+    /// A message, as it is kept.
+    pub fn of(alloc: Global, message: Message) -> Result<Kept, AllocError>
+        ensures frame { IfOk result (λ k. frame_in k ≡ message) }
+        ensures kept { IfOk result IsKept }
+    {
+        match message.into_frame() {
+            Frame::Prepare(prepare) => {
+                let kept = keep_prepare(alloc, &prepare);
+                drop(prepare);
+                kept
+            }
+            Frame::PrepareOk(ok) => Ok(keep_prepare_ok(ok)),
+            Frame::Commit(commit) => Ok(Kept::Commit(commit)),
+            Frame::StartViewChange(start) => Ok(Kept::StartViewChange(start)),
+            Frame::GetView(get) => Ok(Kept::GetView(get)),
+            Frame::GetSync(get) => Ok(Kept::GetSync(get)),
+            other => keep_other(alloc, other),
+        }
+    }
+
+    /// Its delivery.
+    pub fn delivery(&self, alloc: Global) -> Result<Delivery<'_>, AllocError>
+        requires { IsKept self.now }
+        ensures { IfOk result (λ d. delivered_as d ≡ event.Deliver (frame_in self.now)) }
+    {
+        match self {
+            Kept::Prepare {
+                version,
+                replica,
+                view,
+                commit,
+                entry,
+            } => {
+                let prepare = Prepare {
+                    version: *version,
+                    replica: *replica,
+                    view: *view,
+                    commit: *commit,
+                    entry: Entry::from_bytes(alloc, entry.as_slice())?,
+                };
+                Ok(made(Frame::Prepare(prepare)))
+            }
+            Kept::PrepareOk {
+                version,
+                replica,
+                view,
+                cluster,
+                op,
+                name,
+                made: made_view,
+            } => Ok(made(Frame::PrepareOk(PrepareOk {
+                version: *version,
+                cluster: *cluster,
+                replica: *replica,
+                view: *view,
+                op: *op,
+                name: *name,
+                made: *made_view,
+            }))),
+            Kept::Commit(commit) => Ok(made(Frame::Commit(*commit))),
+            Kept::StartViewChange(start) => Ok(made(Frame::StartViewChange(*start))),
+            Kept::GetView(get) => Ok(made(Frame::GetView(*get))),
+            Kept::GetSync(get) => Ok(made(Frame::GetSync(*get))),
+            Kept::Other(event) => Ok(Delivery::Kept(event)),
+        }
+    }
+}
