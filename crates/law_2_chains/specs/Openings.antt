@@ -14,7 +14,7 @@ use Rattle.law_2_chains.specs.Chains.{Setup, IsReached, Every, AsksNothing, WasM
 use Rattle.law_2_chains.specs.Tables.{HasTables}
 use Rattle.law_2_chains.specs.Finished.{Finishes}
 
--- Member i of the machine's group of at least two is stopped and stands for this member, whose superblock opens as a good value of its
+-- Member i of the machine's group is stopped and stands for this member, whose superblock opens as a good value of its
 -- own; and on the disk sound Parts are found.
 pub record MayBegin {F : Type 0} (u : Setup) (start : Group Header) (i : ℕ) (l : Local) (made : List Header) (v : SuperValue) (t : Setting F) (f : F) : Type 0 where
   pub reached : IsReached u start
@@ -23,7 +23,6 @@ pub record MayBegin {F : Type 0} (u : Setup) (start : Group Header) (i : ℕ) (l
   pub written : Every (WasMade start.made) l.made
   pub value : MayOpen l.member v
   pub good : IsGood v
-  pub several : 2 ≤ v.fields.n
   pub place : v.fields.replica ≡ i
   pub size : v.fields.n ≡ u.quorums.n
   pub reads : ReadsHeaders t f

@@ -26,4 +26,4 @@ RunsAreChains =
 -- and so is every one of a group that was just made
 abbrev pub FreshRunsAreChains : Type 0
 FreshRunsAreChains =
-    (kinds : ℕ → Kind) (cluster n : ℕ) (run : List Played) → AreKinds kinds n → cluster < 2 ^ 64 → 2 ≤ n → n ≤ 6 → All (λ p. IsFitMove p.move) run → Run (fresh_group kinds cluster n) run → FollowsFresh kinds cluster n run
+    (kinds : ℕ → Kind) (cluster n : ℕ) (run : List Played) → AreKinds kinds n → cluster < 2 ^ 64 → 1 ≤ n → n ≤ 6 → All (λ p. IsFitMove p.move) run → Run (fresh_group kinds cluster n) run → FollowsFresh kinds cluster n run

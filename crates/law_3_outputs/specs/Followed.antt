@@ -120,7 +120,7 @@ IsSo cluster u run before after p _ = ⊤
 -- a run of a group that is made, in which each move reads what the program has, on the member's file
 pub record IsFitRun (cluster n : ℕ) (run : List Played) : Type 0 where
   pub number : cluster < 2 ^ 64
-  pub few : 2 ≤ n
+  pub some : 1 ≤ n
   pub many : n ≤ 6
   pub moves : All (λ p. IsFitMove p.move) run
   pub files : All (λ p. IsOfFile p.before p.move) run

@@ -48,7 +48,7 @@ OpeningsCut =
 
 abbrev pub OpeningsFind : Type 0
 OpeningsFind =
-    (d : Lying) (m : Member) (v : SuperValue) (made : List Header) → 2 ≤ v.fields.n → IsOff d m v → AreMade made v (lying.after d (Mend v)) → Finds d m v made
+    (d : Lying) (m : Member) (v : SuperValue) (made : List Header) → IsOff d m v → AreMade made v (lying.after d (Mend v)) → Finds d m v made
 
 -- ---- a line of a schedule is a move of the group, or none
 
@@ -63,7 +63,7 @@ pub record Begin (kinds : ℕ → Kind) (cluster n : ℕ) : Type 0 where
   pub stock : IsStockedGroup (fresh_group kinds cluster n)
 
 abbrev pub WorldsBegin : Type 0
-WorldsBegin = (kinds : ℕ → Kind) (cluster n : ℕ) → AreKinds kinds n → cluster < 2 ^ 64 → 2 ≤ n → n ≤ 6 → Begin kinds cluster n
+WorldsBegin = (kinds : ℕ → Kind) (cluster n : ℕ) → AreKinds kinds n → cluster < 2 ^ 64 → 1 ≤ n → n ≤ 6 → Begin kinds cluster n
 
 -- the world that a schedule begins is one of them
 abbrev pub SchedulesBegin : Type 0

@@ -1,4 +1,5 @@
 -- One log: of every run of a group that was just made, and of every schedule of a group on disks that lie.
+use Rattle.vr_base.specs.Groups.{least_members}
 use Rattle.vr_base.specs.declared.kind.Kind.{Kind}
 use Rattle.law_3_outputs.specs.Opening.{AreKinds, IsKind}
 use Rattle.std.specs.Prelude.{ℕ, ◌-◌, ◌^◌, ◌<◌, ◌≤◌, ◌≡◌, ◌⊎◌, false, List, ◌∷◌, length, Contains, slice_get, take, Some}
@@ -90,9 +91,9 @@ KeepsOneLog kind n h = KeepsLog (λ i. kind) 0 n h
 -- and it is so short that no log comes near the ops whose headers sessions could spell
 abbrev pub WorldsKeepOneLog : Type 0
 WorldsKeepOneLog =
-    (kinds : ℕ → Kind) (cluster n : ℕ) (xs : List Happening) → AreKinds kinds n → cluster < 2 ^ 64 → 2 ≤ n → n ≤ 6 → length xs < room cluster → AllByRecursion IsLine xs → NoCollision (IsHashedOf cluster (first_world kinds cluster n) xs)
+    (kinds : ℕ → Kind) (cluster n : ℕ) (xs : List Happening) → AreKinds kinds n → cluster < 2 ^ 64 → 1 ≤ n → n ≤ 6 → length xs < room cluster → AllByRecursion IsLine xs → NoCollision (IsHashedOf cluster (first_world kinds cluster n) xs)
     → KeepsLog kinds cluster n (happen hazards (first_world kinds cluster n) xs)
 
 -- of each list of fewer than 2^60 lines that may happen to the group that a schedule begins
 abbrev pub SchedulesKeepOneLog : Type 0
-SchedulesKeepOneLog = (kind : Kind) (n : ℕ) (xs : List Happening) → IsKind kind → 2 ≤ n → n ≤ 6 → length xs < 2 ^ 60 → MayAll (fresh_world hazards kind n) xs → KeepsOneLog kind n (happen hazards no_world (Begins kind n ∷ xs))
+SchedulesKeepOneLog = (kind : Kind) (n : ℕ) (xs : List Happening) → IsKind kind → least_members kind.version ≤ n → n ≤ 6 → length xs < 2 ^ 60 → MayAll (fresh_world hazards kind n) xs → KeepsOneLog kind n (happen hazards no_world (Begins kind n ∷ xs))

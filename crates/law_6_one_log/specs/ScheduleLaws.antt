@@ -1,5 +1,6 @@
 -- Every schedule is a run of the group.
 use Rattle.std.specs.List.{AllByRecursion}
+use Rattle.vr_base.specs.Groups.{least_members}
 use Rattle.vr_base.specs.Kinds.{strict}
 use Rattle.vr_base.specs.declared.kind.Kind.{Kind}
 use Rattle.law_3_outputs.specs.Opening.{AreKinds, IsKind}
@@ -52,20 +53,20 @@ HappeningsAreRuns =
 -- so is a world that begins, of 2 to 6 replicas of a group of any number, to which no move led
 abbrev pub WorldsBeginUnforged : Type 0
 WorldsBeginUnforged =
-    (kinds : ℕ → Kind) (cluster n : ℕ) → AreKinds kinds n → cluster < 2 ^ 64 → 2 ≤ n → n ≤ 6 → (u : IsUnforgedBeside cluster (first_world kinds cluster n) (fresh_group kinds cluster n)) × (u.past.run ≡ [])
+    (kinds : ℕ → Kind) (cluster n : ℕ) → AreKinds kinds n → cluster < 2 ^ 64 → 1 ≤ n → n ≤ 6 → (u : IsUnforgedBeside cluster (first_world kinds cluster n) (fresh_group kinds cluster n)) × (u.past.run ≡ [])
 
 -- and what happens to it from there is a run of the group, in which names don't collide either, while no op comes near those that sessions
 -- could spell
 abbrev pub WorldsAreRuns : Type 0
 WorldsAreRuns =
-    (kinds : ℕ → Kind) (cluster n : ℕ) (xs : List Happening) → AreKinds kinds n → cluster < 2 ^ 64 → 2 ≤ n → n ≤ 6 → length xs < room cluster → AllByRecursion IsLine xs → NoCollision (IsHashedOf cluster (first_world kinds cluster n) xs)
+    (kinds : ℕ → Kind) (cluster n : ℕ) (xs : List Happening) → AreKinds kinds n → cluster < 2 ^ 64 → 1 ≤ n → n ≤ 6 → length xs < room cluster → AllByRecursion IsLine xs → NoCollision (IsHashedOf cluster (first_world kinds cluster n) xs)
     → (m : IsMatched (fresh_group kinds cluster n) (happen hazards (first_world kinds cluster n) xs)) × NoCollision (λ bytes. safe.IsHashed m.run (root_header cluster) bytes)
     × LeavesUnforged cluster (happen hazards (first_world kinds cluster n) xs).world (fresh_group kinds cluster n) [] m.run × (length m.run ≤ length xs)
 
 -- So each schedule is one; but for one of 2^60 lines or more.
 abbrev pub SchedulesAreRuns : Type 0
 SchedulesAreRuns =
-    (kind : Kind) (n : ℕ) (xs : List Happening) → IsKind kind → 2 ≤ n → n ≤ 6 → length xs < 2 ^ 60 → MayAll (fresh_world hazards kind n) xs
+    (kind : Kind) (n : ℕ) (xs : List Happening) → IsKind kind → least_members kind.version ≤ n → n ≤ 6 → length xs < 2 ^ 60 → MayAll (fresh_world hazards kind n) xs
     → (m : IsMatched (fresh_group (λ i. kind) 0 n) (happen hazards no_world (Begins kind n ∷ xs))) × NoCollision (λ bytes. safe.IsHashed m.run (root_header 0) bytes)
 
 -- of some schedule all holds that is asked, on files of each kind: time goes by at a replica, another one loses its memory, a fuse is laid

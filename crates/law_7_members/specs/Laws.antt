@@ -28,7 +28,7 @@ pub record IsOneRun (cluster n : ℕ) (xs : List By) : Type 0 where
 
 -- from a group of 2 to 6 on whose members were just made, each on a file of a kind of its own
 abbrev pub NodesAreOneRun : Type 0
-NodesAreOneRun = (kinds : ℕ → Kind) (cluster n : ℕ) (xs : List By) → AreKinds kinds n → cluster < 2 ^ 64 → 2 ≤ n → n ≤ 6 → AtWork cluster (fresh_group kinds cluster n) xs → IsOneRun cluster n xs
+NodesAreOneRun = (kinds : ℕ → Kind) (cluster n : ℕ) (xs : List By) → AreKinds kinds n → cluster < 2 ^ 64 → 1 ≤ n → n ≤ 6 → AtWork cluster (fresh_group kinds cluster n) xs → IsOneRun cluster n xs
 
 -- ---- on their files
 
@@ -49,7 +49,7 @@ MembersAreFound =
 -- their premise; so it keeps one log, where names don't collide, of what was read, held and written.
 abbrev pub NodesKeepOneLog : Type 0
 NodesKeepOneLog =
-    (kinds : ℕ → Kind) (cluster n : ℕ) (xs : List ActBy) (h : Happened Lying) → AreKinds kinds n → cluster < 2 ^ 64 → 2 ≤ n → n ≤ 6 → length xs < 2 ^ 46 → files.AtWork cluster (first_world kinds cluster n) xs h
+    (kinds : ℕ → Kind) (cluster n : ℕ) (xs : List ActBy) (h : Happened Lying) → AreKinds kinds n → cluster < 2 ^ 64 → 1 ≤ n → n ≤ 6 → length xs < 2 ^ 46 → files.AtWork cluster (first_world kinds cluster n) xs h
     → NoCollision (IsHashedOf cluster (first_world kinds cluster n) (all_lines xs)) → KeepsLog kinds cluster n h
 
 -- And it leaves the members so that each that is stopped is found as it may be, on whatever tells its file.
@@ -59,5 +59,5 @@ pub record AreFound (kinds : ℕ → Kind) (cluster n : ℕ) (h : Happened Lying
 
 abbrev pub NodesAreFound : Type 0
 NodesAreFound =
-    (kinds : ℕ → Kind) (cluster n : ℕ) (xs : List ActBy) (h : Happened Lying) → AreKinds kinds n → cluster < 2 ^ 64 → 2 ≤ n → n ≤ 6 → length xs < 2 ^ 46 → files.AtWork cluster (first_world kinds cluster n) xs h
+    (kinds : ℕ → Kind) (cluster n : ℕ) (xs : List ActBy) (h : Happened Lying) → AreKinds kinds n → cluster < 2 ^ 64 → 1 ≤ n → n ≤ 6 → length xs < 2 ^ 46 → files.AtWork cluster (first_world kinds cluster n) xs h
     → NoCollision (IsHashedOf cluster (first_world kinds cluster n) (all_lines xs)) → AreFound kinds cluster n h

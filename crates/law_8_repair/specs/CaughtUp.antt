@@ -21,7 +21,7 @@ FreshKeepUp = (kind : Kind) (cluster n index : ℕ) → KeepsUp (fresh kind clus
 
 -- from every value that makes a good copy, of a group of at least two, whatever headers read
 abbrev pub OpeningsKeepUp : Type 0 → Type 0
-OpeningsKeepUp F = (s : Setting F) (f : F) (v : SuperValue) → ReadsHeaders s f → IsGood v → 2 ≤ v.fields.n → KeepsUp (opening v s (blank v) f).replica
+OpeningsKeepUp F = (s : Setting F) (f : F) (v : SuperValue) → ReadsHeaders s f → IsGood v → KeepsUp (opening v s (blank v) f).replica
 
 abbrev pub StepsKeepUp : Type 0 → Type 0
 StepsKeepUp F = (s : Setting F) (f : F) (r : Replica) (e : Event) → HasNames s → IsSound r → IsEvent e → KeepsUp r → KeepsUp (react e s r f).replica

@@ -26,5 +26,5 @@ AllCover g =
 -- before and after each move of a run of a fresh group, on disks of bytes
 abbrev pub GroupsCover : Type 0
 GroupsCover =
-    (kinds : ℕ → Kind) (cluster n : ℕ) (run : List Played) → AreKinds kinds n → cluster < 2 ^ 64 → 2 ≤ n → n ≤ 6 → All (λ p. IsFitMove p.move) run → All (λ p. IsOfBytes p.move) run
+    (kinds : ℕ → Kind) (cluster n : ℕ) (run : List Played) → AreKinds kinds n → cluster < 2 ^ 64 → 1 ≤ n → n ≤ 6 → All (λ p. IsFitMove p.move) run → All (λ p. IsOfBytes p.move) run
     → Run (fresh_group kinds cluster n) run → All (λ p. AllCover p.before × AllCover p.moved.group) run

@@ -13,5 +13,5 @@ AllKeepUp g = (at : ℕ) (m : Member) (r : Replica) → slice_get g.members at �
 -- each move of a run of a fresh group leaves them so, whatever is delivered, cut, stopped, started and read
 abbrev pub GroupsKeepUp : Type 0
 GroupsKeepUp =
-    (kinds : ℕ → Kind) (cluster n : ℕ) (run : List Played) → AreKinds kinds n → cluster < 2 ^ 64 → 2 ≤ n → n ≤ 6 → All (λ p. IsFitMove p.move) run → Run (fresh_group kinds cluster n) run
+    (kinds : ℕ → Kind) (cluster n : ℕ) (run : List Played) → AreKinds kinds n → cluster < 2 ^ 64 → 1 ≤ n → n ≤ 6 → All (λ p. IsFitMove p.move) run → Run (fresh_group kinds cluster n) run
     → All (λ p. AllKeepUp p.before × AllKeepUp p.moved.group) run

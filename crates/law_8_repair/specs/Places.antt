@@ -58,7 +58,7 @@ StaysInPlace r = is_spent r ≡ false → IsInPlace r
 -- And then its blocks are laid out.
 pub record PlacesStay {F : Type 0} (s : Setting F) (face : F → Face) : Type 0 where
   pub fresh : (kind : Kind) (cluster n index : ℕ) → IsInPlace (fresh kind cluster n index)
-  pub openings : (f : F) (v : SuperValue) → IsFace (face f) → IsGood v → 2 ≤ v.fields.n → StaysInPlace (opening v s (blank v) f).replica
+  pub openings : (f : F) (v : SuperValue) → IsFace (face f) → IsGood v → StaysInPlace (opening v s (blank v) f).replica
   pub steps : (e : Event) (r : Replica) (f : F) → IsFace (face f) → IsFitReplica r → IsEvent e → IsGivenEvent IsBytes e → StaysInPlace r
       → StaysInPlace (react e s r f).replica
   pub laid : (r : Replica) → IsInPlace r → IsLaidOut r

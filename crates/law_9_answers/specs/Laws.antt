@@ -78,5 +78,5 @@ pub record AnswerByOneLog (kinds : ℕ → Kind) (cluster n : ℕ) (first : ℕ 
 -- so do whole runs of the members' programs, interleaved, as they keep one log
 abbrev pub RunsAnswerByOneLog : Type 0
 RunsAnswerByOneLog =
-    (kinds : ℕ → Kind) (cluster n : ℕ) (first : ℕ → Host Lying) (xs : List ActBy) → AreKinds kinds n → cluster < 2 ^ 64 → 2 ≤ n → n ≤ 6 → length xs < 2 ^ 46 → AreRuns kinds cluster n first xs → NoCollision (IsHashedOf cluster (world_of first n) (all_lines xs))
+    (kinds : ℕ → Kind) (cluster n : ℕ) (first : ℕ → Host Lying) (xs : List ActBy) → AreKinds kinds n → cluster < 2 ^ 64 → 1 ≤ n → n ≤ 6 → length xs < 2 ^ 46 → AreRuns kinds cluster n first xs → NoCollision (IsHashedOf cluster (world_of first n) (all_lines xs))
     → AnswerByOneLog kinds cluster n first xs

@@ -1,4 +1,4 @@
-//! What every crate of the repository uses: lists that contracts see as lists, the quorums of a group,
+//! What every crate of the repository uses: lists that contracts see as lists, the sizes and quorums of groups,
 //! names and fields of bytes, and the words for the causes of faults.
 #![tactic(auto)]
 
@@ -15,7 +15,7 @@ mod version;
 mod zeros;
 
 pub use fields::{put, put_sum, put_u16, put_u32, put_u64, sum_at, u16_at, u32_at, u64_at};
-pub use groups::quorums;
+pub use groups::{is_size, quorums};
 pub use kind::Kind;
 pub use memory::NoMemory;
 pub use mode::Mode;

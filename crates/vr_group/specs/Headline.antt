@@ -1,6 +1,7 @@
 -- What is so of whatever happens to a group that was just made: there is one log.
 use Rattle.std.specs.Prelude.{ℕ, ◌^◌, ◌<◌, ◌≤◌, ◌≡◌, ⊤, List}
 use Rattle.std.specs.List.{AllByRecursion}
+use Rattle.vr_base.specs.Groups.{least_members}
 use Rattle.vr_base.specs.declared.kind.Kind.{Kind}
 use Rattle.vr_header.specs.NoCollision.{NoCollision}
 use Rattle.vr_lines.specs.declared.line.Line.{Line}
@@ -13,9 +14,9 @@ use Rattle.law_6_one_log.specs.Schedules.{IsHashed}
 use Rattle.law_6_one_log.specs.Laws.{KeepsOneLog}
 use Rattle.vr_group.specs.Lines.{happenings}
 
--- a group of 2 to 6 members, as it is made on files of this kind
+-- a group of so many members as files of this kind allow, as it is made on such files
 pub record IsJustMade (kind : Kind) (w : World Lying) : Type 0 where
-  pub few : 2 ≤ w.n
+  pub few : least_members kind.version ≤ w.n
   pub many : w.n ≤ 6
   pub version : IsKind kind
   pub fresh : w ≡ fresh_world hazards kind w.n

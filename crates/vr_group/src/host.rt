@@ -1,6 +1,6 @@
 //! What hosts a member of the group.
 ghost use Rattle.std.specs.Prelude.{◌≡◌, ◌-◌, ◌<◌, ◌≤◌, ◌∷◌, [], Some, None, IfOk, OnOk, is_some, true};
-ghost use Rattle.vr_base.specs.Groups.{quorums_of};
+ghost use Rattle.vr_base.specs.Groups.{is_size};
 ghost use Rattle.vr_lie.specs.Faults.{IsFault};
 ghost use Rattle.vr_lie.specs.Told.{version_by};
 ghost use Rattle.vr_lying.specs.Lying.{hazards};
@@ -41,7 +41,7 @@ impl Model for Host {
 
 // The disk of a member of a new group, with its replica.
 fn make_replica(alloc: Global, index: u8, n: u8, kind: &Kind) -> Result<Host, NoMemory>
-    requires size { is_some (quorums_of n) ≡ true }
+    requires size { is_size kind.now.version n ≡ true }
     requires member { index < n }
     ensures { IfOk result (λ h. h ≡ fresh_host hazards kind.now n index) }
 {
@@ -172,7 +172,7 @@ fn view_on(replica: &Option<Replica>, disk: &mut HostDisk) -> u32
 impl Host {
     /// The member of this index of a new group of `n`, on a new file of this kind.
     pub fn new(alloc: Global, index: u8, n: u8, kind: &Kind) -> Result<Host, NoMemory>
-        requires size { is_some (quorums_of n) ≡ true }
+        requires size { is_size kind.now.version n ≡ true }
         requires member { index < n }
         ensures { IfOk result (λ h. h ≡ fresh_host hazards kind.now n index) }
     {

@@ -1,7 +1,7 @@
 //! The members of a group.
 ghost use Rattle.std.specs.Prelude.{◌≡◌, ◌-◌, ◌≤◌, ◌<◌, [], IfOk, OnOk, map, is_some, true};
 ghost use Rattle.std.specs.List.{range_with_len};
-ghost use Rattle.vr_base.specs.Groups.{quorums_of};
+ghost use Rattle.vr_base.specs.Groups.{is_size};
 ghost use Rattle.vr_lie.specs.Faults.{IsFault};
 ghost use Rattle.vr_lying.specs.Lying.{hazards};
 ghost use Rattle.vr_lying.specs.World.{fresh_host, fused, handles, lies, starts, stops};
@@ -16,7 +16,7 @@ use vr_msg::{Event, Outbox};
 /// The members of a new group, each on a new file of this kind.
 #[tactic(auto, using(std::proofs::lemmas::Grind::common_steps, crate::proofs::Acts::hosts_more))]
 pub fn make_hosts(alloc: Global, n: u8, kind: &Kind) -> Result<Vec<Host>, NoMemory>
-    requires { is_some (quorums_of n) ≡ true }
+    requires { is_size kind.now.version n ≡ true }
     ensures { IfOk result (λ v. v.items ≡ map (fresh_host hazards kind.now n) (range_with_len 0 n)) }
 {
     let mut hosts = Vec::new(alloc);

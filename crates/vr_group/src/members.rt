@@ -1,6 +1,7 @@
 //! The members of a group, and their messages.
-ghost use Rattle.std.specs.Prelude.{ℕ, ◌≡◌, ◌≤◌, IfOk, OnOk, slice_get};
+ghost use Rattle.std.specs.Prelude.{ℕ, ◌≡◌, IfOk, OnOk, slice_get, true};
 ghost use Rattle.std.specs.Option.{option_copied};
+ghost use Rattle.vr_base.specs.Groups.{is_size};
 ghost use Rattle.vr_lie.specs.Faults.{IsFault};
 ghost use Rattle.vr_lines.specs.Fits.{IsLineOf};
 ghost use Rattle.vr_lying.specs.Lying.{hazards};
@@ -55,7 +56,7 @@ impl Members {
 
     /// A new group, each member on a new file of this kind.
     pub fn begin(alloc: Global, n: u8, kind: &Kind) -> Result<Members, NoMemory>
-        requires { (2 ≤ n) × (n ≤ 6) }
+        requires { is_size kind.now.version n ≡ true }
         ensures { IfOk result (λ m. world_of m ≡ fresh_world hazards kind.now n) }
     {
         Ok(Members {

@@ -1,5 +1,6 @@
 //! A group of members, and every message that they have sent.
-ghost use Rattle.std.specs.Prelude.{ℕ, ◌≡◌, ◌≤◌, ◌<◌, ◌^◌, ◌++◌, true, false, IfOk, OnOk, OnErr, length};
+ghost use Rattle.std.specs.Prelude.{ℕ, ◌≡◌, ◌<◌, ◌^◌, ◌++◌, true, false, IfOk, OnOk, OnErr, length};
+ghost use Rattle.vr_base.specs.Groups.{is_size};
 ghost use Rattle.vr_base.specs.declared.kind.Kind.{Kind};
 ghost use Rattle.vr_lines.specs.Fits.{IsLineOf};
 ghost use Rattle.vr_lying.specs.Lying.{hazards};
@@ -72,9 +73,9 @@ impl World {
         }
     }
 
-    /// A new group of `n` members, 2 to 6, each on a new file of this kind.
+    /// A new group of `n` members, 2 to 6 on files of version 1 and 1 to 6 on files of version 2, each on a new file of this kind.
     pub fn new(alloc: Global, n: u8, kind: Kind) -> Result<World, NoMemory>
-        requires { (2 ≤ n) × (n ≤ 6) }
+        requires { is_size kind.version n ≡ true }
         ensures world { IfOk result (λ w. w.world ≡ fresh_world hazards kind n) }
         ensures version { IfOk result (λ w. w.version ≡ kind.version) }
         ensures live { IfOk result (λ w. w.live ≡ true) }

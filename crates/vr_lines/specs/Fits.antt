@@ -1,5 +1,6 @@
 -- Lines that speak of a group.
 use Rattle.std.specs.Prelude.{ℕ, ◌<◌, ◌≤◌, ◌≡◌, ◌≢◌}
+use Rattle.vr_base.specs.Groups.{least_members}
 use Rattle.vr_lines.specs.Versions.{line_sectors}
 use Rattle.vr_lines.specs.declared.line.Line.{Line}
 use Rattle.vr_lines.specs.declared.line.Line.TheVariants.{Cluster, Request, Deliver, Tick, Stop, Start, Fuse, Damage, Stale, Unread, Misdirect}
@@ -10,7 +11,7 @@ IsSector version sector = sector < line_sectors version
 
 -- a line makes a group where there is none, and else speaks of one of n replicas of a version
 abbrev pub IsLineOf : ℕ → ℕ → Line → Type 0
-IsLineOf version n (Cluster m kind) = (n ≡ 0) × (2 ≤ m) × (m ≤ 6) × (1 ≤ kind.version) × (kind.version ≤ 2)
+IsLineOf version n (Cluster m kind) = (n ≡ 0) × (least_members kind.version ≤ m) × (m ≤ 6) × (1 ≤ kind.version) × (kind.version ≤ 2)
 IsLineOf version n (Request replica request) = (replica < n) × (request.version ≡ version)
 IsLineOf version n (Deliver number) = 0 < n
 IsLineOf version n (Tick replica) = replica < n

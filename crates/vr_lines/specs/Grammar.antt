@@ -2,6 +2,7 @@
 use Rattle.std.specs.Prelude.{ℕ, Bool, not, nat_le, nat_lt, ◌==◌, ◌^◌, List, [], ◌∷◌, length, Option, Some, None, option_and_then, if◌then◌else◌, codes}
 use Rattle.std.specs.Option.{option_map}
 use Rattle.std.specs.Str.{bytes_eq}
+use Rattle.vr_base.specs.Groups.{is_size}
 use Rattle.vr_base.specs.Versions.{by_version}
 use Rattle.vr_base.specs.declared.kind.Kind.{Kind}
 use Rattle.vr_base.specs.declared.mode.Mode.{Mode}
@@ -34,14 +35,14 @@ abbrev pub kind_words : List (List ℕ) → Option Kind
 kind_words [] = kind_of Strict []
 kind_words (word ∷ words) = if bytes_eq word (codes "careful") then kind_of Careful words else kind_of Strict (word ∷ words)
 
--- N from 2 to 6
-abbrev pub size_of : List ℕ → Option ℕ
-size_of word = option_and_then (λ n. if nat_le 2 n then Some n else None) (number_below 7 word)
+-- N from 2 to 6, and from 1 for files of version 2
+abbrev pub size_of : ℕ → List ℕ → Option ℕ
+size_of version word = option_and_then (λ n. if is_size version n then Some n else None) (number_below 256 word)
 
 -- `cluster N`, `cluster N careful`, `cluster N v2`, `cluster N careful v2`
 abbrev pub cluster_line : List (List ℕ) → Option Line
 cluster_line [] = None
-cluster_line (size ∷ words) = option_and_then (λ kind. option_map (λ n. Cluster n kind) (size_of size)) (kind_words words)
+cluster_line (size ∷ words) = option_and_then (λ kind. option_map (λ n. Cluster n kind) (size_of kind.version size)) (kind_words words)
 
 -- ---- lines of clients and the network
 

@@ -6,7 +6,7 @@ ghost use Rattle.vr_lines.specs.Words.{words_left};
 use crate::Line;
 use crate::number::read_below;
 use crate::words::{Words, is_word};
-use vr_base::{Kind, Mode, Version};
+use vr_base::{Kind, Mode, Version, is_size};
 
 /// The version of a group's files, behind their mode: 1, where nothing stands there.
 fn read_version(words: Words<'_>) -> Option<Version>
@@ -43,12 +43,12 @@ fn read_kind(words: Words<'_>) -> Option<Kind>
     })
 }
 
-/// N, from 2 to 6.
-fn read_size(word: &[u8]) -> Option<u8>
-    ensures { result ≡ size_of word.now }
+/// N, from 2 to 6, and from 1 for files of version 2.
+fn read_size(version: Version, word: &[u8]) -> Option<u8>
+    ensures { result ≡ size_of version word.now }
 {
-    let n = read_below(7, word)?;
-    if n >= 2 { Some(n as u8) } else { None }
+    let n = read_below(256, word)? as u8;
+    if is_size(version, n) { Some(n) } else { None }
 }
 
 /// `cluster N`, `cluster N careful`, `cluster N v2` and `cluster N careful v2` behind the first word.
@@ -57,6 +57,6 @@ pub fn read_cluster(words: Words<'_>) -> Option<Line>
 {
     let (size, words) = words.first()?;
     let kind = read_kind(words)?;
-    let n = read_size(size)?;
+    let n = read_size(kind.version, size)?;
     Some(Line::Cluster { n, kind })
 }

@@ -3,7 +3,7 @@ ghost use Rattle.std.specs.Prelude.{◌≡◌, ◌<◌, ◌≤◌};
 ghost use Rattle.vr_base.specs.Bytes.{name_of};
 ghost use Rattle.vr_header.specs.Names.{header_name};
 ghost use Rattle.vr_rules.specs.Deciding.{is_for, is_from, is_from_primary, is_known, is_named, is_unknown};
-ghost use Rattle.vr_rules.specs.Replica.{header_at, is_primary, is_spent, is_started, leads, version};
+ghost use Rattle.vr_rules.specs.Replica.{header_at, is_alone, is_primary, is_spent, is_started, leads, version};
 ghost use Rattle.vr_rules.specs.Words.{is_loaded};
 
 use crate::Replica;
@@ -43,7 +43,7 @@ impl Replica {
         self.index
     }
 
-    /// How many replicas the group has, 2 to 6.
+    /// How many replicas the group has, 1 to 6.
     pub fn n(&self) -> u8
         ensures { result ≡ self.now.n }
     {
@@ -164,6 +164,13 @@ impl Replica {
         ensures { result ≡ is_started self.now }
     {
         self.view == self.log_view
+    }
+
+    /// Whether its group has no other replica.
+    pub fn is_alone(&self) -> bool
+        ensures { result ≡ is_alone self.now }
+    {
+        self.n == 1
     }
 
     /// Whether it is the primary of its view.

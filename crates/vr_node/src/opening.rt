@@ -1,6 +1,6 @@
 //! A member is made, or found again, on its disk.
-ghost use Rattle.std.specs.Prelude.{◌≡◌, ◌<◌, [], IfOk, None, Some, is_some, true};
-ghost use Rattle.vr_base.specs.Groups.{quorums_of};
+ghost use Rattle.std.specs.Prelude.{◌≡◌, ◌<◌, [], IfOk, IfSome, None, Some, true};
+ghost use Rattle.vr_base.specs.Groups.{is_size};
 ghost use Rattle.vr_disk.specs.Counts.{CountsFault};
 ghost use Rattle.vr_node.specs.Opening.{Opening};
 
@@ -18,7 +18,7 @@ fn make_member<D: SectorDisk>(
     config: &Config,
     kind: Kind,
 ) -> Result<Replica, Status>
-    requires size { is_some (quorums_of config.now.n) ≡ true }
+    requires size { is_size kind.version config.now.n ≡ true }
     requires member { config.now.replica < config.now.n }
     ensures running { IfOk result (λ r. r.running ≡ true) }
     ensures cause { CountsFault Status.DiskFault (D.faults disk.old) (D.faults disk.new) result }
@@ -62,7 +62,7 @@ pub fn open_member<D: SectorDisk>(
     fresh: Option<Kind>,
     first: &mut Outbox,
 ) -> Result<Replica, Status>
-    requires size { is_some (quorums_of config.now.n) ≡ true }
+    requires size { IfSome fresh (λ kind. is_size kind.version config.now.n ≡ true) }
     requires member { config.now.replica < config.now.n }
     requires empty { first.old ≡ [] }
     ensures running { IfOk result (λ r. r.running ≡ true) }

@@ -1,6 +1,6 @@
 //! The whole run of a member.
-ghost use Rattle.std.specs.Prelude.{◌≡◌, ◌<◌, ◌≤◌, is_some, string_bytes, true, vec_len};
-ghost use Rattle.vr_base.specs.Groups.{quorums_of};
+ghost use Rattle.std.specs.Prelude.{◌≡◌, ◌<◌, ◌≤◌, IfSome, string_bytes, true, vec_len};
+ghost use Rattle.vr_base.specs.Groups.{is_size};
 ghost use Rattle.vr_edge.specs.Attaching.{texts_of};
 ghost use Rattle.vr_edge.specs.Failing.{LinkFailure};
 ghost use Rattle.vr_node.specs.Running.{EndsAttached, GroupEnds, NodeEnds, ServeEnds, outside};
@@ -98,7 +98,7 @@ fn open_and_serve<D: SectorDisk, L: Link, C: Clock, K: Sink>(
     clock: &mut C,
     sink: &mut K,
 ) -> Status
-    requires size { is_some (quorums_of role.now.config.n) ≡ true }
+    requires size { IfSome role.now.fresh (λ kind. is_size kind.version role.now.config.n ≡ true) }
     requires member { role.now.config.replica < role.now.config.n }
     requires peers { role.now.config.n ≤ vec_len role.now.peers }
     ensures ends { EndsAttached role.now.fresh role.now.config (texts_of role.now.peers.items) role.now.turns
@@ -137,7 +137,7 @@ pub fn run_node<D: SectorDisk, L: Link, C: Clock, K: Sink>(
     clock: &mut C,
     sink: &mut K,
 ) -> Status
-    requires size { is_some (quorums_of role.now.config.n) ≡ true }
+    requires size { IfSome role.now.fresh (λ kind. is_size kind.version role.now.config.n ≡ true) }
     requires member { role.now.config.replica < role.now.config.n }
     requires peers { role.now.config.n ≤ vec_len role.now.peers }
     // Its disk is attached by the name of its role's file.

@@ -4,8 +4,8 @@ use Rattle.std.proofs.Common.{arith, ℕ, ◌≡◌, ◌<◌, ◌≤◌, ◌^◌
 use Rattle.std.specs.Prelude.{is_some}
 use Rattle.std.proofs.lemmas.Bool.{and_from, cases_eq, le-leb, lt-ltb, ne_eqb}
 use Rattle.vr_base.proofs.AreBytes.{IsBytes-zeros}
-use Rattle.vr_base.specs.Groups.{quorums_of}
-use Rattle.vr_super.specs.Copies.{IsGood, good_fields, are_listed, least_members}
+use Rattle.vr_base.specs.Groups.{quorums_of, least_members}
+use Rattle.vr_super.specs.Copies.{IsGood, good_fields, are_listed}
 use Rattle.vr_journal.specs.Opening.{IsKind, first_value}
 
 -- groups have from 2 to 6 replicas

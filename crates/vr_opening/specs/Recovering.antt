@@ -1,5 +1,5 @@
 -- A replica is recovered from its disk.
-use Rattle.std.specs.Prelude.{ℕ, ◌≡◌, ◌≢◌, ◌==◌, ◌||◌, not, Bool, true, false, nat_lt, if◌then◌else◌, List, [], ◌∷◌, map, Option, Some, None, IfSome, is_some, Result, Ok, Err}
+use Rattle.std.specs.Prelude.{ℕ, ◌≡◌, ◌≢◌, ◌==◌, not, Bool, true, false, if◌then◌else◌, List, [], ◌∷◌, map, Option, Some, None, IfSome, is_some, Result, Ok, Err}
 use Rattle.std.specs.Option.{option_and_then, option_map_or}
 use Rattle.vr_base.specs.declared.table.Config.{Config}
 use Rattle.vr_disk.specs.DiskState.{Disk, Face, Runs, RunsFrom}
@@ -32,10 +32,6 @@ DoesTo w r d d' o o' (Err halt) = Does w r r d d' o o' (Err halt)
 abbrev pub config_of : SuperValue → Config
 config_of v = record { cluster = v.fields.cluster; replica = v.fields.replica; n = v.fields.n }
 
--- groups of so few members don't run yet
-abbrev pub is_few : ℕ → Bool
-is_few n = nat_lt n 2
-
 -- a file of another version than the one that is asked for, where one is
 abbrev pub is_other : Option ℕ → ℕ → Bool
 is_other None version = false
@@ -43,13 +39,13 @@ is_other (Some wanted) version = not (version == wanted)
 
 -- a value that is left alone
 abbrev pub is_left : Option ℕ → SuperValue → Bool
-is_left wanted v = is_other wanted v.fields.version || is_few v.fields.n
+is_left wanted v = is_other wanted v.fields.version
 
 abbrev pub runs_as : Option ℕ → SuperValue → Option SuperValue
 runs_as wanted v = if is_left wanted v then None else Some v
 
 -- the value that a disk opens as, in a file of the version that is asked for: none where no two good copies agree, and none where its
--- file is of another version or its group has fewer than two members
+-- file is of another version
 abbrev pub opens_as : Option ℕ → Face → Option SuperValue
 opens_as wanted f = option_and_then (runs_as wanted) (superblock.opens f)
 

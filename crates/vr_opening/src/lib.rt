@@ -4,12 +4,12 @@
 mod begin;
 mod finding;
 mod formatting;
-mod lone;
 mod looking;
 mod new_member;
 mod new_value;
 mod opening;
 mod reopen;
+mod wanted;
 
 pub use new_member::{FreshFault, fresh};
 pub use reopen::{Refusal, recover, recover_any};

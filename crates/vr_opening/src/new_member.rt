@@ -1,7 +1,7 @@
 //! The replica of a member of a new group.
 ghost use Rattle.std.specs.Prelude.{◌≡◌, ◌<◌, IfOk, IfSome, is_ok, is_some, true};
+ghost use Rattle.vr_base.specs.Groups.{is_size};
 ghost use Rattle.vr_base.specs.Causes.{HasCause};
-ghost use Rattle.vr_base.specs.Groups.{quorums_of};
 ghost use Rattle.vr_disk.specs.Counts.{CountsFault};
 ghost use Rattle.vr_disk.specs.DiskState.{Runs};
 ghost use Rattle.vr_journal.specs.Ready.{IsReady};
@@ -43,7 +43,7 @@ fn is_occupied<D: SectorDisk>(disk: &mut D) -> bool
 // The replica, before its disk is formatted.
 #[tactic(auto, using(crate::proofs::Makes::fresh_ready))]
 fn make_member(alloc: Global, config: Config, kind: Kind) -> Result<Replica, NoMemory>
-    requires size { is_some (quorums_of config.n) ≡ true }
+    requires size { is_size kind.version config.n ≡ true }
     requires member { config.replica < config.n }
     ensures made { IfOk result (λ r. r ≡ fresh kind config.cluster config.n config.replica) }
     ensures ready { IfOk result IsReady }
@@ -75,7 +75,7 @@ pub fn fresh<D: SectorDisk>(
     config: &Config,
     kind: Kind,
 ) -> Result<Replica, FreshFault>
-    requires size { is_some (quorums_of config.now.n) ≡ true }
+    requires size { is_size kind.version config.now.n ≡ true }
     requires member { config.now.replica < config.now.n }
     ensures ready { IfOk result IsReady }
     ensures cause { CountsFault FreshFault.DiskFault (D.faults disk.old) (D.faults disk.new) result }

@@ -1,6 +1,6 @@
 //! The value with which a member begins.
-ghost use Rattle.std.specs.Prelude.{◌≡◌, ◌<◌, ◌^◌, IfOk, is_some, true};
-ghost use Rattle.vr_base.specs.Groups.{quorums_of};
+ghost use Rattle.std.specs.Prelude.{◌≡◌, ◌<◌, ◌^◌, IfOk, true};
+ghost use Rattle.vr_base.specs.Groups.{is_size};
 ghost use Rattle.vr_journal.specs.Opening.{IsKind, first_value};
 
 use std::alloc::Global;
@@ -35,7 +35,7 @@ fn first_fields(config: Config, kind: Kind) -> Fields
 /// The superblock's value of a member of a new group, on a file of this kind.
 #[tactic(auto, using(crate::proofs::First::first_good))]
 pub fn first_value(alloc: Global, config: &Config, kind: Kind) -> Result<Super, NoMemory>
-    requires size { is_some (quorums_of config.now.n) ≡ true }
+    requires size { is_size kind.version config.now.n ≡ true }
     requires member { config.now.replica < config.now.n }
     ensures { IfOk result (λ v. v ≡ first_value kind config.now.cluster config.now.n config.now.replica) }
 {

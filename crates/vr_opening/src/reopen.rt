@@ -1,5 +1,5 @@
 //! A replica is recovered from its disk.
-ghost use Rattle.std.specs.Prelude.{◌≡◌, ◌≢◌, ◌≤◌, true, false, IfOk, IfErr, IfSome, Ok};
+ghost use Rattle.std.specs.Prelude.{◌≡◌, ◌≢◌, true, false, IfOk, IfErr, IfSome, Ok};
 ghost use Rattle.vr_disk.specs.Counts.{CountsFault};
 ghost use Rattle.vr_opening.specs.declared.reopen.Refusal.TheVariants as Refusal;
 ghost use Rattle.vr_journal.specs.Does.{Caused};
@@ -10,7 +10,8 @@ ghost use Rattle.vr_opening.specs.Recovering.{after_mend, DoesTo, config_of, Fin
 ghost use Rattle.vr_journal.specs.Halt.TheVariants as Halt;
 
 use crate::begin::open_mended;
-use crate::lone::{is_left, is_left_in};
+use crate::wanted::{is_left, is_left_in};
+
 use std::alloc::Global;
 use vr_base::{Config, Version};
 use vr_disk::SectorDisk;
@@ -21,7 +22,6 @@ use vr_super::{CopyVerdict, Super, SuperFault};
 // The replica of a value that makes a good copy, before it looks at its disk.
 #[tactic(auto, using(crate::proofs::Begins::opening_blank))]
 fn begun(alloc: Global, value: Super) -> Result<Replica, Halt>
-    requires { 2 ≤ value.fields.n }
     ensures blank { IfOk result (λ r. r ≡ blank value) }
     ensures opening { IfOk result (λ r. IsOpeningOld 0 r) }
     ensures err { IfErr result (λ e. e ≡ Halt.NoMemory) }
@@ -41,7 +41,6 @@ fn open_value<D: SectorDisk>(
     value: Super,
     out: &mut Outbox,
 ) -> Result<Replica, Halt>
-    requires { 2 ≤ value.fields.n }
     ensures ready { IfOk result IsReady }
     ensures cause { Caused (D.faults disk.old) (D.faults disk.new) result }
     ensures step { DoesTo (after_mend value) (blank value) (D.told disk.old) (D.told disk.new) out.old out.new result }
@@ -58,8 +57,8 @@ fn open_value<D: SectorDisk>(
 /// Why a disk gives no replica.
 #[derive(Clone, Copy, Debug, PartialEq, Eq)]
 pub enum Refusal {
-    /// No two good copies of the superblock agree; or its value is left alone, and then all are called good: its group has fewer than two members, or its
-    /// file is of another version than is asked for.
+    /// No two good copies of the superblock agree; or its value is left alone, its file being of another version than is asked for, and then all are
+    /// called good.
     Lost([CopyVerdict; 4]),
     /// The disk is that of another member: of this one.
     OtherMember(Config),
@@ -81,14 +80,13 @@ fn config_of(value: &Super) -> Config
 
 // What stood in the way of the superblock's value, where it isn't left alone. A disk that answers otherwise the second time is judged by its
 // second answer.
-#[tactic(auto, using(crate::proofs::Recovers::found_value, crate::proofs::Recovers::found_left, crate::proofs::Recovers::found_several, crate::proofs::Recovers::lost, crate::proofs::Recovers::mend_faulted, crate::proofs::Recovers::mend_wanted))]
+#[tactic(auto, using(crate::proofs::Recovers::found_value, crate::proofs::Recovers::found_left, crate::proofs::Recovers::lost, crate::proofs::Recovers::mend_faulted, crate::proofs::Recovers::mend_wanted))]
 fn mended_value<D: SectorDisk>(
     alloc: Global,
     disk: &mut D,
     wanted: &Option<Version>,
 ) -> Result<Super, Refusal>
     requires { IfSome (D.told disk.old) (λ d. is_left_in wanted.now d.face ≡ false) }
-    ensures several { IfOk result (λ v. 2 ≤ v.fields.n) }
     ensures cause { CountsFault (Refusal.Halted Halt.DiskFault) (D.faults disk.old) (D.faults disk.new) result }
     ensures value { FindsValue wanted.now (D.told disk.old) (D.told disk.new) result }
 {
@@ -114,7 +112,6 @@ fn find_value<D: SectorDisk>(
     disk: &mut D,
     wanted: &Option<Version>,
 ) -> Result<Super, Refusal>
-    ensures several { IfOk result (λ v. 2 ≤ v.fields.n) }
     ensures cause { CountsFault (Refusal.Halted Halt.DiskFault) (D.faults disk.old) (D.faults disk.new) result }
     ensures value { FindsValue wanted.now (D.told disk.old) (D.told disk.new) result }
 {

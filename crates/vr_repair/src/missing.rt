@@ -91,7 +91,7 @@ fn ask_absent<D: SectorDisk>(
 }
 
 /// Asks the peer whose turn it is for what is missing: the first of the blocks that are, else the least entry that isn't stored or can't be
-/// read, else the first block that has gone bad. Where there is none of these nothing is asked.
+/// read, else the first block that has gone bad. Where there is none of these, or no peer, nothing is asked.
 #[tactic(auto, using(crate::proofs::Words::asked_block, crate::proofs::Words::asked_absent))]
 pub fn ask<D: SectorDisk>(replica: &mut Replica, disk: &mut D, out: &mut Outbox) -> Result<(), Halt>
     requires ready { IsReady replica.old }
@@ -99,6 +99,9 @@ pub fn ask<D: SectorDisk>(replica: &mut Replica, disk: &mut D, out: &mut Outbox)
     ensures cause { Caused (D.faults disk.old) (D.faults disk.new) result }
     ensures step { Does ask replica.old replica.new (D.told disk.old) (D.told disk.new) out.old out.new result }
 {
+    if replica.is_alone() {
+        return Ok(());
+    }
     match replica.missing().get(0) {
         Some(name) => ask_block(replica, disk, &name, out),
         None => ask_absent(replica, disk, out),

@@ -1,6 +1,6 @@
 //! A replica as its member runs it.
 ghost use Rattle.std.specs.Prelude.{◌≡◌, ◌≤◌, ◌<◌, [], IfOk, IfSome, OnErr, is_ok, is_some, true};
-ghost use Rattle.vr_base.specs.Groups.{quorums_of};
+ghost use Rattle.vr_base.specs.Groups.{is_size};
 ghost use Rattle.vr_disk.specs.Counts.{CountsFault};
 ghost use Rattle.vr_opening.specs.Making.{Made};
 ghost use Rattle.vr_opening.specs.Recovering.{Recovered, RecoveredAny};
@@ -51,7 +51,7 @@ impl Replica {
         config: &Config,
         kind: Kind,
     ) -> Result<Replica, FreshFault>
-        requires size { is_some (quorums_of config.now.n) ≡ true }
+        requires size { is_size kind.version config.now.n ≡ true }
         requires member { config.now.replica < config.now.n }
         ensures running { IfOk result (λ r. r.running ≡ true) }
         ensures cause { CountsFault FreshFault.DiskFault (D.faults disk.old) (D.faults disk.new) result }

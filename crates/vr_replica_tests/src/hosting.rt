@@ -1,6 +1,6 @@
 //! What is done with a replica and its disk. Nothing here owns them, and each answer is small.
-ghost use Rattle.std.specs.Prelude.{◌≡◌, ◌<◌, IfOk, is_some, length, true};
-ghost use Rattle.vr_base.specs.Groups.{quorums_of};
+ghost use Rattle.std.specs.Prelude.{◌≡◌, ◌<◌, IfOk, length, true};
+ghost use Rattle.vr_base.specs.Groups.{is_size};
 ghost use Rattle.vr_lie.specs.Faults.{IsFault};
 
 use std::alloc::Global;
@@ -12,7 +12,7 @@ use vr_replica::{FreshFault, Halt, Refusal, Replica};
 
 /// The member of this number, or the last, of a group of three.
 pub fn one_of_three(index: u8) -> Config
-    ensures size { is_some (quorums_of result.n) ≡ true }
+    ensures size { is_size 1 result.n ≡ true }
     ensures member { result.replica < result.n }
 {
     Config {

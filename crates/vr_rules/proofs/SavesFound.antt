@@ -3,6 +3,7 @@ use Rattle.std.proofs.Common.{arith, ◌≡◌, ◌⊎◌, ◌≤◌, ◌<◌, �
 use Rattle.std.specs.Prelude.{filter, slice_get, nat_lt, nat_le, nat_eq, ◌&&◌, ◌||◌}
 use Rattle.std.specs.List.{range_with_len}
 use Rattle.std.proofs.lemmas.Bool.{and_parts, or_cases, cases_lt, cases_eq, ltb-true, leb-true, leb-false, eqb-true}
+use Rattle.vr_base.specs.Groups.{least_members}
 use Rattle.vr_base.specs.Bytes.{is_zeros}
 use Rattle.vr_header.specs.declared.header.Header.{Header}
 use Rattle.vr_header.specs.declared.part.Part.{Part}
@@ -11,7 +12,7 @@ use Rattle.vr_msg.specs.Choice.{ops}
 use Rattle.vr_msg.specs.Logs.{has_header}
 use Rattle.vr_recover.specs.declared.readings.Verdict.{Verdict}
 use Rattle.vr_recover.specs.declared.readings.Verdict.TheVariants as verdict
-use Rattle.vr_super.specs.Copies.{SuperValue, IsGood, good_fields, good_member, good_window, good_root, good_count, least_members}
+use Rattle.vr_super.specs.Copies.{SuperValue, IsGood, good_fields, good_member, good_window, good_root, good_count}
 use Rattle.vr_rules.specs.Replica.{Replica, head, forgetting, with_part, knows}
 use Rattle.vr_rules.specs.Steps.{Setting, ◌⨾◌, quiet, change, does, reading, each, after_all}
 use Rattle.vr_rules.specs.Words.{entry_of}

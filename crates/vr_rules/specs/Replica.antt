@@ -55,6 +55,10 @@ replication n = option_map_or (λ q. q.replication) (quorums_of n) 0
 abbrev pub view_change : ℕ → ℕ
 view_change n = option_map_or (λ q. q.view_change) (quorums_of n) 0
 
+-- its group has no other replica
+abbrev pub is_alone : Replica → Bool
+is_alone r = r.n == 1
+
 -- it has the log of its view
 abbrev pub is_started : Replica → Bool
 is_started r = r.view == r.log_view

@@ -1,9 +1,9 @@
 //! Try: the primary of a view that isn't started chooses the log with which it begins.
-ghost use Rattle.std.specs.Prelude.{◌≡◌, ◌<◌, ◌≤◌, ◌+◌, ◌^◌, ◌++◌, IfOk, OnOk, ◌&&◌, nat_le, not};
+ghost use Rattle.std.specs.Prelude.{◌≡◌, ◌<◌, ◌≤◌, ◌+◌, ◌^◌, ◌++◌, IfOk, OnOk, ◌&&◌, if◌then◌else◌, nat_le, not};
 ghost use Rattle.vr_base.specs.Replicas.{size};
 ghost use Rattle.vr_journal.specs.Ready.{IsReady};
-ghost use Rattle.vr_journal.specs.Replica.{is_primary, is_started, last_view, view_change};
-ghost use Rattle.vr_journal.specs.Words.{begin_view, choose_line, chosen_log, decided, log_end, obey_choice, prepare_again, speak, stated, try, try_log};
+ghost use Rattle.vr_journal.specs.Replica.{is_alone, is_primary, is_started, last_view, view_change};
+ghost use Rattle.vr_journal.specs.Words.{advance, apply, begin_view, choose_line, chosen_log, decided, log_end, obey_choice, prepare_again, speak, stated, try, try_log};
 ghost use Rattle.vr_journal.specs.Does.{Caused, Does};
 ghost use Rattle.vr_view.specs.Logs.{IsTaught, MayTake};
 ghost use Rattle.vr_journal.specs.Telling.{each_to};
@@ -14,7 +14,7 @@ use vr_base::{Seq, quorums};
 use vr_choose::{choose, top_commit, top_view};
 use vr_disk::SectorDisk;
 use vr_header::HeaderList;
-use vr_journal::{Halt, Log, Replica, apply, prepare_again};
+use vr_journal::{Halt, Log, Replica, advance, apply, prepare_again};
 use vr_msg::{Choice, Outbox, Statement};
 
 // The op of the last header, or the commit number where there is none.
@@ -108,6 +108,26 @@ fn tell_choice(
     Ok(())
 }
 
+// What is committed is applied; where its group has no other replica, what it has stored of the log counts first.
+fn apply_log<D: SectorDisk>(
+    replica: &mut Replica,
+    alloc: Global,
+    disk: &mut D,
+    out: &mut Outbox,
+) -> Result<(), Halt>
+    requires ready { IsReady replica.old }
+    requires room { replica.old.saved.fields.sequence + 64 < 2 ^ 64 }
+    ensures ready { OnOk result (IsReady replica.new) }
+    ensures cause { Caused (D.faults disk.old) (D.faults disk.new) result }
+    ensures step { Does (if is_alone replica.old then advance else apply) replica.old replica.new (D.told disk.old) (D.told disk.new) out.old out.new result }
+{
+    if replica.is_alone() {
+        advance(replica, alloc, disk, out)
+    } else {
+        apply(replica, alloc, disk, out)
+    }
+}
+
 // Begins its view with this log: it takes it over, the others hear of it, and what can be read above
 // the commit number is prepared again and then applied.
 #[tactic(auto, using(vr_journal::proofs::Stepping::steps, crate::proofs::Takes::taken_low, crate::proofs::Choices::head_small, crate::proofs::Choices::begins))]
@@ -130,7 +150,7 @@ fn begin_view<D: SectorDisk>(
     take(replica, alloc, disk, log, out)?;
     replica.tell_views(alloc, out)?;
     prepare_all(replica, alloc, disk, log, out)?;
-    apply(replica, alloc, disk, out)
+    apply_log(replica, alloc, disk, out)
 }
 
 // Begins its view with this log if it may take it, and waits otherwise.

@@ -46,7 +46,7 @@ abbrev pub IsMade : Header → Type 0
 IsMade h = IsHeader h × IsEntryHeader h
 
 pub record IsFitGroup (cluster : ℕ) (g : Group) : Type 0 where
-  pub several : 2 ≤ g.n
+  pub some : 1 ≤ g.n
   pub members : (at : ℕ) (m : Member) → slice_get g.members at ≡ Some m → IsFitMember cluster g.n at m
   pub sent : All MayCome g.sent
   pub made : All IsMade g.made
@@ -79,6 +79,6 @@ IsOfKinds kinds p = AreOfKinds kinds p.before × AreOfKinds kinds p.moved.group
 -- Each move of a fit group leaves a fit one, and so does each run of a fresh group. The files stay of the versions that they are made of.
 pub record GroupsFit : Type 0 where
   pub each : (cluster : ℕ) (g : Group) (move : Move) (moved : Moved) → IsFitGroup cluster g → IsFitMove move → Moves g move moved → IsFitGroup cluster moved.group
-  pub runs : (kinds : ℕ → Kind) (cluster n : ℕ) (run : List Played) → AreKinds kinds n → cluster < 2 ^ 64 → 2 ≤ n → n ≤ 6 → All (λ p. IsFitMove p.move) run → Run (fresh_group kinds cluster n) run → All (IsFitPlayed cluster) run
+  pub runs : (kinds : ℕ → Kind) (cluster n : ℕ) (run : List Played) → AreKinds kinds n → cluster < 2 ^ 64 → 1 ≤ n → n ≤ 6 → All (λ p. IsFitMove p.move) run → Run (fresh_group kinds cluster n) run → All (IsFitPlayed cluster) run
   pub kinds : (kinds : ℕ → Kind) (cluster : ℕ) (g : Group) (move : Move) (moved : Moved) → AreOfKinds kinds g → IsFitGroup cluster g → IsFitMove move → Moves g move moved → AreOfKinds kinds moved.group
-  pub runs_of : (kinds : ℕ → Kind) (cluster n : ℕ) (run : List Played) → AreKinds kinds n → cluster < 2 ^ 64 → 2 ≤ n → n ≤ 6 → All (λ p. IsFitMove p.move) run → Run (fresh_group kinds cluster n) run → All (IsOfKinds kinds) run
+  pub runs_of : (kinds : ℕ → Kind) (cluster n : ℕ) (run : List Played) → AreKinds kinds n → cluster < 2 ^ 64 → 1 ≤ n → n ≤ 6 → All (λ p. IsFitMove p.move) run → Run (fresh_group kinds cluster n) run → All (IsOfKinds kinds) run

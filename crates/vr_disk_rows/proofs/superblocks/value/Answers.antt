@@ -1,9 +1,10 @@
 use Rattle.std.proofs.Common.{◌≡◌, ◌+◌, ℕ, zero, suc, true, false, cond, eqb, le-leb, arith, refl}
 use Rattle.std.specs.Prelude.{nat_le, replicate}
+use Rattle.vr_base.specs.Groups.{least_members}
 use Rattle.vr_base.specs.Bytes.{IsBytes}
 use Rattle.vr_base.proofs.AreBytes.{IsBytes-zeros}
 use Rattle.vr_base.specs.Versions.{body_limit}
-use Rattle.vr_super.specs.Copies.{are_listed, good_fields, is_listed, least_members}
+use Rattle.vr_super.specs.Copies.{are_listed, good_fields, is_listed}
 use Rattle.vr_disk_rows.proofs.superblocks.value.Goals as goal
 
 sevens : (n : ℕ) → IsBytes (replicate n 7)
