@@ -1,6 +1,7 @@
 pub mod AreBytes
 pub mod Count
 pub mod FieldLaws
+pub mod Members
 pub mod Places
 mod Rows
 pub mod Sets

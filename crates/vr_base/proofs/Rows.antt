@@ -6,7 +6,7 @@ use Rattle.vr_base.specs.Bytes.{name_of}
 use Rattle.vr_base.specs.Groups.{quorums_of, these}
 
 the_table : map quorums_of (0 ∷ 1 ∷ 2 ∷ 3 ∷ 4 ∷ 5 ∷ 6 ∷ 7 ∷ [])
-    ≡ None ∷ None ∷ these 2 2 1 ∷ these 2 2 2 ∷ these 2 3 3 ∷ these 3 3 3 ∷ these 3 4 4 ∷ None ∷ []
+    ≡ None ∷ these 1 1 1 ∷ these 2 2 1 ∷ these 2 2 2 ∷ these 2 3 3 ∷ these 3 3 3 ∷ these 3 4 4 ∷ None ∷ []
 the_table = refl
 
 name_of_nothing : name_of [] ≡ 227 ∷ 176 ∷ 196 ∷ 66 ∷ 152 ∷ 252 ∷ 28 ∷ 20 ∷ 154 ∷ 251 ∷ 244 ∷ 200 ∷ 153 ∷ 111 ∷ 185 ∷ 36 ∷ []
