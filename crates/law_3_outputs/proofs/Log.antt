@@ -33,7 +33,7 @@ module _ (cluster n : ℕ) (u : Setup) (run : List Played) (x : IsFollowed clust
   newest =
       let b = bound g.log_view u.quorums.n in
       let size = x.size_is in
-      let few = x.fit.few in
+      let some = x.fit.some in
       greatest g.finished b.0 y.history.first.0 (λ v f. let l = y.led v f in let m = b.1 (v % u.quorums.n) (mod-lt v (omega arith)) in omega arith)
 
   abbrev IsLogged : ℕ → Whole → Type 0
