@@ -21,7 +21,7 @@ use Rattle.law_2_chains.proofs.FitSteps.{steps_fit}
 use Rattle.law_2_chains.proofs.FitOpening.{openings_fit}
 use Rattle.law_2_chains.proofs.FitLies.{lies_fit}
 use Rattle.law_2_chains.proofs.FitGroups.{good_value, groups_fit}
-use Rattle.law_3_outputs.proofs.Sets.{in_contains}
+use Rattle.law_2_chains.proofs.StoredLists.{in_contains}
 use Rattle.law_3_outputs.specs.Followed.{IsFitRun, IsGoodEntry}
 use Rattle.law_3_outputs.specs.Written.{WritesGood}
 
@@ -37,7 +37,7 @@ pub good_whole : (e : Whole) → IsWhole e → IsGoodEntry e
 good_whole e h = record { header = h.header; body = h.entry.body }
 
 fit_good : (es : List Effect) → All IsFit es → WritesGood es
-fit_good es h again e i = good_whole e (All-contains IsFit es (Write again e) h (in_contains es (Write again e) i))
+fit_good es h again e i = good_whole e (All-contains IsFit es (Write again e) h (in_contains (Write again e) es i))
 
 pub at_place : {X : Type 0} (P : X → Type 0) (xs : List X) (i : ℕ) (x : X) → All P xs → slice_get xs i ≡ Some x → P x
 at_place P [] i x h e = absurd cc
