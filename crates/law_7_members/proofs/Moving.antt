@@ -162,7 +162,7 @@ runs cluster g (x ∷ xs) h w =
       said = ap (λ (os : List Output). os ++ run_outputs rest.run) one.said ∙ ap (λ (os : List Output). puts_out x.deed ++ os) rest.said;
     }
 
-pub one_run : (kinds : ℕ → Kind) (cluster n : ℕ) (xs : List By) → AreKinds kinds n → cluster < 2 ^ 64 → 2 ≤ n → n ≤ 6 → AtWork cluster (fresh_group kinds cluster n) xs → IsOneRun cluster n xs
+pub one_run : (kinds : ℕ → Kind) (cluster n : ℕ) (xs : List By) → AreKinds kinds n → cluster < 2 ^ 64 → 1 ≤ n → n ≤ 6 → AtWork cluster (fresh_group kinds cluster n) xs → IsOneRun cluster n xs
 one_run kinds cluster n xs are number few many w =
     let r = runs cluster (fresh_group kinds cluster n) xs (fresh_group_fits kinds cluster n are number few many) w in
     let fit : IsFitRun cluster n r.run = record { number = number; few = few; many = many; moves = r.fits; files = r.files; kinds = kinds; are_kinds = are; of_run = r.is } in
