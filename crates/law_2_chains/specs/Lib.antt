@@ -21,6 +21,7 @@ pub use Rattle.vr_world.specs.Deciding
 pub use Rattle.vr_world.specs.Files
 pub use Rattle.vr_world.specs.Fit
 pub use Rattle.vr_world.specs.Formatting
+pub use Rattle.vr_world.specs.Migrating
 pub use Rattle.vr_world.specs.Given
 pub use Rattle.vr_world.specs.Group
 pub use Rattle.vr_world.specs.GroupFit

@@ -15,6 +15,7 @@ pub use Rattle.law_2_chains.specs.Files
 pub use Rattle.law_2_chains.specs.Finished
 pub use Rattle.law_2_chains.specs.Fit
 pub use Rattle.law_2_chains.specs.Formatting
+pub use Rattle.law_2_chains.specs.Migrating
 pub use Rattle.law_2_chains.specs.Group
 pub use Rattle.law_2_chains.specs.GroupFit
 pub use Rattle.law_2_chains.specs.Laws

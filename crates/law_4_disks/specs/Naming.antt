@@ -1,5 +1,7 @@
 -- What tells prepares and copies apart: names that don't collide, of what was read, held and written where a script was cut.
-use Rattle.std.specs.Prelude.{ℕ, suc, ◌-◌, ◌≤◌, ◌<◌, ◌≡◌, ◌⊎◌, Bool, List, [], ◌∷◌, Some, drop, length, take}
+use Rattle.vr_world.specs.Migrating.{migrated, slot_calls}
+use Rattle.vr_lie.specs.Calls.{mend_calls}
+use Rattle.std.specs.Prelude.{ℕ, suc, ◌-◌, ◌≤◌, ◌<◌, ◌≡◌, ◌⊎◌, Bool, List, [], ◌∷◌, Some, drop, length, take, ◌+◌}
 use Rattle.vr_disk.specs.DiskState as disk
 use Rattle.vr_disk.specs.DiskState.{Face, IsFace}
 use Rattle.vr_header.specs.Bodies.{operation_bytes}
@@ -12,9 +14,9 @@ use Rattle.vr_rings.specs.Laws.{TellsPrepare}
 use Rattle.vr_lie.specs.Slots.{IsWhole, prepare_bytes, whole_in}
 use Rattle.vr_lie.specs.declared.fault.Fault.{Fault}
 use Rattle.vr_lie.specs.Faults.{faulted, held_at}
-use Rattle.vr_world.specs.Steps.{Effect, Write}
+use Rattle.vr_world.specs.Steps.{Effect, Mend, Save, Write}
 use Rattle.vr_world.specs.Sectors.{calls_by}
-use Rattle.vr_world.specs.Lying.{Lying, lying}
+use Rattle.vr_world.specs.Lying.{Lying, lying, after_calls}
 use Rattle.law_4_disks.specs.Beside.{IsInPlay}
 
 -- the bytes of the operation of an entry that reads on this face, of a file of a version
@@ -65,6 +67,21 @@ abbrev pub IsHashedIn : List Effect → Lying → ℕ → ℕ → List ℕ → T
 IsHashedIn [] d j code bytes = ⊥
 IsHashedIn (e ∷ es) d j code bytes =
     ((j < length (calls_by d.version e d.face)) × IsHashedBy e d j code bytes) ⊎ ((length (calls_by d.version e d.face) ≤ j) × IsHashedIn es (lying.after d e) (j - length (calls_by d.version e d.face)) code bytes)
+
+-- a disk with a file of this value, once it is mended, and once its prepares are written at their new places
+abbrev pub mended_on : SuperValue → Lying → Lying
+mended_on v d = after_calls d (mend_calls v d.face)
+
+abbrev pub moved_on : SuperValue → Lying → Lying
+moved_on v d = after_calls (mended_on v d) (slot_calls (mended_on v d).face)
+
+-- of a migration of a file with this value: by its mending, or by the saving of the new value, on the disk that was mended and moved. No name is
+-- in play while prepares are written at their new places.
+abbrev pub IsHashedMigrating : SuperValue → Lying → ℕ → ℕ → List ℕ → Type 0
+IsHashedMigrating v d j code bytes =
+    ((j < length (mend_calls v d.face)) × IsHashedBy (Mend v) d j code bytes)
+    ⊎ ((length (mend_calls v d.face) + length (slot_calls (mended_on v d).face) ≤ j)
+    × IsHashedBy (Save v (migrated v)) (moved_on v d) (j - (length (mend_calls v d.face) + length (slot_calls (mended_on v d).face))) code bytes)
 
 -- and by a fault: what then reads, and what the slots held
 abbrev pub IsHashedAfter : Lying → Fault → List ℕ → Type 0

@@ -1,5 +1,7 @@
 -- A world of disks that lie, beside a group.
-use Rattle.std.specs.Prelude.{ℕ, ◌%◌, ◌^◌, ◌<◌, ◌≡◌, ◌⊎◌, ⊤, List, [], ◌∷◌, ◌++◌, length, map, slice_get, All, Option, Some, None}
+use Rattle.vr_msg.specs.declared.request.RequestFields.{RequestFields}
+use Rattle.vr_lie.specs.Calls.{mend_calls}
+use Rattle.std.specs.Prelude.{ℕ, ◌%◌, ◌^◌, ◌<◌, ◌≡◌, ◌⊎◌, ⊤, List, [], ◌∷◌, ◌++◌, length, map, slice_get, All, Option, Some, None, nat_lt, if◌then◌else◌}
 use Rattle.std.specs.List.{range_with_len}
 use Rattle.std.specs.Option.{option_and_then, option_map}
 use Rattle.vr_base.specs.declared.kind.Kind.{Kind}
@@ -14,19 +16,19 @@ use Rattle.vr_msg.specs.declared.output.Sent.{Sent}
 use Rattle.vr_lie.specs.Copies.{SuperValue}
 use Rattle.vr_lie.specs.Opens.{opens}
 use Rattle.vr_lie.specs.Faults.{IsFault}
-use Rattle.vr_world.specs.Replica.{Replica}
+use Rattle.vr_world.specs.Replica.{Replica, version}
 use Rattle.vr_world.specs.Steps.{Effect, Mend, Step}
 use Rattle.vr_world.specs.Rules.{react}
 use Rattle.vr_world.specs.Opening.{fresh, opened}
 use Rattle.vr_world.specs.Lying.{Lying, hazards, lying}
-use Rattle.vr_world.specs.World.{World, Host, Happening, Happened, Begins, Asks, Arrives, Ticks, Stops, Starts, Fuses, Lies}
+use Rattle.vr_world.specs.World.{World, Host, Happening, Happened, Begins, Asks, AsksInVersion, Arrives, Ticks, Stops, Starts, Migrates, Fuses, Lies, in_version, movable}
 use Rattle.vr_world.specs.Fit.{IsAsked}
-use Rattle.vr_world.specs.Group.{Crashes, Cuts, Group, Member, Move, Played, Recovers, RecoversCut, Run, Steps, made_in}
+use Rattle.vr_world.specs.Group.{Crashes, Cuts, Group, Member, Migrates as MoveMigrates, MigratesCut, Move, Played, Recovers, RecoversCut, Run, Steps, made_in, migration}
 use Rattle.vr_world.specs.Files.{IsOfFile}
 use Rattle.vr_world.specs.GroupFit.{IsFitGroup, IsFitMove}
 use Rattle.vr_world.specs.Safe.{disks_of, run_outputs}
 use Rattle.law_4_disks.specs.Beside.{AreMade, IsOff, IsOn, begun_before}
-use Rattle.law_4_disks.specs.Naming.{IsHashedAfter, IsHashedIn}
+use Rattle.law_4_disks.specs.Naming.{IsHashedAfter, IsHashedIn, IsHashedMigrating}
 use Rattle.law_4_disks.specs.Stocks.{IsStockedGroup}
 
 -- ---- a group that begins, of any number
@@ -57,6 +59,7 @@ pub record AreBeside (w : World Lying) (g : Group) : Type 0 where
 
 abbrev pub IsAside : Output → Type 0
 IsAside (output.Halted replica) = ⊤
+IsAside (output.Migrated replica) = ⊤
 IsAside output.Done = ⊤
 IsAside output.KeptOut = ⊤
 IsAside _ = ⊥
@@ -78,6 +81,8 @@ IsOfBytes (Cuts at arrival e disk effects) = IsFace disk.face
 IsOfBytes (Crashes at) = ⊤
 IsOfBytes (Recovers at value disk) = IsFace disk.face
 IsOfBytes (RecoversCut at value disk effects) = IsFace disk.face
+IsOfBytes (MoveMigrates at value) = ⊤
+IsOfBytes (MigratesCut at value effects) = ⊤
 
 -- what happened is a run of the group, whose moves read what the program has, from disks of bytes, with the members' files
 pub record IsMatched (g : Group) (h : Happened Lying) : Type 0 where
@@ -106,6 +111,10 @@ opening_as m s = record { host = m; script = s.script }
 abbrev pub handling : Event → Host Lying → Option Work
 handling e m = option_map (stepping e m) m.replica
 
+-- a request is made in the version of the replica
+abbrev pub asking : RequestFields → Host Lying → Option Work
+asking q m = option_map (λ r. stepping (event.Request (in_version (version r) q)) m r) m.replica
+
 abbrev pub starting_by : Host Lying → Option Replica → Option Work
 starting_by m (Some r) = None
 starting_by m None = option_map (opening_as m) (opened lying m.disk)
@@ -116,10 +125,12 @@ starting m = starting_by m m.replica
 abbrev pub work_of : World Lying → Happening → Option Work
 work_of w (Begins kind n) = None
 work_of w (Asks i q) = option_and_then (handling (event.Request q)) (slice_get w.members i)
+work_of w (AsksInVersion i q) = option_and_then (asking q) (slice_get w.members i)
 work_of w (Arrives x) = option_and_then (λ (s : Sent). option_and_then (handling (event.Deliver s.message)) (slice_get w.members s.to)) (slice_get w.sent (x % length w.sent))
 work_of w (Ticks i) = option_and_then (handling event.Tick) (slice_get w.members i)
 work_of w (Stops i) = None
 work_of w (Starts i) = option_and_then starting (slice_get w.members i)
+work_of w (Migrates i) = None
 work_of w (Fuses i calls code) = None
 work_of w (Lies i fault) = None
 
@@ -132,8 +143,26 @@ abbrev pub begun_of : Option Work → List Effect
 begun_of None = []
 begun_of (Some k) = begun_by k.host.fuse k.script k.host.disk
 
+-- a host whose file is to be migrated, with its value
+pub record Migration : Type 0 where
+  pub host : Host Lying
+  pub value : SuperValue
+
+abbrev pub migrating : World Lying → ℕ → Option Migration
+migrating w i = option_and_then (λ (m : Host Lying). option_map (λ v. record { host = m; value = v }) (movable hazards m)) (slice_get w.members i)
+
+-- what a stop before the mending has ended leaves of it; what comes later counts as the saving of the new value
+abbrev pub moved_by : Option Fuse → Migration → List Effect
+moved_by None k = migration k.value
+moved_by (Some u) k = if nat_lt u.calls (length (mend_calls k.value k.host.disk.face)) then Mend k.value ∷ [] else migration k.value
+
+abbrev pub moved_of : Option Migration → List Effect
+moved_of None = []
+moved_of (Some k) = moved_by k.host.fuse k
+
 -- those of a line
 abbrev pub begun_in : World Lying → Happening → List Effect
+begun_in w (Migrates i) = moved_of (migrating w i)
 begun_in w x = begun_of (work_of w x)
 
 -- and the disk that is read, as it is before them
@@ -150,6 +179,7 @@ read_in w x = read_of (work_of w x)
 abbrev pub IsLine : Happening → Type 0
 IsLine (Begins kind n) = ⊥
 IsLine (Asks i q) = IsAsked q × (q.cluster < 2 ^ 64)
+IsLine (AsksInVersion i q) = IsAsked q × (q.cluster < 2 ^ 64)
 IsLine (Lies i fault) = IsFault fault
 IsLine _ = ⊤
 
@@ -157,8 +187,13 @@ IsLine _ = ⊤
 abbrev pub IsHashedCut : Work → List ℕ → Type 0
 IsHashedCut k bytes = (u : Fuse) × (k.host.fuse ≡ Some u) × IsHashedIn k.script k.host.disk u.calls u.code bytes
 
+-- of a migration: where its mending, or its saving on the disk that the moves have left, was cut
+abbrev pub IsHashedMoving : Migration → List ℕ → Type 0
+IsHashedMoving k bytes = (u : Fuse) × (k.host.fuse ≡ Some u) × IsHashedMigrating k.value k.host.disk u.calls u.code bytes
+
 abbrev pub IsHashedAt : World Lying → Happening → List ℕ → Type 0
 IsHashedAt w (Lies i fault) bytes = (m : Host Lying) × (slice_get w.members i ≡ Some m) × IsHashedAfter m.disk fault bytes
+IsHashedAt w (Migrates i) bytes = (k : Migration) × (migrating w i ≡ Some k) × IsHashedMoving k bytes
 IsHashedAt w x bytes = (k : Work) × (work_of w x ≡ Some k) × IsHashedCut k bytes
 
 -- nothing is forged: what reads as the header of an entry above the head of the value that opens, where an opening looks for it,

@@ -1,5 +1,6 @@
 -- Members of a group at work on their files: what befalls them, in one order. What a member does is what its program says of it, on a
 -- disk that tells what its file has: as its last step, cut or run left it, but for faults that keep the premise of the file.
+use Rattle.vr_node.specs.Migrating.{migration_calls}
 use Rattle.std.specs.Prelude.{ℕ, ◌^◌, ◌<◌, ◌≡◌, ⊤, List, [], ◌∷◌, ◌++◌, length, slice_get, Option, Some, None}
 use Rattle.vr_base.specs.declared.table.Config.{Config}
 use Rattle.vr_disk.specs.DiskState.{Disk}
@@ -12,12 +13,12 @@ use Rattle.vr_msg.specs.declared.output.Output.TheVariants as output
 use Rattle.vr_msg.specs.declared.output.Sent.{Sent}
 use Rattle.vr_super.specs.Copies.{SuperValue}
 use Rattle.vr_world.specs.Group.{Arrival, Asked, Message, Time, opening_script}
-use Rattle.vr_world.specs.Lying.{Lying, cut_calls, lying, unless_kept_out}
+use Rattle.vr_world.specs.Lying.{Lying, after_calls, cut_calls, lying, settled, unless_kept_out}
 use Rattle.vr_node.specs.Replica.{Replica}
 use Rattle.vr_node.specs.Rules.{react}
 use Rattle.vr_node.specs.Sectors.{script_calls, sectors_by}
 use Rattle.vr_world.specs.Steps.{Effect, after_all}
-use Rattle.vr_world.specs.World.{Happened, Happening, Host, World, Arrives, Asks, Fuses, Lies, Starts, Stops, Ticks, later, nothing, with_member}
+use Rattle.vr_world.specs.World.{Happened, Happening, Host, World, Arrives, Asks, Fuses, Lies, Migrates, Starts, Stops, Ticks, later, nothing, with_member}
 use Rattle.vr_node.specs.Fit.{IsAsked}
 use Rattle.vr_serve.specs.Runs.{Did}
 use Rattle.vr_node.specs.Opening.{Opens}
@@ -38,6 +39,10 @@ pub data Act : Type 0 where
   Finds : (after : Option Disk) (first : List Output) (replica : Replica) → Act
   -- it is ended while it is being found, in the same way
   HalfFinds : (made code : ℕ) → Act
+  -- its file becomes one of version 2
+  Moves : Act
+  -- that is ended in the same way
+  HalfMoves : (made code : ℕ) → Act
   -- its file begins to lie
   Decays : (fault : Fault) → Act
 
@@ -55,6 +60,8 @@ puts_out at (Breaks arrival e made code) = output.Halted at ∷ []
 puts_out at Ends = []
 puts_out at (Finds after first replica) = first
 puts_out at (HalfFinds made code) = output.Halted at ∷ []
+puts_out at Moves = output.Migrated at ∷ []
+puts_out at (HalfMoves made code) = output.Halted at ∷ []
 puts_out at (Decays fault) = output.Done ∷ []
 
 -- ---- what is asked of the network
@@ -95,6 +102,10 @@ pub data Becomes (c : Config) : Option Replica → Lying → Act → Option Repl
       → Becomes c None file (Finds after first r) (Some r) (after_all lying file (opening_script v file))
   half_finds : (file : Lying) (v : SuperValue) (made code : ℕ) → (sectors_by file.version).opens file.face ≡ Some v → IsWithin file (opening_script v file) made
       → Becomes c None file (HalfFinds made code) None (cut_in file (opening_script v file) made code)
+  moves : (file : Lying) (v : SuperValue) → (sectors_by file.version).opens file.face ≡ Some v → v.fields.version ≡ 1
+      → Becomes c None file Moves None (settled (after_calls file (migration_calls v file.face)))
+  half_moves : (file : Lying) (v : SuperValue) (made code : ℕ) → (sectors_by file.version).opens file.face ≡ Some v → v.fields.version ≡ 1 → made < length (migration_calls v file.face)
+      → Becomes c None file (HalfMoves made code) None (settled (cut_calls made code file (migration_calls v file.face)))
   decays : (file : Lying) (o : Option Replica) (fault : Fault) (left : Lying) → IsFault fault → unless_kept_out file fault ≡ Some left
       → Becomes c o file (Decays fault) o left
 
@@ -137,6 +148,8 @@ lines_of at (Breaks arrival e made code) = Fuses at made code ∷ line_of arriva
 lines_of at Ends = Stops at ∷ []
 lines_of at (Finds after first replica) = Starts at ∷ []
 lines_of at (HalfFinds made code) = Fuses at made code ∷ Starts at ∷ []
+lines_of at Moves = Migrates at ∷ []
+lines_of at (HalfMoves made code) = Fuses at made code ∷ Migrates at ∷ []
 lines_of at (Decays fault) = Lies at fault ∷ []
 
 abbrev pub all_lines : List ActBy → List Happening

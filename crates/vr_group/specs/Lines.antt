@@ -4,16 +4,17 @@ use Rattle.std.specs.List.{AllByRecursion}
 use Rattle.vr_lie.specs.declared.fault.Fault.TheVariants as fault
 use Rattle.vr_lines.specs.Fits.{IsLineOf}
 use Rattle.vr_lines.specs.declared.line.Line.{Line}
-use Rattle.vr_lines.specs.declared.line.Line.TheVariants.{Cluster, Request, Deliver, Tick, Stop, Start, Fuse, Damage, Stale, Unread, Misdirect}
-use Rattle.vr_lying.specs.World.{Happening, Begins, Asks, Arrives, Ticks, Stops, Starts, Fuses, Lies}
+use Rattle.vr_lines.specs.declared.line.Line.TheVariants.{Cluster, Request, Deliver, Tick, Stop, Start, Migrate, Fuse, Damage, Stale, Unread, Misdirect}
+use Rattle.vr_lying.specs.World.{Happening, Begins, AsksInVersion, Arrives, Ticks, Stops, Starts, Migrates, Fuses, Lies}
 
 abbrev pub happening : Line → Happening
 happening (Cluster n kind) = Begins kind n
-happening (Request replica request) = Asks replica request
+happening (Request replica request) = AsksInVersion replica request
 happening (Deliver number) = Arrives number
 happening (Tick replica) = Ticks replica
 happening (Stop replica) = Stops replica
 happening (Start replica) = Starts replica
+happening (Migrate replica) = Migrates replica
 happening (Fuse replica call code) = Fuses replica (call - 1) code
 happening (Damage replica sector) = Lies replica (fault.Damage sector)
 happening (Stale replica sector) = Lies replica (fault.Stale sector)

@@ -3,7 +3,7 @@ use Rattle.std.specs.Prelude.{ℕ, ◌<◌, ◌≤◌, ◌≡◌, ◌≢◌}
 use Rattle.vr_base.specs.Groups.{least_members}
 use Rattle.vr_lines.specs.Versions.{line_sectors}
 use Rattle.vr_lines.specs.declared.line.Line.{Line}
-use Rattle.vr_lines.specs.declared.line.Line.TheVariants.{Cluster, Request, Deliver, Tick, Stop, Start, Fuse, Damage, Stale, Unread, Misdirect}
+use Rattle.vr_lines.specs.declared.line.Line.TheVariants.{Cluster, Request, Deliver, Tick, Stop, Start, Migrate, Fuse, Damage, Stale, Unread, Misdirect}
 
 -- a sector that lines of a version speak of
 abbrev pub IsSector : ℕ → ℕ → Type 0
@@ -17,6 +17,7 @@ IsLineOf version n (Deliver number) = 0 < n
 IsLineOf version n (Tick replica) = replica < n
 IsLineOf version n (Stop replica) = replica < n
 IsLineOf version n (Start replica) = replica < n
+IsLineOf version n (Migrate replica) = replica < n
 IsLineOf version n (Fuse replica call code) = (replica < n) × (1 ≤ call) × (call ≤ 1000000)
 IsLineOf version n (Damage replica sector) = (replica < n) × IsSector version sector
 IsLineOf version n (Stale replica sector) = (replica < n) × IsSector version sector

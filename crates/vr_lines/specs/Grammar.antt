@@ -10,7 +10,7 @@ use Rattle.vr_base.specs.declared.mode.Mode.TheVariants.{Strict, Careful}
 use Rattle.vr_header.specs.declared.operation.Operation.{Operation}
 use Rattle.vr_header.specs.Made.{is_register}
 use Rattle.vr_lines.specs.declared.line.Line.{Line}
-use Rattle.vr_lines.specs.declared.line.Line.TheVariants.{Cluster, Request, Deliver, Tick, Stop, Start, Fuse, Damage, Stale, Unread, Misdirect}
+use Rattle.vr_lines.specs.declared.line.Line.TheVariants.{Cluster, Request, Deliver, Tick, Stop, Start, Migrate, Fuse, Damage, Stale, Unread, Misdirect}
 use Rattle.vr_lines.specs.declared.member.Place.{Place}
 use Rattle.vr_lines.specs.declared.request.Asked.{Asked}
 use Rattle.vr_lines.specs.Numbers.{number_of, number_below}
@@ -99,6 +99,10 @@ stop_line n words = option_map Stop (replica_word n words)
 abbrev pub start_line : ℕ → List (List ℕ) → Option Line
 start_line n words = option_map Start (replica_word n words)
 
+-- `migrate R`
+abbrev pub migrate_line : ℕ → List (List ℕ) → Option Line
+migrate_line n words = option_map Migrate (replica_word n words)
+
 -- J from 1 to 1,000,000
 abbrev pub call_of : List ℕ → Option ℕ
 call_of word = option_and_then (λ call. if call == 0 then None else Some call) (number_below 1000001 word)
@@ -174,7 +178,8 @@ member_line version n word words =
     if bytes_eq word (codes "tick") then tick_line n words
     else (if bytes_eq word (codes "stop") then stop_line n words
     else (if bytes_eq word (codes "start") then start_line n words
-    else lost_words version n word words))
+    else (if bytes_eq word (codes "migrate") then migrate_line n words
+    else lost_words version n word words)))
 
 -- ---- all lines
 

@@ -6,7 +6,7 @@ use vr_msg::Request;
 /// What happens to a group. Replicas are those of the group, and sectors those of a disk.
 #[derive(Debug, Drop, PartialEq, Eq)]
 pub enum Line {
-    /// A group of so many replicas, 2 to 6, begins, each on a new file of this kind.
+    /// A group of so many replicas, 1 to 6, begins, each on a new file of this kind.
     Cluster {
         n: u8,
         kind: Kind,
@@ -24,6 +24,8 @@ pub enum Line {
     Stop(u8),
     /// It is recovered.
     Start(u8),
+    /// Its file becomes one of version 2, where it is stopped.
+    Migrate(u8),
     /// The call of its disk of this number from now on, 1 to 1,000,000, is cut, by a code.
     Fuse {
         replica: u8,

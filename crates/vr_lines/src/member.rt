@@ -1,6 +1,6 @@
 //! Lines that speak of one replica.
 ghost use Rattle.std.specs.Prelude.{◌≡◌};
-ghost use Rattle.vr_lines.specs.Grammar.{call_of, damage_line, fuse_line, fused, lost_words, member_line, misdirect_line, misdirected, replica_word, sector_of, sector_words, stale_line, start_line, stop_line, tick_line, unread_line};
+ghost use Rattle.vr_lines.specs.Grammar.{call_of, damage_line, fuse_line, fused, lost_words, member_line, migrate_line, misdirect_line, misdirected, replica_word, sector_of, sector_words, stale_line, start_line, stop_line, tick_line, unread_line};
 ghost use Rattle.vr_lines.specs.Words.{words_left};
 
 use crate::number::{read_below, read_number};
@@ -41,6 +41,13 @@ fn read_start(n: u8, words: Words<'_>) -> Option<Line>
     ensures { result ≡ start_line n (words_left words.entry) }
 {
     Some(Line::Start(read_replica(n, words)?))
+}
+
+/// `migrate R` behind its first word.
+fn read_migrate(n: u8, words: Words<'_>) -> Option<Line>
+    ensures { result ≡ migrate_line n (words_left words.entry) }
+{
+    Some(Line::Migrate(read_replica(n, words)?))
 }
 
 /// The number of a call, from 1 to 1,000,000.
@@ -172,6 +179,8 @@ pub fn read_member(n: u8, word: &[u8], words: Words<'_>, version: Version) -> Op
         read_stop(n, words)
     } else if is_word(word, "start") {
         read_start(n, words)
+    } else if is_word(word, "migrate") {
+        read_migrate(n, words)
     } else {
         read_lost(n, word, words, version)
     }

@@ -10,6 +10,7 @@ pub use Rattle.vr_rules.specs.declared.asker.Asker
 pub use Rattle.vr_rules.specs.Deciding
 pub use Rattle.vr_rules.specs.Fit
 pub use Rattle.vr_rules.specs.Formatting
+pub use Rattle.vr_rules.specs.Migrating
 pub use Rattle.vr_rules.specs.Found
 pub use Rattle.vr_rules.specs.Given
 pub use Rattle.vr_rules.specs.Opening

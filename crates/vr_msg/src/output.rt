@@ -62,6 +62,8 @@ pub enum Output {
     Start(Started),
     /// The replica of this number stopped in the middle of a step.
     Halted(u8),
+    /// The file of the replica of this number became one of version 2.
+    Migrated(u8),
     /// A fault was put into a disk.
     Done,
     /// A fault was kept out of a disk.

@@ -5,6 +5,7 @@ pub mod Stops
 pub use Rattle.vr_replica.specs.Does
 pub use Rattle.vr_replica.specs.Fit
 pub use Rattle.vr_replica.specs.Formatting
+pub use Rattle.vr_replica.specs.Migrating
 pub use Rattle.vr_replica.specs.Outputs
 pub use Rattle.vr_replica.specs.Replica
 pub use Rattle.vr_replica.specs.Rules

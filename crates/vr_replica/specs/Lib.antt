@@ -5,6 +5,7 @@ pub mod Entries
 pub use Rattle.vr_journal.specs.Does
 pub use Rattle.vr_journal.specs.Fit
 pub use Rattle.vr_journal.specs.Formatting
+pub use Rattle.vr_journal.specs.Migrating
 pub use Rattle.vr_opening.specs.declared.new_member.FreshFault
 pub use Rattle.vr_journal.specs.Halt
 pub use Rattle.vr_opening.specs.Making

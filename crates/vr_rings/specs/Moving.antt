@@ -1,5 +1,5 @@
 -- A file of version 1 becomes one of version 2: each slot's prepare is written at its new place, and the old ones stay.
-use Rattle.std.specs.Prelude.{ℕ, zero, suc, ◌+◌, ◌≡◌, true, ◌||◌, List, [], ◌∷◌, ◌++◌, length, Option, Some}
+use Rattle.std.specs.Prelude.{ℕ, zero, suc, ◌+◌, ◌≡◌, true, ◌||◌, List, [], ◌∷◌, ◌++◌, length, Option, Some, replicate, None, if◌then◌else◌}
 use Rattle.vr_base.specs.Bytes.{is_zeros}
 use Rattle.vr_base.specs.declared.mode.Mode.{Mode}
 use Rattle.vr_disk.specs.DiskState.{Call, Sync, Face, after_all, cut}
@@ -7,6 +7,15 @@ use Rattle.vr_disk.specs.Regions.{prepare_place, prepare_sectors}
 use Rattle.vr_disk.specs.Sectors.{writes}
 use Rattle.vr_rings.specs.Held.{Stands, held_after_all, held_cut, is_prepare}
 use Rattle.vr_rings.specs.Slots.{prepare_reading}
+
+-- what is written for what an old prepare reads as: the same where that is a whole entry, or zeros, and else bytes that are neither
+abbrev pub moved_of : Option (List ℕ) → List ℕ
+moved_of None = replicate 4096 255
+moved_of (Some prepare) = if is_prepare prepare || is_zeros prepare then prepare else replicate 4096 255
+
+-- the new prepare of a slot
+abbrev pub relocated : Face → ℕ → List ℕ
+relocated f slot = moved_of (prepare_reading 1 f slot)
 
 -- the sectors of so many slots' new prepares, from one slot on
 unfoldable pub moves : ℕ → ℕ → (ℕ → List ℕ) → List Call

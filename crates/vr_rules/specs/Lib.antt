@@ -9,6 +9,7 @@ pub mod Opening
 pub mod Found
 pub mod Formatting
 pub mod Sectors
+pub mod Migrating
 pub mod Sound
 pub mod Laws
 pub mod Fit

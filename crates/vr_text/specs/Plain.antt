@@ -31,5 +31,6 @@ HasTexts (output.Choose c) = ⊤
 HasTexts (output.Wait w) = ⊤
 HasTexts (output.Start s) = ⊤
 HasTexts (output.Halted replica) = ⊤
+HasTexts (output.Migrated replica) = ⊤
 HasTexts output.Done = ⊤
 HasTexts output.KeptOut = ⊤

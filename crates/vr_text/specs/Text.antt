@@ -184,6 +184,7 @@ output_text m (output.Choose c) = chosen_text c
 output_text m (output.Wait w) = waiting_text w
 output_text m (output.Start s) = started_text s
 output_text m (output.Halted replica) = numbered (codes "halt ") replica
+output_text m (output.Migrated replica) = numbered (codes "migrated ") replica
 output_text m output.Done = codes "done"
 output_text m output.KeptOut = codes "kept out"
 

@@ -119,6 +119,7 @@ fn put_output(to: &mut ByteList, m: u64, output: &Output) -> Result<(), AllocErr
         Output::Wait(w) => put_waiting(to, w),
         Output::Start(s) => put_started(to, s),
         Output::Halted(replica) => put_number(to, "halt ", u64::from(*replica)),
+        Output::Migrated(replica) => put_number(to, "migrated ", u64::from(*replica)),
         Output::Done => put(to, "done"),
         Output::KeptOut => put(to, "kept out"),
     }

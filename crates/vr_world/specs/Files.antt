@@ -1,6 +1,6 @@
 -- The version of the files that members of a group read.
 use Rattle.std.specs.Prelude.{ℕ, ◌≡◌, ⊤, slice_get, Some}
-use Rattle.vr_world.specs.Group.{Group, Member, Move, Steps, Cuts, Crashes, Recovers, RecoversCut}
+use Rattle.vr_world.specs.Group.{Group, Member, Move, Steps, Cuts, Crashes, Recovers, RecoversCut, Migrates, MigratesCut}
 use Rattle.vr_world.specs.Lying.{Lying}
 
 -- a disk with the file of this member
@@ -14,3 +14,5 @@ IsOfFile g (Cuts at arrival event disk effects) = IsFileAt g at disk
 IsOfFile g (Crashes at) = ⊤
 IsOfFile g (Recovers at value disk) = disk.version ≡ value.fields.version
 IsOfFile g (RecoversCut at value disk effects) = disk.version ≡ value.fields.version
+IsOfFile g (Migrates at value) = ⊤
+IsOfFile g (MigratesCut at value effects) = ⊤

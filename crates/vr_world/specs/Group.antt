@@ -1,5 +1,6 @@
 -- A group of replicas with sectors forgotten: what each member's disk may still say of its log, and the moves of the group.
 -- A step may find any disk, and may be cut after any of its effects.
+use Rattle.vr_rules.specs.Migrating.{migrated}
 use Rattle.vr_base.specs.declared.kind.Kind.{Kind}
 use Rattle.std.specs.Prelude.{ℕ, ◌+◌, ◌-◌, ◌%◌, ◌<◌, ◌≤◌, ◌≡◌, ◌≢◌, ◌⊎◌, ⊤, Bool, true, nat_lt, List, [], ◌∷◌, ◌++◌, length, map, replicate, take, drop, Contains, slice_get, slice_set, slice_index_or, Option, Some, None, if◌then◌else◌}
 use Rattle.std.specs.List.{range_with_len}
@@ -189,6 +190,10 @@ pub data Move : Type 0 where
   Recovers : (at : ℕ) (value : SuperValue) (disk : Lying) → Move
   -- the same, cut
   RecoversCut : (at : ℕ) (value : SuperValue) (disk : Lying) (effects : ℕ) → Move
+  -- the file of a stopped member, of version 1 and with this value, becomes one of version 2
+  Migrates : (at : ℕ) (value : SuperValue) → Move
+  -- the same, cut
+  MigratesCut : (at : ℕ) (value : SuperValue) (effects : ℕ) → Move
 
 -- the event that reaches this member: a request that can be asked, a message that was sent to it, a tick
 abbrev pub IsArrival : Group → ℕ → Arrival → Event → Type 0
@@ -207,6 +212,13 @@ pub record Opens (g : Group) (at : ℕ) (m : Member) (v : SuperValue) (d : Lying
   pub stopped : m.replica ≡ None
   pub value : MayOpen m v
   pub sound : AreSound v (kept_at m) g.made (recovered v d)
+
+-- a stopped member whose file may be migrated so
+pub record Movable (g : Group) (at : ℕ) (m : Member) (v : SuperValue) : Type 0 where
+  pub member : slice_get g.members at ≡ Some m
+  pub stopped : m.replica ≡ None
+  pub value : MayOpen m v
+  pub first : v.fields.version ≡ 1
 
 -- what a move leaves of the group, the effects that were begun in it, and what it puts out
 pub record Moved : Type 0 where
@@ -254,6 +266,16 @@ abbrev pub start_cut : Group → ℕ → Member → SuperValue → Lying → ℕ
 start_cut g at m v d n =
     with_script g at (record (cut_in_two (mended v d).script (resumed v d).script (keeps_all (found v d)) n m) { replica = None }) (take (n + 1) (opening_script v d)) []
 
+-- what a migration makes of a member: its value is mended, and then saved as that of a file of version 2
+abbrev pub migration : SuperValue → List Effect
+migration v = Mend v ∷ Save v (migrated v) ∷ []
+
+abbrev pub moved_over : Group → ℕ → Member → SuperValue → Moved
+moved_over g at m v = with_script g at (record (carried_out (migration v) m) { replica = None }) (migration v) []
+
+abbrev pub move_cut : Group → ℕ → Member → SuperValue → ℕ → Moved
+move_cut g at m v n = with_script g at (record (cut_after n (migration v) m) { replica = None }) (take (n + 1) (migration v)) []
+
 -- one move leads from a group to what it leaves
 pub data Moves (g : Group) : Move → Moved → Type 0 where
   steps : (at : ℕ) (arrival : Arrival) (event : Event) (disk : Lying) (m : Member) (r : Replica) → Runs g at m r → IsArrival g at arrival event
@@ -263,6 +285,8 @@ pub data Moves (g : Group) : Move → Moved → Type 0 where
   crashes : (at : ℕ) (m : Member) → slice_get g.members at ≡ Some m → Moves g (Crashes at) (with_script g at (record m { replica = None }) [] [])
   recovers : (at : ℕ) (value : SuperValue) (disk : Lying) (m : Member) → Opens g at m value disk → Moves g (Recovers at value disk) (started g at m value disk)
   recovers_cut : (at : ℕ) (value : SuperValue) (disk : Lying) (effects : ℕ) (m : Member) → Opens g at m value disk → Moves g (RecoversCut at value disk effects) (start_cut g at m value disk effects)
+  migrates : (at : ℕ) (value : SuperValue) (m : Member) → Movable g at m value → Moves g (Migrates at value) (moved_over g at m value)
+  migrates_cut : (at : ℕ) (value : SuperValue) (effects : ℕ) (m : Member) → Movable g at m value → Moves g (MigratesCut at value effects) (move_cut g at m value effects)
 
 -- ---- runs
 

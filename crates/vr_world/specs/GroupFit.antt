@@ -10,7 +10,7 @@ use Rattle.vr_lie.specs.Copies.{SuperValue, IsGood}
 use Rattle.vr_rules.specs.Replica.{Replica}
 use Rattle.vr_world.specs.Lying.{Lying, lying}
 use Rattle.vr_rules.specs.Sound.{IsSound, IsSavable}
-use Rattle.vr_world.specs.Group.{Member, Group, Arrival, Asked, Message, Time, Move, Steps, Cuts, Crashes, Recovers, RecoversCut, Moved, Moves, Played, Run, fresh_group}
+use Rattle.vr_world.specs.Group.{Member, Group, Arrival, Asked, Message, Time, Move, Steps, Cuts, Crashes, Recovers, RecoversCut, Migrates, MigratesCut, MayOpen, Moved, Moves, Played, Run, fresh_group}
 use Rattle.vr_rules.specs.Own.{IsOwnValue, IsAt}
 use Rattle.vr_rules.specs.Fit.{IsProgram, KnowsBlocks, MayCome, ReadsWell}
 use Rattle.vr_rules.specs.Laws.{HasNames, ReadsHeaders, SavesRoots}
@@ -29,17 +29,16 @@ pub record IsFitReplica (r : Replica) : Type 0 where
   pub savable : IsSavable r
   pub blocks : KnowsBlocks r
 
--- a value of this replica, in a file of this version, that makes a good copy
-abbrev pub IsFitValue : ℕ → ℕ → ℕ → ℕ → SuperValue → Type 0
-IsFitValue cluster n index edition v = IsGood v × IsOwnValue cluster n index edition v
+-- a value of this replica that makes a good copy
+abbrev pub IsFitValue : ℕ → ℕ → ℕ → SuperValue → Type 0
+IsFitValue cluster n index v = IsGood v × IsOwnValue cluster n index v.fields.version v
 
--- a member of this group of so many, by its place, on a file of one version: both values are its own and make good copies, and it is fit where
--- it runs
+-- a member of this group of so many, by its place: both values are its own and make good copies, and where it runs it is fit, on a file of the
+-- version of the last one
 pub record IsFitMember (cluster n index : ℕ) (m : Member) : Type 0 where
-  pub edition : ℕ
-  pub running : (r : Replica) → m.replica ≡ Some r → IsFitReplica r × IsAt cluster n index edition r
-  pub last : IsFitValue cluster n index edition m.last
-  pub under : (v : SuperValue) → m.under ≡ Some v → IsFitValue cluster n index edition v
+  pub running : (r : Replica) → m.replica ≡ Some r → IsFitReplica r × IsAt cluster n index m.last.fields.version r
+  pub last : IsFitValue cluster n index m.last
+  pub under : (v : SuperValue) → m.under ≡ Some v → IsFitValue cluster n index v
 
 -- the header of an entry that a member began to write
 abbrev pub IsMade : Header → Type 0
@@ -63,20 +62,22 @@ IsFitMove (Cuts at arrival event disk effects) = IsFitArrival arrival × ReadsWe
 IsFitMove (Crashes at) = ⊤
 IsFitMove (Recovers at value disk) = ReadsWell lying disk
 IsFitMove (RecoversCut at value disk effects) = ReadsWell lying disk
+IsFitMove (Migrates at value) = ⊤
+IsFitMove (MigratesCut at value effects) = ⊤
 
 -- before and after a move
 abbrev pub IsFitPlayed : ℕ → Played → Type 0
 IsFitPlayed cluster p = IsFitGroup cluster p.before × IsFitGroup cluster p.moved.group
 
--- the file of each member is of the version of its kind
+-- the file of each member, whichever value it may open as, is of the version of its kind or of a later one
 abbrev pub AreOfKinds : (ℕ → Kind) → Group → Type 0
-AreOfKinds kinds g = (at : ℕ) (m : Member) → slice_get g.members at ≡ Some m → m.last.fields.version ≡ (kinds at).version
+AreOfKinds kinds g = (at : ℕ) (m : Member) (v : SuperValue) → slice_get g.members at ≡ Some m → MayOpen m v → (kinds at).version ≤ v.fields.version
 
 -- before and after a move
 abbrev pub IsOfKinds : (ℕ → Kind) → Played → Type 0
 IsOfKinds kinds p = AreOfKinds kinds p.before × AreOfKinds kinds p.moved.group
 
--- Each move of a fit group leaves a fit one, and so does each run of a fresh group. The files stay of the versions that they are made of.
+-- Each move of a fit group leaves a fit one, and so does each run of a fresh group. No file comes to be of an earlier version than it was made of.
 pub record GroupsFit : Type 0 where
   pub each : (cluster : ℕ) (g : Group) (move : Move) (moved : Moved) → IsFitGroup cluster g → IsFitMove move → Moves g move moved → IsFitGroup cluster moved.group
   pub runs : (kinds : ℕ → Kind) (cluster n : ℕ) (run : List Played) → AreKinds kinds n → cluster < 2 ^ 64 → 1 ≤ n → n ≤ 6 → All (λ p. IsFitMove p.move) run → Run (fresh_group kinds cluster n) run → All (IsFitPlayed cluster) run

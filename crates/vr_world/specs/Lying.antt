@@ -1,4 +1,5 @@
 -- The disk of a world: sectors that may lie, within the premise that what slots hold is never denied.
+use Rattle.vr_rules.specs.Migrating.{migration_calls}
 use Rattle.std.specs.Prelude.{ℕ, Bool, true, false, not, ◌&&◌, ◌||◌, nat_eq, List, [], length, map, replicate, Option, Some, None, is_some, if◌then◌else◌}
 use Rattle.std.specs.List.{list_all, range_with_len}
 use Rattle.std.specs.Option.{option_map_or}
@@ -10,7 +11,7 @@ use Rattle.vr_ckpt.specs.Saves.{saved_checkpoint}
 use Rattle.vr_disk.specs.DiskState as disk
 use Rattle.vr_disk.specs.DiskState.{Call, Cell, Face}
 use Rattle.vr_disk.specs.Regions.{sectors as disk_sectors}
-use Rattle.vr_lie.specs.Opens.{good_copies, mode_in, opened}
+use Rattle.vr_lie.specs.Opens.{good_copies, mode_in, opened, opens}
 use Rattle.vr_lie.specs.Held.{held_after_all, held_cut, looked}
 use Rattle.vr_lie.specs.declared.fault.Fault.{Fault}
 use Rattle.vr_lie.specs.Faults.{faulted, held_at}
@@ -44,6 +45,16 @@ cut_calls j code d cs = record {
   held = each_slot (λ slot. held_cut d.version j code d.face cs slot (held_at d.held slot));
   version = d.version;
 }
+
+-- ---- migrations
+
+-- as a file of another version: what a slot reads as there it holds
+abbrev pub in_edition : ℕ → Lying → Lying
+in_edition v d = record { face = d.face; held = each_slot (λ slot. looked v d.face slot (held_at d.held slot)); version = v }
+
+-- of the version of the value that it opens as; where it opens as none, of its own
+abbrev pub settled : Lying → Lying
+settled d = in_edition (option_map_or (λ v. v.fields.version) (opens d.face) d.version) d
 
 -- ---- faults
 
@@ -103,5 +114,8 @@ hazards = record {
   formatted = λ kind cluster n index. after_calls (blank_lying kind.version) (format_calls kind cluster n index);
   count = λ d script. length (script_calls d.version script d.face);
   cut = λ j code d script. cut_calls j code d (script_calls d.version script d.face);
+  migration = λ v d. length (migration_calls v d.face);
+  migrated = λ v d. settled (after_calls d (migration_calls v d.face));
+  migration_cut = λ j code v d. settled (cut_calls j code d (migration_calls v d.face));
   faulted = unless_kept_out;
 }

@@ -33,7 +33,7 @@ use Rattle.vr_rules.specs.Steps.{Effect, Write, Checkpoint, PutBlock}
 use Rattle.vr_world.specs.Commitment.{Evidence, Vouches, IsCommitted, AreCommitted, IsBackedMessage, IsLine, IsReplyOf, is_line_of, lines_by}
 use Rattle.vr_world.specs.Storing.{done_in, run_stored, stored_from, until_said}
 use Rattle.vr_rules.specs.Replica.{Replica, statement_of}
-use Rattle.vr_world.specs.Group.{Move, Steps, Cuts, Crashes, Recovers, RecoversCut, Played}
+use Rattle.vr_world.specs.Group.{Move, Steps, Cuts, Crashes, Recovers, RecoversCut, Migrates, MigratesCut, Played}
 
 -- ---- what was put out
 
@@ -100,6 +100,8 @@ disks_of (Cuts at arrival e disk effects) = disk ∷ []
 disks_of (Crashes at) = []
 disks_of (Recovers at value disk) = disk ∷ []
 disks_of (RecoversCut at value disk effects) = disk ∷ []
+disks_of (Migrates at value) = []
+disks_of (MigratesCut at value effects) = []
 
 -- the event of a move
 abbrev pub event_of : Move → Option Event
@@ -108,6 +110,8 @@ event_of (Cuts at arrival e disk effects) = Some e
 event_of (Crashes at) = None
 event_of (Recovers at value disk) = None
 event_of (RecoversCut at value disk effects) = None
+event_of (Migrates at value) = None
+event_of (MigratesCut at value effects) = None
 
 -- the statement that an event brings of this replica
 abbrev pub brought_in : ℕ → Frame → Option Statement

@@ -11,7 +11,7 @@ use Rattle.vr_rules.specs.Opening.{listed}
 use Rattle.vr_rules.specs.Replica.{Replica, parts_from}
 use Rattle.vr_rules.specs.Steps.{Effect, Save, Say, Write}
 use Rattle.vr_world.specs.Commitment.{Stored}
-use Rattle.vr_world.specs.Group.{Cuts, Group, Member, Move, Played, RecoversCut}
+use Rattle.vr_world.specs.Group.{Cuts, Group, Member, Move, MigratesCut, Played, RecoversCut}
 
 abbrev pub here_header : Part → Option Header
 here_header (Here h) = Some h
@@ -49,6 +49,7 @@ stored_from g es = option_map_or (λ (m : Member). stored_at m es) (slice_get g.
 abbrev pub done_in : Move → List Effect → List Effect
 done_in (Cuts at arrival e disk effects) es = take effects es
 done_in (RecoversCut at value disk effects) es = take effects es
+done_in (MigratesCut at value effects) es = take effects es
 done_in _ es = es
 
 -- those before the output of this number

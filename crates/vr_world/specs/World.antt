@@ -1,7 +1,8 @@
 -- A group of replicas with their disks, and what the lines of a schedule do to it.
-use Rattle.std.specs.Prelude.{ℕ, ◌-◌, ◌%◌, nat_le, List, [], ◌∷◌, ◌++◌, length, map, slice_get, slice_set, Option, Some, None, if◌then◌else◌}
+use Rattle.vr_lie.specs.Copies.{SuperValue}
+use Rattle.std.specs.Prelude.{ℕ, ◌-◌, ◌%◌, nat_le, List, [], ◌∷◌, ◌++◌, length, map, slice_get, slice_set, Option, Some, None, if◌then◌else◌, ◌==◌, max}
 use Rattle.std.specs.List.{range_with_len}
-use Rattle.std.specs.Option.{option_map_or}
+use Rattle.std.specs.Option.{option_map_or, option_and_then}
 use Rattle.vr_base.specs.declared.kind.Kind.{Kind}
 use Rattle.vr_disk.specs.DiskState.{Fuse}
 use Rattle.vr_msg.specs.declared.event.Event.{Event}
@@ -12,7 +13,7 @@ use Rattle.vr_msg.specs.declared.output.Sent.{Sent}
 use Rattle.vr_msg.specs.declared.request.RequestFields.{RequestFields}
 use Rattle.vr_lie.specs.declared.fault.Fault.{Fault}
 use Rattle.vr_rules.specs.Outputs.{messages}
-use Rattle.vr_rules.specs.Replica.{Replica}
+use Rattle.vr_rules.specs.Replica.{Replica, version}
 use Rattle.vr_rules.specs.Steps.{Effect, Setting, Step, after_all, outputs}
 use Rattle.vr_rules.specs.Rules.{react}
 use Rattle.vr_rules.specs.Opening.{fresh, opened}
@@ -26,6 +27,11 @@ pub record Hazards (F : Type 0) : Type 0 where
   pub count : F → List Effect → ℕ
   -- a stop at the call of a script that comes after so many others, by a code
   pub cut : ℕ → ℕ → F → List Effect → F
+  -- the migration of a file with this value to version 2: how many writes and syncs it makes, what it leaves, and what a stop leaves at the
+  -- call that comes after so many others, by a code
+  pub migration : SuperValue → F → ℕ
+  pub migrated : SuperValue → F → F
+  pub migration_cut : ℕ → ℕ → SuperValue → F → F
   -- a fault; none where it is kept out
   pub faulted : F → Fault → Option F
 
@@ -48,6 +54,8 @@ pub data Happening : Type 0 where
   Begins : (kind : Kind) (n : ℕ) → Happening
   -- a client asks a replica
   Asks : (replica : ℕ) (request : RequestFields) → Happening
+  -- a client asks a replica in the version of that one's file, where the request isn't of a later one
+  AsksInVersion : (replica : ℕ) (request : RequestFields) → Happening
   -- the message of this number, counted from 0 and from the front again past the last, reaches its destination
   Arrives : (number : ℕ) → Happening
   -- time goes by at a replica
@@ -56,6 +64,8 @@ pub data Happening : Type 0 where
   Stops : (replica : ℕ) → Happening
   -- it is recovered
   Starts : (replica : ℕ) → Happening
+  -- its file becomes one of version 2; nothing happens where it runs, or where the file is of that version already
+  Migrates : (replica : ℕ) → Happening
   -- a fuse lets so many calls of its disk through, and cuts the next one
   Fuses : (replica calls code : ℕ) → Happening
   -- its disk begins to lie
@@ -111,6 +121,44 @@ started_by hz index m None = option_map_or (acts hz index m) (opened hz.setting 
 abbrev pub starts : {F : Type 0} → Hazards F → ℕ → Host F → Acted F
 starts hz index m = started_by hz index m m.replica
 
+-- a request that is of an earlier version than the file is made in that of the file
+abbrev pub in_version : ℕ → RequestFields → RequestFields
+in_version v q = record q { version = max q.version v }
+
+abbrev pub asked_by : {F : Type 0} → Hazards F → RequestFields → ℕ → Host F → Option Replica → Acted F
+asked_by hz q index m None = stays m
+asked_by hz q index m (Some r) = acts hz index m (react (event.Request (in_version (version r) q)) hz.setting r m.disk)
+
+abbrev pub asks : {F : Type 0} → Hazards F → RequestFields → ℕ → Host F → Acted F
+asks hz q index m = asked_by hz q index m m.replica
+
+abbrev pub if_first : SuperValue → Option SuperValue
+if_first v = if v.fields.version == 1 then Some v else None
+
+abbrev pub movable_by : {F : Type 0} → Hazards F → Host F → Option Replica → Option SuperValue
+movable_by hz m (Some r) = None
+movable_by hz m None = option_and_then if_first (hz.setting.opens m.disk)
+
+-- the value of a file that can be migrated: of version 1, whose replica is stopped
+abbrev pub movable : {F : Type 0} → Hazards F → Host F → Option SuperValue
+movable hz m = movable_by hz m m.replica
+
+abbrev pub migrated_with : {F : Type 0} → Hazards F → ℕ → Host F → SuperValue → Option Fuse → Acted F
+migrated_with hz index m v fuse = record { member = record { replica = None; disk = hz.migrated v m.disk; fuse = fuse }; outputs = output.Migrated index ∷ [] }
+
+abbrev pub migration_halted : {F : Type 0} → Hazards F → ℕ → Host F → SuperValue → Fuse → Acted F
+migration_halted hz index m v u =
+    record { member = record { replica = None; disk = hz.migration_cut u.calls u.code v m.disk; fuse = None }; outputs = output.Halted index ∷ [] }
+
+abbrev pub migrated_or_halted : {F : Type 0} → Hazards F → ℕ → Host F → SuperValue → Option Fuse → Acted F
+migrated_or_halted hz index m v None = migrated_with hz index m v None
+migrated_or_halted hz index m v (Some u) =
+    let made = hz.migration v m.disk in
+    if nat_le made u.calls then migrated_with hz index m v (Some (record { calls = u.calls - made; code = u.code })) else migration_halted hz index m v u
+
+abbrev pub migrates : {F : Type 0} → Hazards F → ℕ → Host F → Acted F
+migrates hz index m = option_map_or (λ v. migrated_or_halted hz index m v m.fuse) (movable hz m) (stays m)
+
 abbrev pub fused : {F : Type 0} → ℕ → ℕ → ℕ → Host F → Acted F
 fused calls code index m = stays (record { replica = m.replica; disk = m.disk; fuse = Some (record { calls = calls; code = code }) })
 
@@ -158,10 +206,12 @@ no_world = record { n = 0; members = []; sent = [] }
 abbrev pub happens : {F : Type 0} → Hazards F → World F → Happening → Happened F
 happens hz w (Begins kind n) = nothing (fresh_world hz kind n)
 happens hz w (Asks r q) = at_member w r (handles hz (event.Request q))
+happens hz w (AsksInVersion r q) = at_member w r (asks hz q)
 happens hz w (Arrives x) = delivered hz w (slice_get w.sent (x % length w.sent))
 happens hz w (Ticks r) = at_member w r (handles hz event.Tick)
 happens hz w (Stops r) = at_member w r stops
 happens hz w (Starts r) = at_member w r (starts hz)
+happens hz w (Migrates r) = at_member w r (migrates hz)
 happens hz w (Fuses r calls code) = at_member w r (fused calls code)
 happens hz w (Lies r fault) = at_member w r (lies hz fault)
 
