@@ -192,6 +192,27 @@ halted_stands i m q s u n v o = record {
 pub running_off : (d : Lying) (q : group.Member) → IsOn d q → IsOff d q q.last
 running_off d q o = record { calm = o.calm; held = o.held; value = o.value; file = o.file; may = inl refl; group = refl }
 
+-- ---- a request that is made in a later version can be asked, if it can in its own
+
+operation_more : (v w : ℕ) (o : Operation) → v ≤ w → w ≤ 2 → IsOperation v o → IsOperation w o
+operation_more v w Register l few g = tt
+operation_more v w (Put key value) l few g = (g.0, text_more (value_limit v) (value_limit w) value (more v w 1024 3000 l few (omega arith)) g.1)
+operation_more v w (Get key) l few g = g
+operation_more v w (Delete key) l few g = g
+
+asked_in : (v : ℕ) (x : RequestFields) → v ≤ 2 → IsAsked x → IsAsked (in_version v x)
+asked_in v x few a =
+    let of = a.version in
+    record {
+      form = record { first = a.form.first; fits = operation_more x.version (max x.version v) x.operation (omega arith) (omega (arith, few, of)) a.form.fits };
+      client = a.client;
+      request = a.request;
+      version = (omega (arith, of), omega (arith, few, of));
+    }
+
+abbrev asking_as : RequestFields → world.Host Lying → Replica → Work
+asking_as x m r = stepping (event.Request (in_version (version r) x)) m r
+
 -- ---- what is known of the work of a line
 
 pub record WorksWell (k : Work) : Type 0 where
@@ -321,6 +342,17 @@ module _ {home : ℕ} (w : World Lying) (g : Group) (i : ℕ) (m : world.Host Ly
   unfolding messages
   handle arrival e None run arrive fit given works = no_move [] g (with_member w i (stays m)) fits stock (stayed w g i m q (stays m) b at there s refl) none
   handle arrival e (Some r) run arrive fit given works = handle_by arrival e r run arrive fit given (works (stepping e m r) refl)
+
+  -- a request that is made in the version of the replica
+  pub ask : (x : RequestFields) (o : Option Replica) → m.replica ≡ o → IsAsked x → x.cluster < 2 ^ 64 → ((k : Work) → option_map (asking_as x m) o ≡ Some k → WorksWell k)
+      → IsMatchedBy home (begun_of (option_map (asking_as x m) o)) (read_of (option_map (asking_as x m) o)) g (with_member w i (world.asked_by hazards x i m o))
+  unfolding messages
+  ask x None run asked room works = no_move [] g (with_member w i (stays m)) fits stock (stayed w g i m q (stays m) b at there s refl) none
+  ask x (Some r) run asked room works =
+      let known = (fits.members i q there).last.0.numbers.version.1 in
+      let few : version r ≤ 2 = subst (λ (v : SuperValue). v.fields.version ≤ 2) (sym (s.running r run).1) known in
+      let y = in_version (version r) x in
+      handle_by (Asked y) (event.Request y) r run (asked_in (version r) x few asked, refl) room tt (works (asking_as x m r) refl)
 
   pub stop : IsMatchedBy home [] [] g (with_member w i (world.stops i m))
   unfolding made_in messages
