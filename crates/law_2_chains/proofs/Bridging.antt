@@ -109,6 +109,7 @@ sent_told u before a (output.Choose c ∷ os) h = sent_told u before a os h.1
 sent_told u before a (output.Wait w ∷ os) h = sent_told u before a os h.1
 sent_told u before a (output.Start w ∷ os) h = sent_told u before a os h.1
 sent_told u before a (output.Halted r ∷ os) h = sent_told u before a os h.1
+sent_told u before a (output.Migrated r ∷ os) h = sent_told u before a os h.1
 sent_told u before a (output.Done ∷ os) h = sent_told u before a os h.1
 sent_told u before a (output.KeptOut ∷ os) h = sent_told u before a os h.1
 

@@ -187,6 +187,7 @@ module _ (cluster n : ℕ) (u : Setup) (run : List Played) (x : IsFollowed clust
     keeps (output.Wait m) i = tt
     keeps (output.Start m) i = tt
     keeps (output.Halted m) i = tt
+    keeps (output.Migrated m) i = tt
     keeps output.Done i = tt
     keeps output.KeptOut i = tt
 

@@ -50,6 +50,7 @@ other_line i (output.Choose c) h = refl
 other_line i (output.Wait w) h = refl
 other_line i (output.Start s) h = refl
 other_line i (output.Halted r) h = refl
+other_line i (output.Migrated r) h = refl
 other_line i output.Done h = refl
 other_line i output.KeptOut h = refl
 
@@ -61,6 +62,7 @@ other_ordered i m (output.Choose c) h = tt
 other_ordered i m (output.Wait w) h = tt
 other_ordered i m (output.Start s) h = tt
 other_ordered i m (output.Halted r) h = tt
+other_ordered i m (output.Migrated r) h = tt
 other_ordered i m output.Done h = tt
 other_ordered i m output.KeptOut h = tt
 
@@ -82,6 +84,7 @@ mute_other (output.Choose c) h = tt
 mute_other (output.Wait w) h = tt
 mute_other (output.Start s) h = tt
 mute_other (output.Halted r) h = tt
+mute_other (output.Migrated r) h = tt
 mute_other output.Done h = tt
 mute_other output.KeptOut h = tt
 
@@ -111,6 +114,7 @@ in_order_lined log i m (o ∷ os) h f =
       | output.Wait w ↦ λ e k. tt
       | output.Start s ↦ λ e k. tt
       | output.Halted r ↦ λ e k. tt
+      | output.Migrated r ↦ λ e k. tt
       | output.Done ↦ λ e k. tt
       | output.KeptOut ↦ λ e k. tt
     ] in

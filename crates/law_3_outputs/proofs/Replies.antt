@@ -82,6 +82,7 @@ line_before i (suc number) (output.Choose l ∷ os) h = let r = line_before i nu
 line_before i (suc number) (output.Wait w ∷ os) h = let r = line_before i number os (omega (arith, h)) in let l = r.2 in (suc r.0, r.1, omega arith, r.3)
 line_before i (suc number) (output.Start s ∷ os) h = let r = line_before i number os (omega (arith, h)) in let l = r.2 in (suc r.0, r.1, omega arith, r.3)
 line_before i (suc number) (output.Halted n ∷ os) h = let r = line_before i number os (omega (arith, h)) in let l = r.2 in (suc r.0, r.1, omega arith, r.3)
+line_before i (suc number) (output.Migrated n ∷ os) h = let r = line_before i number os (omega (arith, h)) in let l = r.2 in (suc r.0, r.1, omega arith, r.3)
 line_before i (suc number) (output.Done ∷ os) h = let r = line_before i number os (omega (arith, h)) in let l = r.2 in (suc r.0, r.1, omega arith, r.3)
 line_before i (suc number) (output.KeptOut ∷ os) h = let r = line_before i number os (omega (arith, h)) in let l = r.2 in (suc r.0, r.1, omega arith, r.3)
 

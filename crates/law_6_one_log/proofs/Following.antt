@@ -108,6 +108,7 @@ so cluster u run before after p reached later from lines choices (output.Reply a
 so cluster u run before after p reached later from lines choices (output.Wait w) j t = tt
 so cluster u run before after p reached later from lines choices (output.Start s) j t = tt
 so cluster u run before after p reached later from lines choices (output.Halted n) j t = tt
+so cluster u run before after p reached later from lines choices (output.Migrated n) j t = tt
 so cluster u run before after p reached later from lines choices output.Done j t = tt
 so cluster u run before after p reached later from lines choices output.KeptOut j t = tt
 

@@ -157,6 +157,7 @@ module _ (H : List ℕ → Type 0) (cluster : ℕ) (log : List Whole) where
   output_told (output.Wait w) h = tt
   output_told (output.Start s) h = tt
   output_told (output.Halted r) h = tt
+  output_told (output.Migrated r) h = tt
   output_told output.Done h = tt
   output_told output.KeptOut h = tt
 

@@ -163,6 +163,7 @@ module _ (home n : ℕ) (run : List Played) (safe : Safe home n run) where
   rests never front (output.Wait w) x = tt
   rests never front (output.Start s) x = tt
   rests never front (output.Halted replica) x = tt
+  rests never front (output.Migrated replica) x = tt
   rests never front output.Done x = tt
   rests never front output.KeptOut x = tt
 
@@ -186,6 +187,7 @@ kept_aside view c (output.Reply a) h = tt
 kept_aside view c (output.Wait w) h = tt
 kept_aside view c (output.Start s) h = tt
 kept_aside view c (output.Halted replica) h = tt
+kept_aside view c (output.Migrated replica) h = tt
 kept_aside view c output.Done h = tt
 kept_aside view c output.KeptOut h = tt
 
@@ -197,6 +199,7 @@ rests_aside home n log run front (output.Reply a) h = h (λ a. a)
 rests_aside home n log run front (output.Wait w) h = tt
 rests_aside home n log run front (output.Start s) h = tt
 rests_aside home n log run front (output.Halted replica) h = tt
+rests_aside home n log run front (output.Migrated replica) h = tt
 rests_aside home n log run front output.Done h = tt
 rests_aside home n log run front output.KeptOut h = tt
 
