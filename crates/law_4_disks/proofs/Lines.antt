@@ -1,17 +1,25 @@
 -- Line by line.
-use Rattle.std.proofs.Common.{ℕ, zero, suc, ◌+◌, ◌-◌, ◌<◌, ◌≡◌, ◌≢◌, ◌⊎◌, inl, inr, arith, refl, sym, ap, ◌∙◌, subst, true, false, cond, List, [], ◌∷◌, ◌++◌, length, take, set, Option, Some, None, length-set, get_or-set_same}
-use Rattle.std.specs.Prelude.{slice_get, nat_le}
+use Rattle.std.proofs.Common.{ℕ, zero, suc, ◌+◌, ◌-◌, ◌^◌, ◌≤◌, ◌<◌, ◌≡◌, ◌≢◌, ◌⊎◌, inl, inr, arith, refl, sym, ap, ◌∙◌, subst, true, false, cond, List, [], ◌∷◌, ◌++◌, length, take, set, Option, Some, None, length-set, get_or-set_same}
+use Rattle.std.specs.Prelude.{max, slice_get, nat_le}
 use Rattle.std.proofs.lemmas.Bool.{cases_eq, leb-false, leb-true}
 use Rattle.std.proofs.lemmas.List.{append-nil}
 use Rattle.std.proofs.lemmas.List.Elements.{All-cons, All-nil}
 use Rattle.std.proofs.lemmas.Option.{slice_get_within, slice_get-get_or}
 use Rattle.vr_disk.specs.DiskState.{Fuse}
+use Rattle.vr_base.specs.Versions.{value_limit}
+use Rattle.vr_base.proofs.Versions.{more}
+use Rattle.vr_header.specs.declared.operation.Operation.{Operation}
+use Rattle.vr_header.specs.declared.operation.Operation.TheVariants.{Register, Put, Get, Delete}
+use Rattle.vr_header.specs.Bodies.{IsOperation}
+use Rattle.vr_header.proofs.BodyLaws.{text_more}
+use Rattle.vr_msg.specs.declared.request.RequestFields.{RequestFields}
 use Rattle.vr_msg.specs.declared.event.Event.{Event}
 use Rattle.vr_msg.specs.declared.output.Output.{Output}
 use Rattle.vr_msg.specs.declared.output.Output.TheVariants as output
 use Rattle.vr_msg.specs.declared.output.Sent.{Sent}
 use Rattle.vr_lie.specs.Copies.{SuperValue}
-use Rattle.vr_world.specs.Replica.{Replica}
+use Rattle.vr_world.specs.Replica.{Replica, version}
+use Rattle.vr_world.specs.Fit.{IsAsked}
 use Rattle.vr_world.specs.Steps.{Effect, Mend, Step, after_all}
 use Rattle.vr_world.specs.Steps as steps
 use Rattle.vr_world.specs.Rules.{asked_block, react}
@@ -20,10 +28,10 @@ use Rattle.vr_msg.specs.declared.frame.Frame.TheVariants as frame
 use Rattle.vr_world.specs.Sectors.{script_calls}
 use Rattle.vr_world.specs.Lying.{Lying, cut_calls, hazards, lying}
 use Rattle.vr_world.specs.World as world
-use Rattle.vr_world.specs.World.{Acted, Happened, World, acts, halted, stays, went, went_or_halted, with_member}
+use Rattle.vr_world.specs.World.{Acted, Happened, World, acts, halted, in_version, stays, went, went_or_halted, with_member}
 use Rattle.vr_world.specs.Outputs.{message_of, messages}
 use Rattle.vr_world.specs.Group as group
-use Rattle.vr_world.specs.Group.{Arrival, Group, IsArrival, Move, Moved, Moves, Played, Run, Runs, carried_out, cut_after, cut_short, finished, stepped, with_script}
+use Rattle.vr_world.specs.Group.{Arrival, Asked, Group, IsArrival, Move, Moved, Moves, Played, Run, Runs, carried_out, cut_after, cut_short, finished, stepped, with_script}
 use Rattle.vr_world.specs.Safe.{disks_of, run_outputs}
 use Rattle.law_4_disks.specs.Beside.{IsOff, IsOn, MayGo}
 use Rattle.std.specs.List.{AllByRecursion}
@@ -317,8 +325,7 @@ module _ {home : ℕ} (w : World Lying) (g : Group) (i : ℕ) (m : world.Host Ly
       let saved = (s.running r run).1 in
       let is = fits.members i q there in
       let runs = is.running r (s.replica ∙ run) in
-      let file : d.version ≡ is.edition = on.file ∙ is.last.1.version in
-      let place : IsAt home g.n i d.version r = subst (λ (k : ℕ). IsAt home g.n i k r) (sym file) runs.1 in
+      let place : IsAt home g.n i d.version r = subst (λ (k : ℕ). IsAt home g.n i k r) (sym on.file) runs.1 in
       let event = arrives home g i arrival e fits fit arrive in
       let step = step_is home g.n i d.version r e d runs.0 place event (lies_fit.reads d on.calm.face) in
       let good : IsGood r.saved = subst IsGood (sym saved) is.last.0 in

@@ -1,14 +1,15 @@
 -- Each line of a schedule is a move of the group, or none.
-use Rattle.std.proofs.Common.{◌∷◌, inr, ℕ, ◌+◌, ◌-◌, ◌%◌, ◌<◌, ◌≡◌, refl, sym, ap, ◌∙◌, subst, Bool, true, false, cond, List, [], ◌++◌, length, take, Option, Some, None}
-use Rattle.std.specs.Prelude.{nat_le, slice_get}
+use Rattle.std.proofs.Common.{◌∷◌, inl, inr, ℕ, ◌+◌, ◌-◌, ◌%◌, ◌<◌, ◌≡◌, refl, sym, ap, ◌∙◌, subst, Bool, true, false, cond, List, [], ◌++◌, length, take, Option, Some, None}
+use Rattle.std.specs.Prelude.{◌==◌, nat_le, slice_get}
 use Rattle.std.specs.Option.{option_map, option_map_or}
-use Rattle.std.proofs.lemmas.Bool.{eq-eqb, leb-false, leb-true}
+use Rattle.std.proofs.lemmas.Bool.{eq-eqb, eqb-true, leb-false, leb-true}
 use Rattle.vr_disk.specs.DiskState.{Fuse}
 use Rattle.vr_msg.specs.declared.event.Event.TheVariants as event
 use Rattle.vr_msg.specs.declared.output.Output.TheVariants as output
 use Rattle.vr_msg.specs.declared.output.Sent.{Sent}
 use Rattle.vr_lie.specs.Copies.{SuperValue}
 use Rattle.vr_lie.specs.Opens.{opens}
+use Rattle.vr_lie.proofs.Keeping.{opens_on}
 use Rattle.vr_lie.specs.declared.fault.Fault.{Fault}
 use Rattle.vr_lie.specs.Faults.{faulted}
 use Rattle.vr_world.specs.Replica.{Replica}
@@ -18,10 +19,12 @@ use Rattle.vr_world.specs.Opening.{blank, opened, opening}
 use Rattle.vr_world.specs.Sectors.{of_version, script_calls}
 use Rattle.vr_world.specs.Lying.{Lying, cut_calls, hazards, keeps_premise, lied_to, lying, unless_kept_out}
 use Rattle.vr_world.specs.World as world
-use Rattle.vr_world.specs.World.{Acted, Happening, World, Begins, Asks, Arrives, Ticks, Stops, Starts, Fuses, Lies, at_member, acts, delivered, halted, handles, lied, nothing, stays, went, went_or_halted, with_member}
+use Rattle.vr_world.specs.World.{Acted, Happening, World, Begins, Asks, AsksInVersion, Arrives, Ticks, Stops, Starts, Migrates, Fuses, Lies, at_member, acts, delivered, halted, handles, if_first, lied, migrated_or_halted, migrated_with, migration_halted, movable_by, nothing, stays, went, went_or_halted, with_member}
 use Rattle.vr_world.specs.Outputs.{messages}
 use Rattle.vr_world.specs.Group as group
-use Rattle.vr_world.specs.Group.{Asked, Group, IsArrival, Message, Move, Moves, Opens, Time, carried_out, cut_in_two, found, keeps_all, mended, once_mended, opening_script, recovered, resumed, start_cut, started}
+use Rattle.vr_world.specs.Migrating.{migrated, migration_calls}
+use Rattle.vr_world.proofs.Migrating.{migrated_good}
+use Rattle.vr_world.specs.Group.{Asked, Group, IsArrival, Message, Movable, Move, Moves, Opens, Time, carried_out, cut_after, cut_in_two, migration, move_cut, moved_over, found, keeps_all, mended, once_mended, opening_script, recovered, resumed, start_cut, started}
 use Rattle.vr_world.proofs.Halves.{after_both}
 use Rattle.std.specs.List.{AllByRecursion}
 use Rattle.std.specs.Option.{option_and_then}
@@ -32,15 +35,17 @@ use Rattle.vr_lie.specs.Copies.{IsGood}
 use Rattle.vr_lie.specs.Faults.{IsFault}
 use Rattle.vr_world.specs.Steps.{Effect, Mend}
 use Rattle.vr_world.specs.Group.{Arrival, made_in}
-use Rattle.vr_world.specs.GroupFit.{IsFitArrival, IsFitGroup, IsFitValue}
+use Rattle.vr_world.specs.GroupFit.{IsFitArrival, IsFitGroup}
+use Rattle.vr_world.specs.Own.{IsOwnValue}
 use Rattle.vr_world.proofs.FitLies.{lies_fit, same_version}
 use Rattle.vr_world.proofs.FitGroups.{Known, good_value, known_right, start_is}
 use Rattle.law_4_disks.specs.Beside.{AreMade, Finds, IsOff, IsOn, MayGo, TellsIn}
-use Rattle.law_4_disks.specs.Naming.{IsHashedAfter}
+use Rattle.law_4_disks.specs.Naming.{IsHashedAfter, IsHashedMigrating}
 use Rattle.law_4_disks.specs.Laws.{LinesAreMoves}
-use Rattle.law_4_disks.specs.Worlds.{AreBeside, IsHashedCut, IsMatchedBy, Stands, Work, aside, begun_by, begun_of, handling, none, opening_as, read_of, starting, starting_by, work_of}
+use Rattle.law_4_disks.specs.Worlds.{AreBeside, IsHashedCut, IsHashedMoving, IsMatchedBy, Migration, Stands, Work, aside, asking, begun_by, begun_of, handling, migrating, moved_by, moved_of, none, opening_as, read_of, starting, starting_by, work_of}
 use Rattle.law_4_disks.proofs.Faults.{fault_face, lie_off, lie_on}
-use Rattle.law_4_disks.proofs.Lines.{StepsWell, WorksWell, fuse, handle, no_move, none_runs, none_sent, outputs_given, runs_one, stock_moves, off_stopped, on_running, one_move, placed, said_same, some_replica, stayed, stop, well_of}
+use Rattle.law_4_disks.proofs.Migrating.{begun_whole, migrates, migration_cut, tells_migrating}
+use Rattle.law_4_disks.proofs.Lines.{StepsWell, WorksWell, ask, fuse, handle, no_move, none_runs, none_sent, outputs_given, runs_one, stock_moves, off_stopped, on_running, one_move, placed, said_same, some_replica, stayed, stop, well_of}
 use Rattle.law_4_disks.proofs.Chaining.{c_resuming}
 use Rattle.law_4_disks.proofs.Going.{known_goes, mended_value, once_last, recovered_saved, recovered_state, recovered_table}
 use Rattle.law_4_disks.proofs.Opening.{is_mended_of, openings_find}
@@ -201,8 +206,7 @@ module _ {home : ℕ} (w : World Lying) (g : Group) (i : ℕ) (m : world.Host Ly
       let r = recovered v d in
       let is = fits.members i q there in
       let own = good_value home g.n i q v is o.may in
-      let file : d.version ≡ is.edition = o.file ∙ own.1.version in
-      let value : IsFitValue home g.n i d.version v = subst (λ (k : ℕ). IsFitValue home g.n i k v) (sym file) own in
+      let value : IsGood v × IsOwnValue home g.n i d.version v = subst (λ (k : ℕ). IsGood v × IsOwnValue home g.n i k v) (sym o.file) own in
       let step = start_is home g.n i d.version v d value (lies_fit.reads d o.calm.face) in
       let f = openings_find d q v g.made o made in
       let h = is_mended_of v d q o in
@@ -241,9 +245,9 @@ module _ {home : ℕ} (w : World Lying) (g : Group) (i : ℕ) (m : world.Host Ly
       let y = s.stopped run in
       let v = y.0 in
       let o = y.1 in
-      let open = opened_as v o in
-      subst (λ (x : Option Step). IsMatchedBy home (begun_of (option_map (opening_as m) x)) (read_of (option_map (opening_as m) x)) g (with_member w i (option_map_or (acts hazards i m) x (stays m)))) (sym open)
-      (start_by v run o (made v refl o.value) (works (opening_as m (whole v m.disk)) (ap (option_map (opening_as m)) open)))
+      let found = opened_as v o in
+      subst (λ (x : Option Step). IsMatchedBy home (begun_of (option_map (opening_as m) x)) (read_of (option_map (opening_as m) x)) g (with_member w i (option_map_or (acts hazards i m) x (stays m)))) (sym found)
+      (start_by v run o (made v refl o.value) (works (opening_as m (whole v m.disk)) (ap (option_map (opening_as m)) found)))
 
   movable_so : (v : SuperValue) → m.replica ≡ None → IsOff m.disk q v → v.fields.version ≡ 1 → Movable g i q v
   movable_so v run o first = record { member = there; stopped = s.replica ∙ run; value = o.may; first = first }

@@ -20,10 +20,10 @@ use Rattle.vr_super.specs.Laws.{IsSaved, TellsApart}
 use Rattle.vr_lie.specs.Calls.{mend_calls, write_calls}
 use Rattle.vr_lie.specs.Copies.{IsGood, SuperValue}
 use Rattle.vr_lie.specs.Faults.{held_at}
-use Rattle.vr_lie.specs.Held.{Stands, held_after_all, is_prepare, looked}
+use Rattle.vr_lie.specs.Held.{Stands, header_sector, held_after_all, is_prepare, looked}
 use Rattle.vr_lie.specs.Opens.{opens}
 use Rattle.vr_lie.specs.Slots.{prepare_reading}
-use Rattle.vr_lie.proofs.Cutting.{AllApart, apart_cut}
+use Rattle.vr_lie.proofs.Cutting.{AllApart, Rests, apart_cut}
 use Rattle.vr_lie.proofs.Keeping.{opens_on, write_law}
 use Rattle.vr_lie.proofs.Spelling.{whole_version}
 use Rattle.vr_lie.proofs.Standing.{calls_stand, stands_look}
@@ -55,9 +55,11 @@ lost_bytes (suc n) (suc i) = lost_bytes n i
 
 -- they are no entry, and no zeros
 lost_neither : (is_prepare lost || is_zeros lost) ≡ false
+unfolding header_sector
 lost_neither =
+    let at : get_or (header_sector lost) 110 0 ≡ 255 = refl in
     let whole : (t : Bool) → is_prepare lost ≡ t → t ≡ false = elim [
-      | true ↦ λ e. (let v = whole_version lost e in absurd (omega (arith, v)))
+      | true ↦ λ e. (let v = whole_version lost e in absurd (omega (arith, v, at)))
       | false ↦ λ e. refl
     ] in
     let zeros : is_zeros lost ≡ false = refl in
@@ -123,7 +125,7 @@ settled_version d v e = ap (λ (o : Option SuperValue). option_map_or (λ v. v.f
 
 settled_held : {mode : Mode} (d : Lying) (n slot : ℕ) → (settled d).version ≡ n → slot < 64 → Stands n mode d.face slot (held_at d.held slot) → held_at (settled d).held slot ≡ held_at d.held slot
 settled_held {mode} d n slot e l s =
-    at_slot (λ slot. looked (settled d).version d.face slot (held_at d.held slot)) slot l ∙ (ap (λ (n : ℕ). looked n d.face slot (held_at d.held slot)) e ∙ stands_look {mode} n d.face slot (held_at d.held slot) s)
+    at_slot (λ slot. looked (settled d).version d.face slot (held_at d.held slot)) slot l ∙ (ap (λ (n : ℕ). looked n d.face slot (held_at d.held slot)) e ∙ stands_look {mode = mode} n d.face slot (held_at d.held slot) s)
 
 -- it is what it was
 settled_first : (d : Lying) (m : Member) (v : SuperValue) → IsOff d m v → IsOff (settled d) m v
@@ -193,7 +195,7 @@ same_both a b c s t = record { face = t.face ∙ s.face; held = λ slot l. t.hel
 
 -- ---- the three parts: it is mended, the prepares are written, the new value is saved
 
-module _ (v : SuperValue) (d : Lying) (m : Member) (o : IsOff d m v) (first : v.fields.version ≡ 1) (after : IsGood (migrated v)) where
+module _ (v : SuperValue) (d : Lying) (m : Member) (o : IsOff d m v) (first : v.fields.version ≡ 1) (good_new : IsGood (migrated v)) where
   abbrev new : SuperValue
   new = migrated v
 
@@ -238,7 +240,7 @@ module _ (v : SuperValue) (d : Lying) (m : Member) (o : IsOff d m v) (first : v.
   saves_apart n slot = write_apart n v new last.face slot
 
   is_saved : IsSaved new (disk.after_all last.face saves)
-  is_saved = saved v new last.face on_moved.calm.face on_moved.calm.rests on_moved.value after
+  is_saved = saved v new last.face on_moved.calm.face on_moved.calm.rests on_moved.value good_new
 
   saved_held : (slot : ℕ) → slot < 64 → held_at (after_calls last saves).held slot ≡ held_at last.held slot
   saved_held = apart_after saves last on_moved.calm (λ slot l. saves_apart last.version slot)
@@ -248,7 +250,7 @@ module _ (v : SuperValue) (d : Lying) (m : Member) (o : IsOff d m v) (first : v.
       let x : Lying = after_calls last saves in
       let q : Member = ends (Save v new) (begins (Save v new) known) in
       let is = version_is in
-      settled_second x q new (calm_after saves last on_moved.calm (save_are v new last.face good after) is_saved.waiting) (omega (arith, is)) refl
+      settled_second x q new (calm_after saves last on_moved.calm (save_are v new last.face good good_new) is_saved.waiting) (omega (arith, is)) refl
       (λ slot l.
       let held = held_at last.held slot in
       let stands = calls_stand 2 saves last.face slot held l on_moved.calm.face.count (stand_twice slot l) in
@@ -279,17 +281,17 @@ module _ (v : SuperValue) (d : Lying) (m : Member) (o : IsOff d m v) (first : v.
       let x : Lying = cut_calls k code last saves in
       let q : Member = begins (Save v new) known in
       let is = version_is in
-      let calm = calm_cut saves last k code on_moved.calm (save_are v new last.face good after) l (apart_stands saves last k code on_moved.calm (λ slot l. saves_apart last.version slot)) in
+      let calm = calm_cut saves last k code on_moved.calm (save_are v new last.face good good_new) l (apart_stands saves last k code on_moved.calm (λ slot l. saves_apart last.version slot)) in
       let same = apart_stopped saves last k code on_moved.calm (λ slot l. saves_apart last.version slot) in
       let held = held_moves last x known q refl refl refl same on_moved.held in
-      elim ((write_law v new last.face on_moved.calm.face on_moved.calm.rests on_moved.value after).stopped k code old_tells new_tells) [
+      elim ((write_law v new last.face on_moved.calm.face on_moved.calm.rests on_moved.value good_new).stopped k code old_tells new_tells) [
         | inl e ↦ (v, settled_first x q v (record { calm = calm; held = held; value = e; file = o.file; may = inl refl; group = refl }))
         | inr e ↦ (
           new,
           settled_second x q new calm (omega (arith, is)) refl
           (λ slot l.
           let h = held_at last.held slot in
-          let rests = λ k y. rw on_moved.calm.rests refl in
+          let rests : Rests 2 slot last.face = λ k y. rw on_moved.calm.rests refl in
           let stands = apart_cut 2 saves last.face slot h k code l on_moved.calm.face.count (saves_apart 2 slot) rests (stand_twice slot l) in
           let still = apart_held_cut 2 saves last.face slot k code h l on_moved.calm.face.count (saves_apart 2 slot) rests (stand_twice slot l) in
           subst (Stands 2 v.fields.mode x.face slot) (still ∙ sym (same slot l)) stands)
@@ -342,7 +344,7 @@ module _ (v : SuperValue) (d : Lying) (m : Member) (o : IsOff d m v) (first : v.
         mending = λ l. tells_one (Mend v) d v j code o.calm.face may (fewer P (IsHashedBy (Mend v) d j code) (λ b y. inl (l, y)) never);
         saving = λ l w p.
             let k = j - past in
-            met_apart (Save v new) last k code on_moved.calm.face (save_are v new last.face good after) (fewer P (IsHashedBy (Save v new) last k code) (λ b y. inr (l, y)) never)
+            met_apart (Save v new) last k code on_moved.calm.face (save_are v new last.face good good_new) (fewer P (IsHashedBy (Save v new) last k code) (λ b y. inr (l, y)) never)
             (disk.cut k code last.face saves) IsMet.left w p;
       }
 
