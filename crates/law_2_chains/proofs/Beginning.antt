@@ -22,10 +22,10 @@ use Rattle.vr_msg.specs.Choice as said
 use Rattle.vr_msg.specs.Choice.{top_view, top_commit, named, ops, choice}
 use Rattle.vr_msg.specs.Logs.{header_of}
 use Rattle.vr_msg.specs.Normal.{primary}
-use Rattle.vr_world.specs.Replica.{Replica, last_view, head, is_started, is_primary, part_at, run_start, statement_of, with_part, version}
+use Rattle.vr_world.specs.Replica.{Replica, last_view, head, is_alone, is_started, is_primary, part_at, run_start, statement_of, with_part, version}
 use Rattle.vr_world.specs.Outputs.{others, send, send_to_all, start_view, start_view_change, prepare, wait_line}
 use Rattle.vr_world.specs.Steps.{Effect, Say, Setting, Step, Word, ◌⨾◌, quiet, change, does, says, by, reading, when, each, after_all}
-use Rattle.vr_world.specs.Words.{Log, saves, with_saved, save, entered, enter, entry_of, or_lost, lost, with_entry, with_entry_at, taken, take, log_header, may_take, prepare_again, stated, chosen_log, choose_line, begin_view, try_log, obey_choice, decided, try, apply}
+use Rattle.vr_world.specs.Words.{Log, saves, with_saved, save, entered, enter, entry_of, or_lost, lost, with_entry, with_entry_at, taken, take, log_header, may_take, prepare_again, stated, chosen_log, choose_line, begin_view, try_log, obey_choice, decided, try, advance, apply}
 use Rattle.vr_world.specs.Opening.{listed}
 use Rattle.vr_world.specs.Words.{value_of}
 use Rattle.vr_world.specs.Deciding.{do_view_change_table, is_from, is_for}
@@ -54,7 +54,8 @@ use Rattle.law_2_chains.specs.Local.{Local, begun, through, carried}
 use Rattle.law_2_chains.specs.Reflecting.{entries_by, told_of, Reflects, IsDisk, KeepsStored}
 use Rattle.law_2_chains.specs.Chains.{Setup, Every, AsksNothing, MayBeSaid, WasMade, WasSent, Under, Mid, Stopped, Goes, statement_told}
 use Rattle.law_2_chains.specs.Tables.{Fits}
-use Rattle.law_2_chains.proofs.Scripts.{every_append, goes_then, goes_regrouped, goes_quiet, goes_by}
+use Rattle.law_2_chains.proofs.Scripts.{every_append, goes_then, goes_regrouped, goes_quiet, goes_by, goes_if}
+use Rattle.law_2_chains.proofs.LastWord.{last_word}
 use Rattle.law_2_chains.proofs.Readying.{free_ready}
 use Rattle.law_2_chains.proofs.Moving.{IsStep, member_at, memory_at, under_moves, mid_runs, mid_stays, goes_says}
 use Rattle.law_2_chains.proofs.Writing.{told_header}
@@ -373,11 +374,18 @@ module _ (u : Setup) (start : Group Header) (i : ℕ) where
   goes_each P v t go keep [] r f l s x p = goes_quiet u start i t r f l s x
   goes_each P v t go keep (y ∷ ys) r f l s x p = goes_then u start i (v y) (each v ys) t r f l (go y r f l s x p) (λ a z. goes_each P v t go keep ys _ _ _ a z (keep y r f p))
 
-  prepares_all : {F : Type 0} (top : ℕ) (t : Setting F) (r : Replica) (f : F) (l : Local) (s : Group Header) → Mid u start i r l s → Leads r → Goes u start i l ((by (λ r. each prepare_again (ops r.commit top)) ⨾ apply) t r f)
-  prepares_all top t r f l s x lead =
-      goes_then u start i (by (λ r. each prepare_again (ops r.commit top))) apply t r f l
+  -- where there are other replicas, the last word applies
+  applies_last : {F : Type 0} → 2 ≤ u.quorums.n → (t : Setting F) (r : Replica) (f : F) (l : Local) (s : Group Header) → Mid u start i r l s → Goes u start i l (last_word t r f)
+  applies_last several t r f l s x =
+      let size = x.size in
+      goes_by u start i _ t r f l (goes_if u start i (is_alone r) advance apply t r f l (λ b. let one = eqb-true r.n 1 b in absurd (omega arith)) (λ b. goes_apply u start i t r f l s x))
+
+  prepares_all : {F : Type 0} → 2 ≤ u.quorums.n → (top : ℕ) (t : Setting F) (r : Replica) (f : F) (l : Local) (s : Group Header) → Mid u start i r l s → Leads r
+      → Goes u start i l ((by (λ r. each prepare_again (ops r.commit top)) ⨾ last_word) t r f)
+  prepares_all several top t r f l s x lead =
+      goes_then u start i (by (λ r. each prepare_again (ops r.commit top))) last_word t r f l
       (goes_by u start i (λ r. each prepare_again (ops r.commit top)) t r f l (goes_each Leads prepare_again t (λ y r f l s z p. goes_prepare_again y t r f l s z p) (λ y r f p. leads_again y t r f p) (ops r.commit top) r f l s x lead))
-      (λ a z. goes_apply u start i t _ _ _ a z)
+      (λ a z. applies_last several t _ _ _ a z)
 
 module _ (u : Setup) (start : Group Header) (i : ℕ) where
   pub tells_all : (r : Replica) (l : Local) (s : Group Header) (x : Mid u start i r l s) → r.view ≡ r.log_view → Every (MayBeSaid u start.sent i x.memory (s.members i).slots) (send_to_all start_view r)
@@ -385,12 +393,12 @@ module _ (u : Setup) (start : Group Header) (i : ℕ) where
   tells_all r l s x begun = every_mapped (MayBeSaid u start.sent i x.memory (s.members i).slots) (λ to. send to (start_view r) r) (others r.index r.n) (λ to. (x.place, may_start u start i r l s x begun))
 
   -- what is said once the view has begun
-  tells_then : {F : Type 0} (top : ℕ) (t : Setting F) (r : Replica) (f : F) (l : Local) (s : Group Header) → Mid u start i r l s → Leads r
-      → Goes u start i l ((says (send_to_all start_view) ⨾ by (λ r. each prepare_again (ops r.commit top)) ⨾ apply) t r f)
-  tells_then top t r f l s x lead =
-      goes_says_then u start i (send_to_all start_view) _ t r f l s x (tells_all r l s x lead.begun) (λ k a d y. prepares_all u start i top t r d k a y lead)
+  tells_then : {F : Type 0} → 2 ≤ u.quorums.n → (top : ℕ) (t : Setting F) (r : Replica) (f : F) (l : Local) (s : Group Header) → Mid u start i r l s → Leads r
+      → Goes u start i l ((says (send_to_all start_view) ⨾ by (λ r. each prepare_again (ops r.commit top)) ⨾ last_word) t r f)
+  tells_then several top t r f l s x lead =
+      goes_says_then u start i (send_to_all start_view) _ t r f l s x (tells_all r l s x lead.begun) (λ k a d y. prepares_all u start i several top t r d k a y lead)
 
-module _ (u : Setup) (fits : Fits u) (start : Group Header) (i : ℕ) (e : Event) (o : Replica) where
+module _ (u : Setup) (fits : Fits u) (several : 2 ≤ u.quorums.n) (start : Group Header) (i : ℕ) (e : Event) (o : Replica) where
   begins_view : {F : Type 0} (t : Setting F) (r : Replica) (f : F) (l : Local) (s : Group Header) (x : Mid u start i r l s) → Hears e o r → AreStated u start r → is_primary r ≡ true → r.log_view < r.view → Every AsksNothing l.said
       → (q : Quorums) (hs : List Header) (ends : choice q (stated r) ≡ Ends hs) → q.nack ≡ u.quorums.nack → MayTake (chosen_log r (stated r) hs) r → GoesAndChooses u start i e o l (begin_view (stated r) (chosen_log r (stated r) hs) t r f)
   unfolding begin_view says
@@ -399,10 +407,10 @@ module _ (u : Setup) (fits : Fits u) (start : Group Header) (i : ℕ) (e : Event
       let v = taken_views log r x.sound (chosen_log_is r q (stated r) hs (all_stated r x.sound) ends) may in
       let lead : Leads (with_saved (taken log r)) = record { begun = v.0 ∙ sym v.1; first = v.2 ∙ (eqb-true r.index (primary r.n r.view) first ∙ rw (v.0, v.3) refl) } in
       let line : List Output = choose_line (stated r) log r in
-      let z = then_so u start i (says (choose_line (stated r) log)) (take log ⨾ says (send_to_all start_view) ⨾ by (λ r. each prepare_again (ops r.commit log.head)) ⨾ apply) t r f l (λ a. HasMade a.chosen r hs)
+      let z = then_so u start i (says (choose_line (stated r) log)) (take log ⨾ says (send_to_all start_view) ⨾ by (λ r. each prepare_again (ops r.commit log.head)) ⨾ last_word) t r f l (λ a. HasMade a.chosen r hs)
       (goes_says u start i (choose_line (stated r) log) t r f l s x (tt, tt)) (λ a y.
       goes_take_chosen u fits start i r (carried (map Say line) l) a y heard first lower q hs ends nack_is may _ t (after_all t f (map Say line)) (said_free line l free (tt, tt))
-      (λ cs k a d y. tells_then u (with_chosen cs start) i log.head t (with_saved (taken log r)) d k a y lead)) in
+      (λ cs k a d y. tells_then u (with_chosen cs start) i several log.head t (with_saved (taken log r)) d k a y lead)) in
       record { goes = z.0; made = begin_at (IsMadeFrom z.0.after.chosen e o) hs t r f (line_made z.0.after.chosen e o r hs hears z.1) }
 
   -- a wait chooses nothing
@@ -462,7 +470,7 @@ pub entered_fields : (v : ℕ) (r : Replica) → ((with_saved (entered v r)).vie
 unfolding entered value_of
 entered_fields v r = (refl, refl, refl, refl, refl)
 
-module _ (u : Setup) (fits : Fits u) (start : Group Header) (i : ℕ) where
+module _ (u : Setup) (start : Group Header) (i : ℕ) where
   pub with_statement_told : (d : DoViewChange) (r : Replica) → AreStated u start r → In (Do_view_change d.replica r.view (statement_told d.statement)) start.sent → AreStated u start (with_statement d.replica d.statement r)
   with_statement_told d r all new j t e =
       elim (statement_cases d.replica d.statement r.statements j t e) [
@@ -478,20 +486,21 @@ module _ (u : Setup) (fits : Fits u) (start : Group Header) (i : ℕ) where
       (record { view = f.view; log_view = f.log_view; checkpoint = f.checkpoint; commit = f.commit; applied = f.applied; reach = f.reach; parts = f.parts; loaded = f.loaded; waits = f.waits })
       (kept_statement d.replica d.statement r x.sound is).sound refl refl x.stored
 
+module _ (u : Setup) (fits : Fits u) (several : 2 ≤ u.quorums.n) (start : Group Header) (i : ℕ) where
   states_it : {F : Type 0} (d : DoViewChange) (o : Replica) (t : Setting F) (r : Replica) (f : F) (l : Local) (s : Group Header) → Mid u start i r l s → GoesOn o r → d.replica < r.n → IsFor d.version d.cluster o → AreStated u start r
       → Every AsksNothing l.said → IsStated (version r) r.cluster r.view d.statement → In (Do_view_change d.replica r.view (statement_told d.statement)) start.sent
       → GoesAndChooses u start i (event.Deliver (frame.DoViewChange d)) o l ((change (with_statement d.replica d.statement) ⨾ try) t r f)
   states_it d o t r f l s x on member group all free is new =
       let e : Event = event.Deliver (frame.DoViewChange d) in
-      let y = mid_statement d r l s x is in
+      let y = mid_statement u start i d r l s x is in
       chooses_changed u start i e o (with_statement d.replica d.statement) try t r f l (λ g.
-      goes_try u fits start i e o t (with_statement d.replica d.statement r) g l s y (hears_statement d o r on member group) (with_statement_told d r all new) free)
+      goes_try u fits several start i e o t (with_statement d.replica d.statement r) g l s y (hears_statement d o r on member group) (with_statement_told u start i d r all new) free)
 
   enters_first : {F : Type 0} (d : DoViewChange) (b : Bool) (t : Setting F) (r : Replica) (f : F) (l : Local) (s : Group Header) (x : Mid u start i r l s) → nat_lt r.view d.view ≡ b → d.replica < r.n → IsFor d.version d.cluster r
       → AreStated u start r → Every AsksNothing l.said → r.view ≤ d.view → nat_lt last_view d.view ≡ false → IsStated (version r) r.cluster d.view d.statement → WasSent u start.sent (frame.DoViewChange d)
       → GoesAndChooses u start i (event.Deliver (frame.DoViewChange d)) r l ((when b (enter d.view) ⨾ change (with_statement d.replica d.statement) ⨾ try) t r f)
   enters_first d true t r f l s x b member group all free up low is sent =
-      chooses_enter_then u fits start i (event.Deliver (frame.DoViewChange d)) r d.view _ t r f l s x free up low (λ k a c free y.
+      chooses_enter_then u fits several start i (event.Deliver (frame.DoViewChange d)) r d.view _ t r f l s x free up low (λ k a c free y.
       let q : Replica = with_saved (entered d.view r) in
       let p = entered_fields d.view r in
       let on = picking.goes_entered d.view r (ltb-true r.view d.view b) in

@@ -692,7 +692,6 @@ module _ (u : Setup) (fits : Fits u) (hash : u.hash ≡ lying.hash) (g : group.G
         written = tt;
         value = o.value;
         good = f.0;
-        several = subst (λ (k : ℕ). 2 ≤ k) (sym f.1.n) fit.several;
         place = f.1.index;
         size = f.1.n ∙ bridge.size;
         reads = headers_of lying d reads;
@@ -705,7 +704,7 @@ module _ (u : Setup) (fits : Fits u) (hash : u.hash ≡ lying.hash) (g : group.G
   none_of_stopped : u.quorums.n ≡ 1 → (at : ℕ) (m : group.Member) (v : SuperValue) (d : Lying) → Opens g at m v d → ReadsWell lying d → (es : List Effect) (x : Stored) → In x (stored_from g es) → ⊥
   none_of_stopped alone at m v d o reads es x h =
       let b = may_begin at m v d o reads in
-      let member = (value_is v b.good b.several).member in
+      let member = (value_is v b.good).member in
       let place = b.place in
       let size = b.size in
       let lowest : at ≡ 0 = omega arith in

@@ -10,11 +10,12 @@ use Rattle.vr_msg.specs.declared.frame.Frame.{Frame}
 use Rattle.vr_msg.specs.declared.output.Output.{Output}
 use Rattle.vr_ckpt.specs.declared.name.Name.{Name}
 use Rattle.vr_world.specs.Outputs.{commit_line, applied_reply, get_block, get_prepare, send_to_all, start_view_change}
-use Rattle.vr_world.specs.Replica.{Replica, head, last_view, part_at, with_part}
+use Rattle.vr_world.specs.Replica.{Replica, head, is_alone, last_view, part_at, with_part}
 use Rattle.vr_world.specs.Rules.{backup_ticks, idler, next_view, primary_ticks}
 use Rattle.vr_world.specs.Steps.{Effect, Say, Setting, Word, ◌⨾◌, quiet, change, does, says, by, naming, reading, when, times, each, after_all}
 use Rattle.vr_world.specs.Words.{advance, advanced, applied, apply, apply_entry, apply_next, ask, ask_for, ask_peer, blocks_of, checkpoint_of, checkpoints, enter, entered, entry_of, header_read, is_loaded, least_absent, lost, make_checkpoint, mend_header, op_of_slot, or_lost, place_now, prepare_again, rested, save, saves, turned, value_of, visit, visit_block, visit_place, visit_read, visit_slot, with_checkpoint, with_cursor, with_entry, with_entry_at, with_saved, with_worn}
 use Rattle.law_2_chains.specs.Chains.{Every}
+use Rattle.law_2_chains.proofs.LastWord.{last_word}
 use Rattle.law_2_chains.proofs.Scripts.{every_append}
 use Rattle.law_2_chains.proofs.StoredLists.{IsCalm, calm_same}
 
@@ -142,13 +143,16 @@ module _ {F : Type 0} where
   unfolding apply_next
   calms_apply_next = calms_by _ (λ r. calms_when _ _ (calms_entry_at (r.applied + 1) apply_entry calms_apply_entry))
 
-  pub calms_apply : Calms {F = F} apply
+  calms_apply : Calms {F = F} apply
   unfolding apply
   calms_apply = calms_by _ (λ r. calms_times (r.commit - r.applied) apply_next calms_apply_next)
 
   pub calms_advance : Calms {F = F} advance
   unfolding advance advanced
   calms_advance = calms_then _ _ (calms_change advanced (λ r. (refl, refl))) calms_apply
+
+  pub calms_last : Calms {F = F} last_word
+  calms_last = calms_by _ (λ r. calms_if (is_alone r) advance apply calms_advance calms_apply)
 
   -- ---- Ask and Visit
 
@@ -164,7 +168,7 @@ module _ {F : Type 0} where
 
   calms_ask : Calms {F = F} ask
   unfolding ask
-  calms_ask = calms_by _ (λ r. calms_ask_for r.missing (least_absent r) r.worn)
+  calms_ask = calms_by _ (λ r. calms_when (not (is_alone r)) _ (calms_ask_for r.missing (least_absent r) r.worn))
 
   calms_header : (h : Header) (o : Option Header) → Calms {F = F} (mend_header h o)
   calms_header h None = calms_does _ (λ r. tt)

@@ -1,5 +1,5 @@
 -- Every step of a replica can be carried out in the machine, to its end and wherever it is cut.
-use Rattle.std.proofs.Common.{ℕ, ◌+◌, ◌≤◌, ◌<◌, ◌≡◌, ◌∙◌, arith, refl, sym, ap, subst, true, false, not, cond, List, [], ◌∷◌, get_or, map, Option, None, is_some}
+use Rattle.std.proofs.Common.{ℕ, ◌+◌, ◌≤◌, ◌<◌, ◌≡◌, ◌∙◌, arith, refl, sym, ap, subst, true, false, not, List, [], ◌∷◌, get_or, map, Option, None, is_some}
 use Rattle.std.specs.Prelude.{nat_lt, nat_le}
 use Rattle.std.proofs.lemmas.Bool.{and_parts, or_parts, not-true, ltb-true, ltb-false, le-ltb, eqb-false, true≢false}
 use Rattle.std.proofs.lemmas.List.Elements.{All-contains, All-nil}
@@ -18,7 +18,7 @@ use Rattle.vr_world.specs.Outputs.{others, send, send_to_all, commit_message, st
 use Rattle.vr_world.specs.Steps.{Say, Setting, Step, Word, ◌⨾◌, quiet, change, says, by, when, outputs, after_all}
 use Rattle.vr_world.specs.Words.{saves, with_saved, entered, enter, rested, prepare_again, speak, ask, visit}
 use Rattle.vr_world.specs.Deciding.{first_of, commit_table, get_block_table, get_prepare_table, get_sync_table, get_view_table, give_block_table, give_prepare_table, prepare_ok_table, prepare_table, request_table, start_view_change_table, start_view_table, sync_view_table, tick_table}
-use Rattle.vr_world.specs.Rules.{heard_of, obey_start_view_change, on_start_view_change, idler, next_view, obey_tick, on_tick, on_message, on_event, on_request, on_prepare, on_prepare_ok, on_commit, on_start_view, on_get_view, on_get_prepare, on_give_prepare, on_get_block, on_give_block, on_get_sync, on_sync_view, react, tell_view}
+use Rattle.vr_world.specs.Rules.{heard_of, obey_start_view_change, on_start_view_change, idler, next_view, primary_ticks, backup_ticks, changing_ticks, obey_tick, on_tick, on_message, on_event, on_request, on_prepare, on_prepare_ok, on_commit, on_start_view, on_get_view, on_get_prepare, on_give_prepare, on_get_block, on_give_block, on_get_sync, on_sync_view, react, tell_view}
 use Rattle.vr_world.specs.Laws.{IsMessage}
 use Rattle.vr_world.proofs.Ruling.{by_rows}
 use Rattle.vr_world.proofs.SilentWaits.{Mute, mute_all, mute_by, mute_change, mute_if, mute_naming, mute_one, mute_prepare_again, mute_quiet, mute_reading, mute_then}
@@ -60,11 +60,11 @@ module _ (u : Setup) (fits : Fits u) (start : Group Header) (i : ℕ) where
 
   -- ---- a start_view_change (rules 19 to 22)
 
-  hears_of : {F : Type 0} (sender : ℕ) (e : Event) (o : Replica) (t : Setting F) (r : Replica) (f : F) (l : Local) (s : Group Header) → Mid u start i r l s → Hears e o (heard_of sender r) → AreStated u start r → Every AsksNothing l.said
+  hears_of : {F : Type 0} → 2 ≤ u.quorums.n → (sender : ℕ) (e : Event) (o : Replica) (t : Setting F) (r : Replica) (f : F) (l : Local) (s : Group Header) → Mid u start i r l s → Hears e o (heard_of sender r) → AreStated u start r → Every AsksNothing l.said
       → r.log_view < r.view → Concludes u start i e o l ((change (heard_of sender) ⨾ speak) t r f)
-  hears_of sender e o t r f l s x hears all free lower =
+  hears_of several sender e o t r f l s x hears all free lower =
       concludes_changed u start i e o (heard_of sender) speak t r f l (λ d.
-      concludes_speak u start i fits e o t (heard_of sender r) d l s (mid_heard u start i sender r l s x) hears (heard_stated sender r all) free lower)
+      concludes_speak u start i fits several e o t (heard_of sender r) d l s (mid_heard u start i sender r l s x) hears (heard_stated sender r all) free lower)
 
   enter_rests : {F : Type 0} (v : ℕ) (t : Setting F) (r : Replica) (f : F) → nat_lt last_view v ≡ true → enter v t r f ≡ change rested t r f
   unfolding enter
@@ -89,10 +89,10 @@ module _ (u : Setup) (fits : Fits u) (start : Group Header) (i : ℕ) where
       then_concludes u start i e o (enter v) w (still_enter v).mute t r f l (goes_entered u start i v t r f l s x free up low)
       (subst (λ (z : Step). (a : Group Header) → Mid u start i z.replica (carried z.script l) a → Concludes u start i e o (carried z.script l) (w t z.replica (after_all t f z.script))) (sym (enter_is v t r f low)) step)
 
-  pub concludes_start_view_change : {F : Type 0} (c : StartViewChange) (t : Setting F) (r : Replica) (f : F) (l : Local) (s : Group Header) → Mid u start i r l s → AreStated u start r → Every AsksNothing l.said
+  pub concludes_start_view_change : {F : Type 0} → 2 ≤ u.quorums.n → (c : StartViewChange) (t : Setting F) (r : Replica) (f : F) (l : Local) (s : Group Header) → Mid u start i r l s → AreStated u start r → Every AsksNothing l.said
       → IsMessage (frame.StartViewChange c) → Concludes u start i (event.Deliver (frame.StartViewChange c)) r l (on_start_view_change c t r f)
   unfolding on_start_view_change
-  concludes_start_view_change c t r f l s x all free m =
+  concludes_start_view_change several c t r f l s x all free m =
       let e : Event = event.Deliver (frame.StartViewChange c) in
       let idle = concludes_none u start i e r quiet mute_quiet t r f l (goes_finishes u start i l _ (goes_quiet u start i t r f l s x)) in
       let views = x.sound.order.views in
@@ -109,12 +109,12 @@ module _ (u : Setup) (fits : Fits u) (start : Group Header) (i : ℕ) where
                 let p = entered_fields c.view r in
                 let on = hears_none e r (heard_of c.replica q) (no_brought c) (goes_heard c.replica r q (picking.goes_entered c.view r later)) in
                 concludes_enter_then e r c.view _ t r f l s x free (omega arith) low (λ k b d free y.
-                hears_of c.replica e r t q d k b y on (λ j g h. absurd (none_stated r.n j g (sym (ap (λ (ys : List (Option Statement)). get_or ys j None) p.2) ∙ h))) free (let v = p.0 in let w = p.3 in omega arith)),
+                hears_of several c.replica e r t q d k b y on (λ j g h. absurd (none_stated r.n j g (sym (ap (λ (ys : List (Option Statement)). get_or ys j None) p.2) ∙ h))) free (let v = p.0 in let w = p.3 in omega arith)),
             λ n2. (
               λ a.
                   let b = and_parts (not (is_started r)) _ a in
                   let apart = eqb-false r.view r.log_view (not-true (is_started r) b.0) in
-                  hears_of c.replica e r t r f l s x (hears_none e r (heard_of c.replica r) (no_brought c) (goes_heard c.replica r r (goes_itself r x.sound))) all free (omega arith),
+                  hears_of several c.replica e r t r f l s x (hears_none e r (heard_of c.replica r) (no_brought c) (goes_heard c.replica r r (goes_itself r x.sound))) all free (omega arith),
               λ n3. (λ a. concludes_none u start i e r (tell_view c.replica) (mute_one _ (λ r. tt)) t r f l (goes_finishes u start i l _ (goes_tell_view u start i c.replica t r f l s x a)), λ n4. idle),
             ),
           ),
@@ -130,7 +130,7 @@ module _ (u : Setup) (fits : Fits u) (start : Group Header) (i : ℕ) where
       every_mapped (MayBeSaid u start.sent i x.memory (s.members i).slots) (λ to. send to (commit_message r) r) (others r.index r.n) (λ to. (x.place, x.reflects.view, x.reflects.log_view ∙ sym begun, omega arith))
 
   ticks_primary : {F : Type 0} (t : Setting F) (r : Replica) (f : F) (l : Local) (s : Group Header) → Mid u start i r l s → leads r ≡ true
-      → Goes u start i l ((says (send_to_all commit_message) ⨾ by (λ r. when (nat_lt r.commit (head r)) (prepare_again (r.commit + 1))) ⨾ visit ⨾ ask) t r f)
+      → Goes u start i l (primary_ticks t r f)
   ticks_primary t r f l s x lead =
       let p = leads_is r lead in
       goes_says_then u start i (send_to_all commit_message) _ t r f l s x (tells_commit r l s x p.0) (λ k a d y.
@@ -144,15 +144,26 @@ module _ (u : Setup) (fits : Fits u) (start : Group Header) (i : ℕ) where
   pub next : {F : Type 0} (t : Setting F) (r : Replica) (f : F) (l : Local) (s : Group Header) → Mid u start i r l s → Every AsksNothing l.said → Goes u start i l (next_view t r f)
   next t r f l s x free = goes_by u start i _ t r f l (goes_enter (r.view + 1) t r f l s x free (omega arith))
 
-  ticks_backup : {F : Type 0} (t : Setting F) (r : Replica) (f : F) (l : Local) (s : Group Header) → Mid u start i r l s → Every AsksNothing l.said → Goes u start i l ((change idler ⨾ by (λ r. cond (nat_le 5 r.idle) next_view (visit ⨾ ask))) t r f)
+  ticks_backup : {F : Type 0} (t : Setting F) (r : Replica) (f : F) (l : Local) (s : Group Header) → Mid u start i r l s → Every AsksNothing l.said → Goes u start i l (backup_ticks t r f)
   ticks_backup t r f l s x free =
       let y = mid_idler u start i r l s x in
       goes_change_then u start i idler _ t r f l s y (λ d. goes_by u start i _ t (idler r) d l (goes_if u start i (nat_le 5 (idler r).idle) next_view (visit ⨾ ask) t (idler r) d l (λ b. next t (idler r) d l s y free) (λ b. goes_looks u start i t (idler r) d l s y)))
 
-  ticks_changing : {F : Type 0} (t : Setting F) (r : Replica) (f : F) (l : Local) (s : Group Header) → Mid u start i r l s → AreStated u start r → Every AsksNothing l.said → r.log_view < r.view
-      → Concludes u start i event.Tick r l ((change idler ⨾ by (λ r. cond (nat_le 10 r.idle) next_view (says (send_to_all start_view_change) ⨾ speak ⨾ visit ⨾ ask))) t r f)
+  -- in none of these two a log is chosen
+  pub concludes_primary : {F : Type 0} (t : Setting F) (r : Replica) (f : F) (l : Local) (s : Group Header) → Mid u start i r l s → leads r ≡ true → Concludes u start i event.Tick r l (primary_ticks t r f)
+  concludes_primary t r f l s x lead =
+      concludes_none u start i event.Tick r primary_ticks (mute_then _ _ (mute_all commit_message) (mute_then _ (visit ⨾ ask) (mute_by _ (λ r. mute_if (nat_lt r.commit (head r)) (prepare_again (r.commit + 1)) quiet (mute_prepare_again (r.commit + 1)) mute_quiet)) mute_looks))
+      t r f l (goes_finishes u start i l _ (ticks_primary t r f l s x lead))
+
+  pub concludes_backup : {F : Type 0} (t : Setting F) (r : Replica) (f : F) (l : Local) (s : Group Header) → Mid u start i r l s → Every AsksNothing l.said → Concludes u start i event.Tick r l (backup_ticks t r f)
+  concludes_backup t r f l s x free =
+      concludes_none u start i event.Tick r backup_ticks (mute_then _ _ (mute_change idler) (mute_by _ (λ r. mute_if (nat_le 5 r.idle) next_view (visit ⨾ ask) mute_next mute_looks)))
+      t r f l (goes_finishes u start i l _ (ticks_backup t r f l s x free))
+
+  ticks_changing : {F : Type 0} → 2 ≤ u.quorums.n → (t : Setting F) (r : Replica) (f : F) (l : Local) (s : Group Header) → Mid u start i r l s → AreStated u start r → Every AsksNothing l.said → r.log_view < r.view
+      → Concludes u start i event.Tick r l (changing_ticks t r f)
   unfolding says
-  ticks_changing t r f l s x all free lower =
+  ticks_changing several t r f l s x all free lower =
       let e : Event = event.Tick in
       let q : Replica = idler r in
       let y = mid_idler u start i r l s x in
@@ -162,21 +173,18 @@ module _ (u : Setup) (fits : Fits u) (start : Group Header) (i : ℕ) where
       (λ b. concludes_none u start i e r next_view mute_next t q d l (goes_finishes u start i l _ (next t q d l s y free)))
       (λ b. then_concludes u start i e r (says (send_to_all start_view_change)) (speak ⨾ visit ⨾ ask) (mute_all start_view_change) t q d l
       (goes_says u start i (send_to_all start_view_change) t q d l s y (free_ready u start.sent i y.memory (s.members i).slots os (free_changes u start i q)))
-      (λ a z. concludes_speak_looks u start i fits e r t q (after_all t d (map Say os)) (carried (map Say os) l) a z on all (said_free os l free (free_changes u start i q)) lower))))
+      (λ a z. concludes_speak_looks u start i fits several e r t q (after_all t d (map Say os)) (carried (map Say os) l) a z on all (said_free os l free (free_changes u start i q)) lower))))
 
-  pub concludes_tick : {F : Type 0} (t : Setting F) (r : Replica) (f : F) (l : Local) (s : Group Header) → Mid u start i r l s → AreStated u start r → Every AsksNothing l.said → Concludes u start i event.Tick r l (on_tick t r f)
+  pub concludes_tick : {F : Type 0} → 2 ≤ u.quorums.n → (t : Setting F) (r : Replica) (f : F) (l : Local) (s : Group Header) → Mid u start i r l s → AreStated u start r → Every AsksNothing l.said → Concludes u start i event.Tick r l (on_tick t r f)
   unfolding on_tick
-  concludes_tick {F} t r f l s x all free =
+  concludes_tick several t r f l s x all free =
       let e : Event = event.Tick in
       let views = x.sound.order.views in
-      let mute_primary : Mute {F = F} (says (send_to_all commit_message) ⨾ by (λ r. when (nat_lt r.commit (head r)) (prepare_again (r.commit + 1))) ⨾ visit ⨾ ask) =
-      mute_then _ _ (mute_all commit_message) (mute_then _ (visit ⨾ ask) (mute_by _ (λ r. mute_if (nat_lt r.commit (head r)) (prepare_again (r.commit + 1)) quiet (mute_prepare_again (r.commit + 1)) mute_quiet)) mute_looks) in
-      let mute_backup : Mute {F = F} (change idler ⨾ by (λ r. cond (nat_le 5 r.idle) next_view (visit ⨾ ask))) = mute_then _ _ (mute_change idler) (mute_by _ (λ r. mute_if (nat_le 5 r.idle) next_view (visit ⨾ ask) mute_next mute_looks)) in
       concludes_by u start i e r _ t r f l (by_rows (λ z. Concludes u start i e r l (obey_tick z t r f)) (tick_table r) (
-        λ a. concludes_none u start i e r _ mute_primary t r f l (goes_finishes u start i l _ (ticks_primary t r f l s x a)),
+        λ a. concludes_primary t r f l s x a,
         λ n0. (
-          λ a. concludes_none u start i e r _ mute_backup t r f l (goes_finishes u start i l _ (ticks_backup t r f l s x free)),
-          λ n1. (λ a. let apart = eqb-false r.view r.log_view n1 in ticks_changing t r f l s x all free (omega arith), λ n2. concludes_none u start i e r quiet mute_quiet t r f l (goes_finishes u start i l _ (goes_quiet u start i t r f l s x))),
+          λ a. concludes_backup t r f l s x free,
+          λ n1. (λ a. let apart = eqb-false r.view r.log_view n1 in ticks_changing several t r f l s x all free (omega arith), λ n2. concludes_none u start i e r quiet mute_quiet t r f l (goes_finishes u start i l _ (goes_quiet u start i t r f l s x))),
         ),
       ))
 
@@ -208,8 +216,8 @@ module _ (u : Setup) (fits : Fits u) (several : 2 ≤ u.quorums.n) (start : Grou
   chain_message (frame.Prepare p) last m sent = ends_so _ (on_prepare p) (mute_naming _ (λ hash. mute_by _ (λ r. mute_prepare hash p (first_of (prepare_table hash p r))))) (goes_prepare u start i p t r f l start x hash free sent m) (tabled_prepare u fits start i t r f l x tables p m)
   chain_message (frame.PrepareOk a) last m sent = ends_so _ (on_prepare_ok a) (mute_naming _ (λ hash. mute_by _ (λ r. mute_prepare_ok a (first_of (prepare_ok_table hash a r))))) (goes_prepare_ok u fits several start i a t r f l start x tables sent) (tabled_prepare_ok u fits start i t r f l x tables a sent)
   chain_message (frame.Commit c) last m sent = ends_so _ (on_commit c) (mute_by _ (λ r. mute_commit c (first_of (commit_table c r)))) (goes_commit u start i c t r f l start x sent) (tabled_commit u fits start i t r f l x tables c)
-  chain_message (frame.StartViewChange c) last m sent = with_choices _ _ (concludes_start_view_change u fits start i c t r f l start x tables.stated free m) (tabled_start_view_change u fits start i t r f l x tables c m)
-  chain_message (frame.DoViewChange d) last m sent = with_choices _ _ (concludes_goes u start i (event.Deliver (frame.DoViewChange d)) r l _ (goes_do_view_change u fits start i d t r f l start x tables.stated free m sent)) (tabled_do_view_change u fits start i t r f l x tables d m sent)
+  chain_message (frame.StartViewChange c) last m sent = with_choices _ _ (concludes_start_view_change u fits start i several c t r f l start x tables.stated free m) (tabled_start_view_change u fits start i t r f l x tables c m)
+  chain_message (frame.DoViewChange d) last m sent = with_choices _ _ (concludes_goes u start i (event.Deliver (frame.DoViewChange d)) r l _ (goes_do_view_change u fits several start i d t r f l start x tables.stated free m sent)) (tabled_do_view_change u fits start i t r f l x tables d m sent)
   chain_message (frame.StartView v) last m sent = ends_so _ (on_start_view v) (mute_naming _ (λ hash. mute_by _ (λ r. mute_start_view hash v (first_of (start_view_table hash v r))))) (goes_start_view u start i v t r f l start x hash free m sent) (tabled_start_view u fits start i t r f l x tables v m)
   chain_message (frame.GetView g) last m sent = ends_so _ (on_get_view g) (mute_by _ (λ r. mute_get_view g (first_of (get_view_table g r)))) (goes_get_view u start i g t r f l start x) (tabled_get_view u fits start i t r f l x tables g)
   chain_message (frame.GetPrepare g) last m sent = ends_so _ (on_get_prepare g) (mute_naming _ (λ hash. mute_by _ (λ r. mute_get_prepare g (first_of (get_prepare_table hash g r))))) (goes_get_prepare u start i g t r f l start x) (tabled_get_prepare u fits start i t r f l x tables g)
@@ -223,7 +231,7 @@ module _ (u : Setup) (fits : Fits u) (several : 2 ≤ u.quorums.n) (start : Grou
   unfolding on_request
   chain_event (event.Request q) last m = silent _ (on_request q) (mute_naming _ (λ hash. mute_by _ (λ r. mute_request hash q (first_of (request_table q r))))) (chain_request u fits several start i q t r f l x tables hash group names last top free m)
   chain_event (event.Deliver m) last may = chain_message m last may.0 may.1
-  chain_event event.Tick last may = with_choices _ _ (concludes_tick u fits start i t r f l start x tables.stated free) (tabled_tick u fits start i t r f l x tables)
+  chain_event event.Tick last may = with_choices _ _ (concludes_tick u fits start i several t r f l start x tables.stated free) (tabled_tick u fits start i t r f l x tables)
 
 module _ (u : Setup) (fits : Fits u) (several : 2 ≤ u.quorums.n) (start : Group Header) (i : ℕ) {F : Type 0} (t : Setting F) (r : Replica) (f : F) (l : Local) (x : Mid u start i r l start) (tabled : HasTables u start i r) (hash : t.hash ≡ u.hash)
     (group : r.cluster ≡ u.cluster) (names : (bytes : List ℕ) → IsNameBytes (t.hash bytes)) (top : 0 < head r → is_some (header_at r (head r)) ≡ true) (free : Every AsksNothing l.said) where

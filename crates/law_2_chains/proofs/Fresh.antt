@@ -1,10 +1,10 @@
 -- A group that was just made stands: the premises of the law can be met.
 use Rattle.vr_base.specs.declared.kind.Kind.{Kind}
-use Rattle.std.proofs.Common.{ℕ, zero, suc, ◌-◌, ◌<◌, ◌≡◌, ◌∙◌, inl, inr, arith, refl, sym, ap, subst, true, false, List, [], get_or, replicate, cond, Option, Some, None, is_some}
+use Rattle.std.proofs.Common.{ℕ, zero, suc, ◌-◌, ◌<◌, ◌≡◌, ◌∙◌, inl, inr, arith, refl, sym, ap, subst, true, false, List, [], get_or, replicate, cond, Option, Some, None}
 use Rattle.std.specs.Prelude.{slice_get, nat_lt}
 use Rattle.std.proofs.lemmas.Bool.{cases_lt, true≢false}
 use Rattle.std.proofs.lemmas.List.{length-replicate, get_or-replicate, get_or_past}
-use Rattle.vr_base.specs.Groups.{quorums_of}
+use Rattle.vr_base.specs.Groups.{is_size}
 use Rattle.vr_base.specs.declared.replicas.Replicas.{Replicas}
 use Rattle.vr_base.specs.Replicas.{no_replicas, has_replica}
 use Rattle.vr_header.specs.declared.header.Header.{Header}
@@ -68,7 +68,7 @@ module _ (kind : Kind) (c n i : ℕ) where
         | inr none ↦ omega arith
       ]
 
-  fresh_sound : is_some (quorums_of n) ≡ true → i < n → IsSound (fresh kind c n i)
+  fresh_sound : is_size kind.version n ≡ true → i < n → IsSound (fresh kind c n i)
   unfolding blank
   fresh_sound size member =
       let top = fresh_head in
@@ -109,7 +109,7 @@ beginning u = record { members = λ r. move.fresh u.quorums (entries_by u.hash u
 abbrev pub new_local : Kind → ℕ → ℕ → ℕ → Local
 new_local kind c n i = record { member = group.fresh_member kind c n i; made = []; said = [] }
 
-module _ (u : Setup) (kind : Kind) (c n i : ℕ) (size : is_some (quorums_of n) ≡ true) (member : i < n) (n_is : u.quorums.n ≡ n) where
+module _ (u : Setup) (kind : Kind) (c n i : ℕ) (size : is_size kind.version n ≡ true) (member : i < n) (n_is : u.quorums.n ≡ n) where
   abbrev pub nothing : ℕ → part.Part Header
   nothing k = part.Nothing
 

@@ -20,6 +20,7 @@ pub mod Visits
 pub mod Counting
 pub mod NewEntries
 pub mod Requests
+pub mod LastWord
 pub mod StoredLists
 pub mod Calm
 pub mod LoneSteps
@@ -34,7 +35,6 @@ pub mod Chained
 pub mod LoneGoing
 pub mod LoneTries
 pub mod LoneTicks
-pub mod LoneWords
 pub mod LoneEvents
 pub mod Blocks
 pub mod Playing

@@ -1,5 +1,5 @@
 -- All events at a replica that is a group by itself: no message is from another member, so it handles requests and ticks alone.
-use Rattle.std.proofs.Common.{ℕ, ◌≤◌, ◌<◌, ◌≡◌, ◌∙◌, ◌⊎◌, inl, inr, arith, refl, sym, subst, true, false, not, is_some, List}
+use Rattle.std.proofs.Common.{ℕ, ◌≤◌, ◌<◌, ◌≡◌, ◌⊎◌, inl, inr, arith, refl, sym, subst, true, false, not, is_some, List}
 use Rattle.std.specs.Prelude.{nat_lt, ◌&&◌, ◌==◌}
 use Rattle.std.proofs.lemmas.Bool.{cases_lt, eq-eqb, eqb-false, le-ltb, lt-ltb, ltb-false, or_parts}
 use Rattle.vr_header.specs.declared.header.Header.{Header}
@@ -14,7 +14,6 @@ use Rattle.vr_world.specs.Replica.{Replica, head, header_at, is_frozen, is_spent
 use Rattle.vr_world.specs.Rules.{changing_ticks, obey_tick, on_commit, on_do_view_change, on_event, on_get_block, on_get_prepare, on_get_sync, on_get_view, on_give_block, on_give_prepare, on_message, on_prepare, on_prepare_ok, on_request, on_start_view, on_start_view_change, on_sync_view, on_tick, react}
 use Rattle.vr_world.specs.Sound.{IsNameBytes}
 use Rattle.vr_world.specs.Steps.{Setting, Step, by, naming, quiet, reading, when}
-use Rattle.vr_world.specs.Words.{apply}
 use Rattle.vr_world.proofs.Ruling.{by_rows}
 use Rattle.vr_world.proofs.SilentWaits.{mute_quiet}
 use Rattle.law_1_machine.specs.Group.{Group}
@@ -23,13 +22,13 @@ use Rattle.law_2_chains.specs.Chains.{Setup, Every, AsksNothing, Mid}
 use Rattle.law_2_chains.specs.Lone.{LoneChooses}
 use Rattle.law_2_chains.specs.Local.{Local}
 use Rattle.law_2_chains.specs.Tables.{Fits, HasTables}
-use Rattle.law_2_chains.proofs.Chained.{concludes_tick}
+use Rattle.law_2_chains.proofs.Chained.{concludes_backup, concludes_primary}
+use Rattle.law_2_chains.proofs.Choices.{Concludes, concludes_none}
+use Rattle.law_2_chains.proofs.Finishing.{goes_finishes}
 use Rattle.law_2_chains.proofs.Calm.{calm_backup, calms_primary, calms_quiet}
 use Rattle.law_2_chains.proofs.LoneRequests.{lone_request}
 use Rattle.law_2_chains.proofs.LoneSteps.{lone_concludes, lone_frozen, lone_goes, lone_mute}
 use Rattle.law_2_chains.proofs.LoneTicks.{lone_tick}
-use Rattle.law_2_chains.proofs.LoneTries.{ends_apply}
-use Rattle.law_2_chains.proofs.LoneWords.{ticks_same}
 use Rattle.law_2_chains.proofs.Scripts.{goes_quiet}
 use Rattle.law_2_chains.proofs.Staying.{stays_quiet}
 use Rattle.law_2_chains.proofs.StoredLists.{IsCalm}
@@ -70,16 +69,21 @@ of_message P t r f one member idle (frame.SyncView v) asks = rw (none_from v.ver
 
 -- ---- ticks
 
--- By a tick nothing comes to count, or it is one at a replica that hasn't started its view.
-ticks_comes : {F : Type 0} (t : Setting F) (r : Replica) (f : F) → r.log_view ≤ r.view
-    → Every (IsCalm r.view r.log_view) (on_tick t r f).script ⊎ ((on_tick t r f ≡ changing_ticks t r f) × (r.log_view < r.view))
+-- By a tick nothing comes to count, and no log is chosen; or it is one at a replica that hasn't started its view.
+ticks_comes : {F : Type 0} (u : Setup) (fits : Fits u) (i : ℕ) (t : Setting F) (r : Replica) (f : F) (l : Local) → Every AsksNothing l.said → r.log_view ≤ r.view
+    → (Every (IsCalm r.view r.log_view) (on_tick t r f).script × ((s : Group Header) → Mid u s i r l s → Concludes u s i event.Tick r l (on_tick t r f))) ⊎ ((on_tick t r f ≡ changing_ticks t r f) × (r.log_view < r.view))
 unfolding on_tick by
-ticks_comes t r f views =
-    by_rows (λ z. Every (IsCalm r.view r.log_view) (obey_tick z t r f).script ⊎ ((obey_tick z t r f ≡ changing_ticks t r f) × (r.log_view < r.view))) (tick_table r) (
-      λ a. inl (calms_primary.every t r f),
+ticks_comes u fits i t r f l free views =
+    by_rows
+    (λ z. (Every (IsCalm r.view r.log_view) (obey_tick z t r f).script × ((s : Group Header) → Mid u s i r l s → Concludes u s i event.Tick r l (obey_tick z t r f))) ⊎ ((obey_tick z t r f ≡ changing_ticks t r f) × (r.log_view < r.view)))
+    (tick_table r) (
+      λ a. inl (calms_primary.every t r f, λ s y. concludes_primary u fits s i t r f l s y a),
       λ n0. (
-        λ a. inl (calm_backup t r f views),
-        λ n1. (λ a. let apart = eqb-false r.view r.log_view n1 in inr (refl, omega arith), λ n2. inl (calms_quiet.every t r f)),
+        λ a. inl (calm_backup t r f views, λ s y. concludes_backup u fits s i t r f l s y free),
+        λ n1. (
+          λ a. let apart = eqb-false r.view r.log_view n1 in inr (refl, omega arith),
+          λ n2. inl (calms_quiet.every t r f, λ s y. concludes_none u s i event.Tick r quiet mute_quiet t r f l (goes_finishes u s i l _ (goes_quiet u s i t r f l s y))),
+        ),
       ),
     )
 
@@ -102,9 +106,9 @@ module _ (u : Setup) (fits : Fits u) (one : u.quorums.n ≡ 1) (start : Group He
         let size = x.size in
         of_message (LoneChooses u start i l e r) t r f (omega arith) x.sound.member (idle e) m (λ q is. asked e q (subst IsMessage is may.0))
     of_event event.Tick may =
-        elim (ticks_comes t r f x.sound.order.views) [
-          | inl calm ↦ lone_concludes u start i r l x free event.Tick (on_tick t r f) calm tables (λ s y z. (concludes_tick u fits s i t r f l s y z.stated free, tabled_tick u fits s i t r f l y z))
-          | inr begins ↦ subst (LoneChooses u start i l event.Tick r) (sym (begins.0 ∙ ticks_same t r f)) (lone_tick apply ends_apply u fits one start i t r l free begins.1 f x tables)
+        elim (ticks_comes u fits i t r f l free x.sound.order.views) [
+          | inl calm ↦ lone_concludes u start i r l x free event.Tick (on_tick t r f) calm.0 tables (λ s y z. (calm.1 s y, tabled_tick u fits s i t r f l y z))
+          | inr begins ↦ subst (LoneChooses u start i l event.Tick r) (sym begins.0) (lone_tick u fits one start i t r l free begins.1 f x tables)
         ]
 
   pub lone_react : HasTables u start i r → (e : Event) → MayArrive u start e → LoneChooses u start i l e r (react e t r f)

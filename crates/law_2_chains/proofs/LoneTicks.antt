@@ -14,11 +14,11 @@ use Rattle.vr_msg.specs.declared.event.Event.{Event}
 use Rattle.vr_msg.specs.declared.event.Event.TheVariants as event
 use Rattle.vr_world.specs.Outputs.{do_view_change, send_to_all, start_view_change, to_primary, wait_line}
 use Rattle.vr_world.specs.Replica.{Replica, is_primary, is_started, view_change}
-use Rattle.vr_world.specs.Rules.{idler, next_view}
+use Rattle.vr_world.specs.Rules.{changing_ticks, idler, next_view}
 use Rattle.vr_world.specs.Sound.{IsSound}
 use Rattle.vr_world.specs.Storing.{here_in}
 use Rattle.vr_world.specs.Steps.{Setting, Step, Word, ◌⨾◌, after_all, by, change, naming, quiet, says, when}
-use Rattle.vr_world.specs.Words.{ask, chosen_log, decided, may_take, stated, visit}
+use Rattle.vr_world.specs.Words.{ask, begin_view, chosen_log, decided, may_take, obey_choice, speak, stated, try, try_log, visit}
 use Rattle.vr_world.proofs.SilentWaits.{mute_all, mute_change, mute_quiet, mute_then}
 use Rattle.vr_world.proofs.Taking.{may_take_is}
 use Rattle.law_1_machine.specs.Group.{Group}
@@ -26,7 +26,6 @@ use Rattle.law_2_chains.specs.Chains.{Setup, Every, AsksNothing, Goes, Mid}
 use Rattle.law_2_chains.specs.Choices.{IsMadeFrom}
 use Rattle.law_2_chains.specs.Local.{Local}
 use Rattle.law_2_chains.specs.Lone.{LoneChooses}
-use Rattle.law_2_chains.specs.LoneWords.{begin_ending, obey_choice_ending, speak_ending, ticks_ending, try_ending, try_log_ending}
 use Rattle.law_2_chains.specs.Tables.{Fits}
 use Rattle.law_2_chains.proofs.Beginning.{decided_of, free_changes, said_free}
 use Rattle.law_2_chains.proofs.Calm.{calm_next, calm_said, calm_then, calms_idler, calms_looks, calms_says}
@@ -35,7 +34,7 @@ use Rattle.law_2_chains.proofs.Choices.{Concludes, GoesAndChooses, chooses_chang
 use Rattle.law_2_chains.proofs.Finishing.{goes_finishes}
 use Rattle.law_2_chains.proofs.LoneGoing.{LoneGoes, lone_changed, lone_ends, lone_then, then_lone}
 use Rattle.law_2_chains.proofs.LoneSteps.{lone_concludes}
-use Rattle.law_2_chains.proofs.LoneTries.{Last, MayBegin, lone_begins}
+use Rattle.law_2_chains.proofs.LoneTries.{MayBegin, lone_begins}
 use Rattle.law_2_chains.proofs.Moving.{goes_says}
 use Rattle.law_2_chains.proofs.Picking.{Hears, goes_idler, hears_none, waits_at}
 use Rattle.law_2_chains.proofs.Readying.{free_ready}
@@ -44,20 +43,20 @@ use Rattle.law_2_chains.proofs.Speaking.{goes_looks, mid_idler, mute_looks}
 use Rattle.law_2_chains.proofs.Staying.{stays_looks}
 use Rattle.law_2_chains.proofs.StoredLists.{IsCalm}
 use Rattle.law_2_chains.proofs.TabledRules as rules
-use Rattle.law_2_chains.proofs.TabledWords.{Enters, started_so, tabled_begins, tabled_entered}
+use Rattle.law_2_chains.proofs.TabledWords.{Enters, started_so, tabled_begin, tabled_entered}
 use Rattle.law_2_chains.proofs.Tabling.{Tabled, tabled_change_then, tabled_says_then, tabled_then_stays}
 use Rattle.law_2_chains.proofs.Tallies.{Tallies}
 use Rattle.law_2_chains.proofs.Vouching.{goes_change_then}
 
 -- ---- words that come to the same
 
-pub same_then : {F : Type 0} (v w x : Word F) (t : Setting F) (r : Replica) (f : F) → ((d : F) → w t (v t r f).replica d ≡ x t (v t r f).replica d) → (v ⨾ w) t r f ≡ (v ⨾ x) t r f
+same_then : {F : Type 0} (v w x : Word F) (t : Setting F) (r : Replica) (f : F) → ((d : F) → w t (v t r f).replica d ≡ x t (v t r f).replica d) → (v ⨾ w) t r f ≡ (v ⨾ x) t r f
 unfolding ◌⨾◌
 same_then v w x t r f same =
     let a = v t r f in
     ap (λ (z : Step). record { replica = z.replica; script = a.script ++ z.script }) (same (after_all t f a.script))
 
-pub then_same : {F : Type 0} (v x w : Word F) (t : Setting F) (r : Replica) (f : F) → v t r f ≡ x t r f → (v ⨾ w) t r f ≡ (x ⨾ w) t r f
+then_same : {F : Type 0} (v x w : Word F) (t : Setting F) (r : Replica) (f : F) → v t r f ≡ x t r f → (v ⨾ w) t r f ≡ (x ⨾ w) t r f
 unfolding ◌⨾◌
 then_same v x w t r f same = ap (λ (a : Step). record { replica = (w t a.replica (after_all t f a.script)).replica; script = a.script ++ (w t a.replica (after_all t f a.script)).script }) same
 
@@ -71,9 +70,9 @@ module _ (u : Setup) (i : ℕ) {F : Type 0} (t : Setting F) (q : Replica) where
     goes : (start s : Group Header) (e : Event) (o : Replica) (l : Local) (d : F) → Mid u start i q l s → GoesAndChooses u start i e o l (w t q d)
 
   -- or its view begins
-  data Comes (last : Word F) (z : F → Step) : Type 0 where
-    quietly : (w : Word F) → Quietly w → ((d : F) → z d ≡ w t q d) → Comes last z
-    begins : (hs : List Header) → MayBegin u q hs → ((d : F) → z d ≡ begin_ending last (stated q) (chosen_log q (stated q) hs) t q d) → Comes last z
+  data Comes (z : F → Step) : Type 0 where
+    quietly : (w : Word F) → Quietly w → ((d : F) → z d ≡ w t q d) → Comes z
+    begins : (hs : List Header) → MayBegin u q hs → ((d : F) → z d ≡ begin_view (stated q) (chosen_log q (stated q) hs) t q d) → Comes z
 
   is_quiet : Quietly quiet
   unfolding quiet
@@ -89,32 +88,32 @@ module _ (u : Setup) (i : ℕ) {F : Type 0} (t : Setting F) (q : Replica) where
         record { goes = h; made = waits_at (IsMadeFrom h.after.chosen e o) op t q d };
   }
 
-  module _ (last : Word F) (fits : Fits u) (size_is : q.n ≡ u.quorums.n) (prim : is_primary q ≡ true) where
+  module _ (fits : Fits u) (size_is : q.n ≡ u.quorums.n) (prim : is_primary q ≡ true) where
     comes_log : (hs : List Header) → decided q ≡ Ends hs → (b : Bool) → may_take t.hash (chosen_log q (stated q) hs) q ≡ b
-        → Comes last (λ d. cond b (begin_ending last (stated q) (chosen_log q (stated q) hs)) (says (wait_line (chosen_log q (stated q) hs).head)) t q d)
+        → Comes (λ d. cond b (begin_view (stated q) (chosen_log q (stated q) hs)) (says (wait_line (chosen_log q (stated q) hs).head)) t q d)
     comes_log hs is true may =
         let y = decided_of (quorums_of q.n) (stated q) hs is in
         let nack_is : y.0.nack ≡ u.quorums.nack = sym (ap (λ (o : Option Quorums). option_map_or (λ q. q.nack) o 0) (sym (ap quorums_of size_is) ∙ y.1)) ∙ fits.nack_is in
         begins hs (record { sizes = y.0; ends = y.2; nack_is = nack_is; may = may_take_is t.hash (chosen_log q (stated q) hs) q may }) (λ d. refl)
     comes_log hs is false may = quietly (says (wait_line (chosen_log q (stated q) hs).head)) (is_wait _) (λ d. refl)
 
-    comes_choice : (c : Choice) → decided q ≡ c → Comes last (λ d. obey_choice_ending last (stated q) c t q d)
-    unfolding try_log_ending naming by
+    comes_choice : (c : Choice) → decided q ≡ c → Comes (λ d. obey_choice (stated q) c t q d)
+    unfolding try_log naming by
     comes_choice TooFew is = quietly quiet is_quiet (λ d. refl)
     comes_choice (WaitsAt op) is = quietly (says (wait_line op)) (is_wait op) (λ d. refl)
     comes_choice (Ends hs) is = comes_log hs is (may_take t.hash (chosen_log q (stated q) hs) q) refl
 
-    comes_try : (b : Bool) → Comes last (λ d. when b (obey_choice_ending last (stated q) (decided q)) t q d)
+    comes_try : (b : Bool) → Comes (λ d. when b (obey_choice (stated q) (decided q)) t q d)
     comes_try true = comes_choice (decided q) refl
     comes_try false = quietly quiet is_quiet (λ d. refl)
 
-    comes_speak : (b : Bool) → Comes last (λ d. when b (cond (is_primary q) (try_ending last) (says (to_primary do_view_change))) t q d)
-    unfolding try_ending by
+    comes_speak : (b : Bool) → Comes (λ d. when b (cond (is_primary q) try (says (to_primary do_view_change))) t q d)
+    unfolding try by
     comes_speak true = rw prim (comes_try (is_primary q && not (is_started q)))
     comes_speak false = quietly quiet is_quiet (λ d. refl)
 
-    comes : Comes last (λ d. speak_ending last t q d)
-    unfolding speak_ending by
+    comes : Comes (λ d. speak t q d)
+    unfolding speak by
     comes = comes_speak (nat_le (view_change q.n) (size q.heard))
 
 -- ---- the tick
@@ -133,12 +132,7 @@ alone_leads r one member =
     let less : r.view % r.n < r.n = mod-lt r.view (omega arith) in
     eq-eqb r.index (r.view % r.n) (omega arith)
 
-tabled_begun : {F : Type 0} (last : Word F) → Last last → (u : Setup) (start : Group Header) (i : ℕ) (t : Setting F) (q : Replica) (d : F) → Enters u start i q → is_primary q ≡ true → (hs : List Header) → MayBegin u q hs
-    → Tabled u start i (begin_ending last (stated q) (chosen_log q (stated q) hs) t q d)
-unfolding begin_ending
-tabled_begun last ends u start i t q d y prim hs b = tabled_begins u start i last ends.stays t q d y prim b.sizes hs b.ends b.may
-
-module _ {F : Type 0} (last : Word F) (ends : Last last) (u : Setup) (fits : Fits u) (one : u.quorums.n ≡ 1) (start : Group Header) (i : ℕ) (t : Setting F) (r : Replica) (l : Local) (free : Every AsksNothing l.said) (lower : r.log_view < r.view) where
+module _ {F : Type 0} (u : Setup) (fits : Fits u) (one : u.quorums.n ≡ 1) (start : Group Header) (i : ℕ) (t : Setting F) (r : Replica) (l : Local) (free : Every AsksNothing l.said) (lower : r.log_view < r.view) where
   abbrev q : Replica
   q = idler r
 
@@ -182,15 +176,15 @@ module _ {F : Type 0} (last : Word F) (ends : Last last) (u : Setup) (fits : Fit
       )
 
   -- its view begins
-  tick_begins : (f : F) (hs : List Header) → MayBegin u q hs → Mid u start i r l start → Tallies u start i r → LoneChooses u start i l event.Tick r (after_idling (begin_ending last (stated q) (chosen_log q (stated q) hs)) t r f)
+  tick_begins : (f : F) (hs : List Header) → MayBegin u q hs → Mid u start i r l start → Tallies u start i r → LoneChooses u start i l event.Tick r (after_idling (begin_view (stated q) (chosen_log q (stated q) hs)) t r f)
   unfolding says
   tick_begins f hs b x tables =
       let y = mid_idler u start i r l start x in
       let size = x.size in
       let prim = alone_leads r (omega arith) x.sound.member in
-      let w : Word F = begin_ending last (stated q) (chosen_log q (stated q) hs) in
+      let w : Word F = begin_view (stated q) (chosen_log q (stated q) hs) in
       let begins_so : (k : Local) (a : Group Header) (d : F) → Mid u start i q k a → Every AsksNothing k.said → LoneGoes u start i event.Tick r r.saved (here_in r) k (w t q d) =
-      λ k a d z calm. lone_begins last ends u fits start i event.Tick r t q d k a z (hears_it start x) tables.stated prim lower calm hs b in
+      λ k a d z calm. lone_begins u fits start i event.Tick r t q d k a z (hears_it start x) tables.stated prim lower calm hs b in
       let sound : (d : F) → IsSound (w t q d).replica = λ d. let h = begins_so l start d y free in subst IsSound (sym h.replica) h.going.ends.sound in
       lone_ends u start i event.Tick r l _
       (lone_changed u start i event.Tick r r.saved (here_in r) idler _ t r f l (λ d.
@@ -198,18 +192,18 @@ module _ {F : Type 0} (last : Word F) (ends : Last last) (u : Setup) (fits : Fit
       lone_then u start i event.Tick r r.saved (here_in r) w (visit ⨾ ask) mute_looks calms_looks t q _ _ (begins_so _ a _ z (said_free (send_to_all start_view_change q) l free (free_changes u start i q))) (λ s a k d z. goes_looks u s i t _ _ _ a z))))
       (tabled_change_then u start i idler _ t r f (λ d.
       tabled_says_then u start i (send_to_all start_view_change) _ t q d (λ d.
-      tabled_then_stays u start i w (visit ⨾ ask) t q d (tabled_begun last ends u start i t q d (enters_it start x tables) prim hs b) (sound d) stays_looks)))
+      tabled_then_stays u start i w (visit ⨾ ask) t q d (tabled_begin u start i t q d (enters_it start x tables) prim b.sizes hs b.ends b.may) (sound d) stays_looks)))
 
-  tick_comes : (f : F) → Mid u start i r l start → Tallies u start i r → Comes u i t q last (λ d. speak_ending last t q d) → LoneChooses u start i l event.Tick r (after_idling (speak_ending last) t r f)
+  tick_comes : (f : F) → Mid u start i r l start → Tallies u start i r → Comes u i t q (λ d. speak t q d) → LoneChooses u start i l event.Tick r (after_idling speak t r f)
   unfolding change says
   tick_comes f x tables (quietly w h same) =
-      let is : after_idling (speak_ending last) t r f ≡ after_idling w t r f =
-      same_then (change idler) _ _ t r f (λ d. same_then (says (send_to_all start_view_change)) _ _ t q d (λ d. then_same (speak_ending last) w (visit ⨾ ask) t q d (same d))) in
+      let is : after_idling speak t r f ≡ after_idling w t r f =
+      same_then (change idler) _ _ t r f (λ d. same_then (says (send_to_all start_view_change)) _ _ t q d (λ d. then_same speak w (visit ⨾ ask) t q d (same d))) in
       subst (LoneChooses u start i l event.Tick r) (sym is) (lone_concludes u start i r l x free event.Tick (after_idling w t r f) (calm_quietly f w h) tables (λ s y z. tick_quietly f w h s y z))
   tick_comes f x tables (begins hs b same) =
-      let w : Word F = begin_ending last (stated q) (chosen_log q (stated q) hs) in
-      let is : after_idling (speak_ending last) t r f ≡ after_idling w t r f =
-      same_then (change idler) _ _ t r f (λ d. same_then (says (send_to_all start_view_change)) _ _ t q d (λ d. then_same (speak_ending last) w (visit ⨾ ask) t q d (same d))) in
+      let w : Word F = begin_view (stated q) (chosen_log q (stated q) hs) in
+      let is : after_idling speak t r f ≡ after_idling w t r f =
+      same_then (change idler) _ _ t r f (λ d. same_then (says (send_to_all start_view_change)) _ _ t q d (λ d. then_same speak w (visit ⨾ ask) t q d (same d))) in
       subst (LoneChooses u start i l event.Tick r) (sym is) (tick_begins f hs b x tables)
 
   -- the next view is entered
@@ -223,14 +217,14 @@ module _ {F : Type 0} (last : Word F) (ends : Last last) (u : Setup) (fits : Fit
         tabled_change_then u s i idler next_view t r f (λ d. rules.next u fits s i t r f l z w q d y (rules.idle_tables u fits s i t r f l z w)),
       ))
 
-  tick_if : (f : F) → Mid u start i r l start → Tallies u start i r → (b : Bool) → nat_le 10 q.idle ≡ b → LoneChooses u start i l event.Tick r (ticks_ending last t r f)
-  unfolding ticks_ending change by
+  tick_if : (f : F) → Mid u start i r l start → Tallies u start i r → (b : Bool) → nat_le 10 q.idle ≡ b → LoneChooses u start i l event.Tick r (changing_ticks t r f)
+  unfolding change by
   tick_if f x tables true e = subst (LoneChooses u start i l event.Tick r) (sym (same_then (change idler) _ next_view t r f (λ d. rw e refl))) (tick_enters f x tables)
   tick_if f x tables false e =
       let size = x.size in
       let prim = alone_leads r (omega arith) x.sound.member in
-      subst (LoneChooses u start i l event.Tick r) (sym (same_then (change idler) _ (says (send_to_all start_view_change) ⨾ speak_ending last ⨾ visit ⨾ ask) t r f (λ d. rw e refl)))
-      (tick_comes f x tables (comes u i t q last fits x.size prim))
+      subst (LoneChooses u start i l event.Tick r) (sym (same_then (change idler) _ (says (send_to_all start_view_change) ⨾ speak ⨾ visit ⨾ ask) t r f (λ d. rw e refl)))
+      (tick_comes f x tables (comes u i t q fits x.size prim))
 
-  pub lone_tick : (f : F) → Mid u start i r l start → Tallies u start i r → LoneChooses u start i l event.Tick r (ticks_ending last t r f)
+  pub lone_tick : (f : F) → Mid u start i r l start → Tallies u start i r → LoneChooses u start i l event.Tick r (changing_ticks t r f)
   lone_tick f x tables = tick_if f x tables (nat_le 10 q.idle) refl

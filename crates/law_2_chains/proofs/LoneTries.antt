@@ -3,7 +3,6 @@
 use Rattle.std.proofs.Common.{ℕ, zero, suc, ◌+◌, ◌≤◌, ◌<◌, ◌≡◌, ◌∙◌, inl, inr, arith, refl, sym, ap, subst, true, List, [], ◌∷◌, ◌++◌, map, Some}
 use Rattle.std.specs.Prelude.{filter}
 use Rattle.std.proofs.lemmas.List.{append-nil}
-use Rattle.std.proofs.lemmas.List.Elements.{All-cons, All-nil}
 use Rattle.vr_base.specs.declared.replicas.Replicas.{Replicas}
 use Rattle.vr_base.specs.declared.table.Quorums.{Quorums}
 use Rattle.vr_base.specs.Replicas.{has_replica}
@@ -19,13 +18,11 @@ use Rattle.vr_super.specs.Copies.{SuperValue}
 use Rattle.vr_world.specs.Commitment.{Stored}
 use Rattle.vr_world.specs.Opening.{listed}
 use Rattle.vr_world.specs.Outputs.{send_to_all, start_view}
-use Rattle.vr_world.specs.Replica.{Replica, ackers_at, forgetting, is_primary, part_at, replication}
+use Rattle.vr_world.specs.Replica.{Replica, ackers_at, forgetting, is_alone, is_primary, part_at, replication}
 use Rattle.vr_world.specs.Sound.{IsSound}
-use Rattle.vr_world.specs.Steps.{Effect, Save, Say, Setting, Step, Word, ◌⨾◌, after_all, by, change, does, each, quiet, says}
+use Rattle.vr_world.specs.Steps.{Effect, Save, Say, Setting, Step, ◌⨾◌, after_all, by, change, does, each, quiet, says}
 use Rattle.vr_world.specs.Storing.{here_in, in_view, names, stored_by}
-use Rattle.vr_world.specs.Words.{Log, advance, apply, choose_line, chosen_log, prepare_again, save, stated, take, taken, value_of, with_saved}
-use Rattle.vr_world.proofs.SendsScripts.{outputs_said}
-use Rattle.vr_world.proofs.SilentWaits.{Mute, mute_advance, mute_all, mute_apply, mute_by, mute_each, mute_prepare_again, mute_take, mute_then}
+use Rattle.vr_world.specs.Words.{Log, advance, apply, begin_view, choose_line, chosen_log, prepare_again, save, stated, take, taken, value_of, with_saved}
 use Rattle.vr_world.specs.Given.{IsLogFor}
 use Rattle.vr_world.proofs.Taking.{MayTake, kept_taken}
 use Rattle.vr_world.proofs.Trying.{all_stated, chosen_log_is}
@@ -37,22 +34,21 @@ use Rattle.law_2_chains.specs.Chains.{Setup, Every, AsksNothing, Goes, Mid}
 use Rattle.law_2_chains.specs.Choices.{IsMadeFrom}
 use Rattle.law_2_chains.specs.Local.{Local, carried}
 use Rattle.law_2_chains.specs.Lone.{IsStored, Vouched, vouch_for}
-use Rattle.law_2_chains.specs.LoneWords.{begin_ending}
 use Rattle.law_2_chains.specs.Tables.{Fits}
 use Rattle.law_2_chains.proofs.Applying.{goes_apply, goes_says_then}
 use Rattle.law_2_chains.proofs.Beginning.{AreStated, Leads, goes_each, goes_prepare_again, goes_take_chosen, leads_again, said_free, tells_all}
-use Rattle.law_2_chains.proofs.Choices.{AreMade, HasMade, line_made, then_so, with_chosen}
-use Rattle.law_2_chains.proofs.Calm.{Calms, calms_advance, calms_again, calms_apply, calms_by, calms_each, calms_says, calms_then}
+use Rattle.law_2_chains.proofs.Choices.{HasMade, line_made, then_so, with_chosen}
+use Rattle.law_2_chains.proofs.LastWord.{last_word}
+use Rattle.law_2_chains.proofs.Calm.{Calms, calms_again, calms_by, calms_each, calms_last, calms_says, calms_then}
 use Rattle.law_2_chains.proofs.Counting.{counted_has, counted_within, counts, quorum_vouched, voter}
 use Rattle.law_2_chains.proofs.Learning.{HasVouched, goes_advance}
 use Rattle.law_2_chains.proofs.Lone.{vouches}
 use Rattle.law_2_chains.proofs.LoneGoing.{LoneGoes}
 use Rattle.law_2_chains.proofs.LoneSteps.{in_order}
 use Rattle.law_2_chains.proofs.Moving.{goes_says}
-use Rattle.law_2_chains.proofs.Picking.{Hears, IsPicked, at_then, line_of, plain}
+use Rattle.law_2_chains.proofs.Picking.{Hears, begin_at}
 use Rattle.law_2_chains.proofs.Saving.{listed_all, listed_known, saved_sound}
-use Rattle.law_2_chains.proofs.Scripts.{every_append, goes_by, goes_quiet, goes_then}
-use Rattle.law_2_chains.proofs.Staying.{Stays, stays_advance, stays_apply}
+use Rattle.law_2_chains.proofs.Scripts.{every_append, goes_by, goes_if, goes_quiet, goes_then}
 use Rattle.law_2_chains.proofs.StoredLists.{LastCounts, at_its_op, filter_has, held_by, held_said, in_filter, in_its, is_in, last_said, names_it, names_known, of_view, stored_said, view_has, was_in}
 use Rattle.law_2_chains.proofs.TabledWords.{saved_part, taken_ackers}
 use Rattle.law_2_chains.proofs.Tabling.{holds_each}
@@ -61,38 +57,25 @@ use Rattle.std.proofs.lemmas.Bool.{eqb-true}
 
 -- ---- the last word with which a view begins: it applies, and may count before
 
-pub record Last {F : Type 0} (last : Word F) : Type 0 where
-  pub mute : Mute last
-  pub stays : Stays last
-  pub calm : Calms last
-  pub goes : (u : Setup) (start : Group Header) (i : ℕ) (t : Setting F) (r : Replica) (f : F) (l : Local) (s : Group Header) → Mid u start i r l s
-      → ((k : ℕ) → r.commit < k → k ≤ r.commit + counts r → HasVouched u start i r.log_view k) → Goes u start i l (last t r f)
-
-pub ends_advance : {F : Type 0} → Last {F = F} advance
-ends_advance = record {
-  mute = mute_advance;
-  stays = stays_advance;
-  calm = calms_advance;
-  goes = λ u start i t r f l s x each. goes_advance u start i t r f l s x (counted_within r x.sound.order.known) each;
-}
-
-pub ends_apply : {F : Type 0} → Last {F = F} apply
-ends_apply = record { mute = mute_apply; stays = stays_apply; calm = calms_apply; goes = λ u start i t r f l s x each. goes_apply u start i t r f l s x }
+goes_last : {F : Type 0} (u : Setup) (start : Group Header) (i : ℕ) (t : Setting F) (r : Replica) (f : F) (l : Local) (s : Group Header) → Mid u start i r l s
+    → ((k : ℕ) → r.commit < k → k ≤ r.commit + counts r → HasVouched u start i r.log_view k) → Goes u start i l (last_word t r f)
+goes_last u start i t r f l s x each =
+    goes_by u start i _ t r f l (goes_if u start i (is_alone r) advance apply t r f l (λ b. goes_advance u start i t r f l s x (counted_within r x.sound.order.known) each) (λ b. goes_apply u start i t r f l s x))
 
 -- ---- what is stored of the log is counted
 
 module _ (u : Setup) (quorum : replication u.quorums.n ≡ u.quorums.replication) (before start : Group Header) (i : ℕ) (q : Replica) (sound : IsSound q) (begun : q.view ≡ q.log_view) (vouched : Vouched i q before start)
     (none : (k j : ℕ) → has_replica (ackers_at q k) j ≡ true → ⊥) where
-  prepares_counts : {F : Type 0} (last : Word F) → Last last → (top : ℕ) (t : Setting F) (f : F) (l : Local) (s : Group Header) → Mid u start i q l s → Leads q → Goes u start i l ((by (λ r. each prepare_again (ops r.commit top)) ⨾ last) t q f)
+  prepares_counts : {F : Type 0} (top : ℕ) (t : Setting F) (f : F) (l : Local) (s : Group Header) → Mid u start i q l s → Leads q → Goes u start i l ((by (λ r. each prepare_again (ops r.commit top)) ⨾ last_word) t q f)
   unfolding by
-  prepares_counts last ends top t f l s x lead =
+  prepares_counts top t f l s x lead =
       let xs = ops q.commit top in
       let y : Step = each prepare_again xs t q f in
       let h = holds_each t xs q f sound in
-      goes_then u start i (by (λ r. each prepare_again (ops r.commit top))) last t q f l
+      goes_then u start i (by (λ r. each prepare_again (ops r.commit top))) last_word t q f l
       (goes_by u start i (λ r. each prepare_again (ops r.commit top)) t q f l (goes_each u start i Leads prepare_again t (λ k r f l s z p. goes_prepare_again u start i k t r f l s z p) (λ k r f p. leads_again k t r f p) xs q f l s x lead))
       (λ a z.
-      ends.goes u start i t y.replica _ _ a z (λ k above within.
+      goes_last u start i t y.replica _ _ a z (λ k above within.
       quorum_vouched u quorum start i y.replica k z.size (counted_has y.replica k above within) (λ j has. elim (voter y.replica k j has) [
         | inl mine ↦
             let place : j ≡ i = mine.0 ∙ z.place in
@@ -107,10 +90,10 @@ module _ (u : Setup) (quorum : replication u.quorums.n ≡ u.quorums.replication
         | inr acker ↦ absurd (none k j (sym (ap (λ (z : Replicas). has_replica z j) (h.acks k)) ∙ acker))
       ])))
 
-  tells_counts : {F : Type 0} (last : Word F) → Last last → (top : ℕ) (t : Setting F) (f : F) (l : Local) (s : Group Header) → Mid u start i q l s → Leads q
-      → Goes u start i l ((says (send_to_all start_view) ⨾ by (λ r. each prepare_again (ops r.commit top)) ⨾ last) t q f)
-  tells_counts last ends top t f l s x lead =
-      goes_says_then u start i (send_to_all start_view) _ t q f l s x (tells_all u start i q l s x lead.begun) (λ k a d y. prepares_counts last ends top t d k a y lead)
+  tells_counts : {F : Type 0} (top : ℕ) (t : Setting F) (f : F) (l : Local) (s : Group Header) → Mid u start i q l s → Leads q
+      → Goes u start i l ((says (send_to_all start_view) ⨾ by (λ r. each prepare_again (ops r.commit top)) ⨾ last_word) t q f)
+  tells_counts top t f l s x lead =
+      goes_says_then u start i (send_to_all start_view) _ t q f l s x (tells_all u start i q l s x lead.begun) (λ k a d y. prepares_counts top t d k a y lead)
 
 -- ---- what counts as stored once the log is taken over
 
@@ -192,16 +175,6 @@ module _ (i : ℕ) (r : Replica) (l : Log) (sound : IsSound r) (log : IsLogFor r
 
 -- ---- a view begins
 
--- its choose line, and what comes after it
-begin_made : {F : Type 0} (last : Word F) → Mute last → (cs : List (machine.Choice Header)) (e : Event) (o : Replica) (hs : List Header) (t : Setting F) (r : Replica) (f : F) → IsMadeFrom cs e o (line_of r hs)
-    → AreMade cs e o (begin_ending last (stated r) (chosen_log r (stated r) hs) t r f).script
-unfolding begin_ending says
-begin_made last mute cs e o hs t r f p =
-    let P = IsMadeFrom cs e o in
-    let l : Log = chosen_log r (stated r) hs in
-    at_then P (says (choose_line (stated r) l)) _ t r f (rw (outputs_said (choose_line (stated r) l r)) (All-cons (IsPicked P) _ [] p (All-nil (IsPicked P))))
-    (λ d. plain P (mute_then _ _ (mute_take l) (mute_then _ _ (mute_all _) (mute_then _ _ (mute_by _ (λ r. mute_each _ _ mute_prepare_again)) mute))) t r d)
-
 more_made : (cs ds : List (machine.Choice Header)) → ((c : machine.Choice Header) → In c cs → In c ds) → (r : Replica) (hs : List Header) → HasMade cs r hs → HasMade ds r hs
 more_made cs ds f r hs x = record { made = x.made; is_made = f x.made x.is_made; of_view = x.of_view; of_log_view = x.of_log_view; of_head = x.of_head; of_heard = x.of_heard; of_log = x.of_log }
 
@@ -212,10 +185,10 @@ pub record MayBegin (u : Setup) (r : Replica) (hs : List Header) : Type 0 where
   pub nack_is : sizes.nack ≡ u.quorums.nack
   pub may : MayTake (chosen_log r (stated r) hs) r
 
-pub lone_begins : {F : Type 0} (last : Word F) → Last last → (u : Setup) (fits : Fits u) (start : Group Header) (i : ℕ) (e : Event) (o : Replica) (t : Setting F) (r : Replica) (f : F) (l : Local) (s : Group Header) → Mid u start i r l s → Hears e o r → AreStated u start r
-    → is_primary r ≡ true → r.log_view < r.view → Every AsksNothing l.said → (hs : List Header) → MayBegin u r hs → LoneGoes u start i e o r.saved (here_in r) l (begin_ending last (stated r) (chosen_log r (stated r) hs) t r f)
-unfolding begin_ending take save says change does quiet ◌⨾◌ after_all
-lone_begins last ends u fits start i e o t r f l s x hears heard prim lower free hs b =
+pub lone_begins : {F : Type 0} (u : Setup) (fits : Fits u) (start : Group Header) (i : ℕ) (e : Event) (o : Replica) (t : Setting F) (r : Replica) (f : F) (l : Local) (s : Group Header) → Mid u start i r l s → Hears e o r → AreStated u start r
+    → is_primary r ≡ true → r.log_view < r.view → Every AsksNothing l.said → (hs : List Header) → MayBegin u r hs → LoneGoes u start i e o r.saved (here_in r) l (begin_view (stated r) (chosen_log r (stated r) hs) t r f)
+unfolding begin_view take save says change does quiet ◌⨾◌ after_all
+lone_begins u fits start i e o t r f l s x hears heard prim lower free hs b =
     let log : Log = chosen_log r (stated r) hs in
     let log_is = chosen_log_is r b.sizes (stated r) hs (all_stated r x.sound) b.ends in
     let v = taken_views log r x.sound log_is b.may in
@@ -233,13 +206,13 @@ lone_begins last ends u fits start i e o t r f l s x hears heard prim lower free
     let lead : Leads q = record { begun = begun; first = v.2 ∙ (eqb-true r.index (primary r.n r.view) prim ∙ rw (v.0, v.3) refl) } in
     let sound : IsSound q = saved_sound (taken log r) (kept_taken log r x.sound log_is b.may).sound in
     let d = after_all t f first.script in
-    let told : Calms (says (send_to_all start_view) ⨾ by (λ r. each prepare_again (ops r.commit log.head)) ⨾ last) =
-    calms_then _ _ (calms_says (send_to_all start_view)) (calms_then _ _ (calms_by _ (λ r. calms_each prepare_again (ops r.commit log.head) calms_again)) ends.calm) in
-    let going = tells_counts u fits.replication_is g.0.after w.0 i q sound begun w.2 (taken_ackers log r) last ends log.head t (after_all t f first.script) k w.0 w.1 lead in
+    let told : Calms (says (send_to_all start_view) ⨾ by (λ r. each prepare_again (ops r.commit log.head)) ⨾ last_word) =
+    calms_then _ _ (calms_says (send_to_all start_view)) (calms_then _ _ (calms_by _ (λ r. calms_each prepare_again (ops r.commit log.head) calms_again)) calms_last) in
+    let going = tells_counts u fits.replication_is g.0.after w.0 i q sound begun w.2 (taken_ackers log r) log.head t (after_all t f first.script) k w.0 w.1 lead in
     let kept : (c : machine.Choice Header) → In c g.0.after.chosen → In c going.after.chosen = λ c j. going.ends.under.chosen c (subst (In c) (sym w.2.chosen) j) in
     record {
       first = first;
-      second = (says (send_to_all start_view) ⨾ by (λ r. each prepare_again (ops r.commit log.head)) ⨾ last) t q (after_all t f first.script);
+      second = (says (send_to_all start_view) ⨾ by (λ r. each prepare_again (ops r.commit log.head)) ⨾ last_word) t q (after_all t f first.script);
       script = refl;
       replica = refl;
       goes = g.0;
@@ -253,5 +226,5 @@ lone_begins last ends u fits start i e o t r f l s x hears heard prim lower free
       held = taken_counts i r log x.sound log_is b.may line lower;
       counted = taken_vouches i r log x.sound log_is b.may line w.0 (w.2.all begun);
       going = going;
-      made = begin_made last ends.mute going.after.chosen e o hs t r f (line_made going.after.chosen e o r hs hears (more_made g.0.after.chosen going.after.chosen kept r hs g.1));
+      made = begin_at (IsMadeFrom going.after.chosen e o) hs t r f (line_made going.after.chosen e o r hs hears (more_made g.0.after.chosen going.after.chosen kept r hs g.1));
     }

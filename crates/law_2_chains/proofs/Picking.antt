@@ -28,10 +28,11 @@ use Rattle.vr_msg.specs.declared.output.Output.TheVariants as output
 use Rattle.vr_msg.specs.declared.output.Output.{Output}
 use Rattle.vr_msg.specs.declared.statement.Statement.{Statement}
 use Rattle.vr_world.proofs.Ruling.{IsFor}
-use Rattle.vr_world.proofs.SilentWaits.{IsPlain, Mute, plain_are, mute_all, mute_apply, mute_by, mute_each, mute_one, mute_prepare_again, mute_quiet, mute_take, mute_then}
+use Rattle.vr_world.proofs.SilentWaits.{IsPlain, Mute, plain_are, mute_all, mute_by, mute_each, mute_one, mute_prepare_again, mute_quiet, mute_take, mute_then}
 use Rattle.vr_world.proofs.SendsScripts.{outputs_append, outputs_said}
 use Rattle.vr_world.specs.Outputs as told
 use Rattle.vr_world.specs.Rules as rules
+use Rattle.law_2_chains.proofs.LastWord.{mute_last}
 
 abbrev pub line_of : Replica → List Header → Chosen
 line_of r hs =
@@ -87,7 +88,7 @@ module _ (P : Chosen → Type 0) where
     begin_at hs s r f p =
         let l = words.chosen_log r (stated r) hs in
         at_then (says (words.choose_line (stated r) l)) _ s r f (rw (outputs_said (words.choose_line (stated r) l r)) (All-cons IsPicked _ [] p (All-nil IsPicked)))
-        (λ d. plain (mute_then _ _ (mute_take l) (mute_then _ _ (mute_all _) (mute_then _ _ (mute_by _ (λ r. mute_each _ _ mute_prepare_again)) mute_apply))) s r d)
+        (λ d. plain (mute_then _ _ (mute_take l) (mute_then _ _ (mute_all _) (mute_then _ _ (mute_by _ (λ r. mute_each _ _ mute_prepare_again)) mute_last))) s r d)
 
     pub waits_at : (op : ℕ) (s : Setting F) (r : Replica) (f : F) → PicksAt s r f (says (told.wait_line op))
     unfolding says

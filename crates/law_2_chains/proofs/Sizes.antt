@@ -16,9 +16,9 @@ Sized hash cluster n = (u : Setup) × Fits u × (u.quorums.n ≡ n) × (u.hash �
 sized : (n r k : ℕ) (hash : List ℕ → List ℕ) (cluster : ℕ) → r + k ≡ n + 1 → 0 < r → replication n ≡ r → option_map_or (λ q. q.nack) (quorums_of n) 0 ≡ k → Sized hash cluster n
 sized n r k hash cluster overlap some a b = (setup n r k hash cluster overlap some, record { replication_is = a; nack_is = b }, refl, refl, refl)
 
-pub sizes_fit : (hash : List ℕ → List ℕ) (cluster n : ℕ) → 2 ≤ n → n ≤ 6 → Sized hash cluster n
+pub sizes_fit : (hash : List ℕ → List ℕ) (cluster n : ℕ) → 1 ≤ n → n ≤ 6 → Sized hash cluster n
 sizes_fit hash cluster zero a b = absurd (omega arith)
-sizes_fit hash cluster (suc zero) a b = absurd (omega arith)
+sizes_fit hash cluster (suc zero) a b = sized 1 1 1 hash cluster refl (omega arith) refl refl
 sizes_fit hash cluster (suc (suc zero)) a b = sized 2 2 1 hash cluster refl (omega arith) refl refl
 sizes_fit hash cluster (suc (suc (suc zero))) a b = sized 3 2 2 hash cluster refl (omega arith) refl refl
 sizes_fit hash cluster (suc (suc (suc (suc zero)))) a b = sized 4 2 3 hash cluster refl (omega arith) refl refl
@@ -28,7 +28,7 @@ sizes_fit hash cluster (suc (suc (suc (suc (suc (suc (suc n))))))) a b = absurd 
 
 -- beyond the table there is none
 no_quorum : (n : ℕ) → 6 < n → replication n ≡ 0
-no_quorum n l = rw (ne_eqb n 2 (λ e. omega (arith, e, l)), ne_eqb n 3 (λ e. omega (arith, e, l)), ne_eqb n 4 (λ e. omega (arith, e, l)), ne_eqb n 5 (λ e. omega (arith, e, l)), ne_eqb n 6 (λ e. omega (arith, e, l))) refl
+no_quorum n l = rw (ne_eqb n 1 (λ e. omega (arith, e, l)), ne_eqb n 2 (λ e. omega (arith, e, l)), ne_eqb n 3 (λ e. omega (arith, e, l)), ne_eqb n 4 (λ e. omega (arith, e, l)), ne_eqb n 5 (λ e. omega (arith, e, l)), ne_eqb n 6 (λ e. omega (arith, e, l))) refl
 
 -- where no quorum is empty, one of several replicas isn't one
 two_of : (n : ℕ) → 2 ≤ n → 0 < replication n → 2 ≤ replication n

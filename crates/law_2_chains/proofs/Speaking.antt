@@ -1,5 +1,5 @@
 -- A replica that states its log, as the last thing of its step; what is asked after it; start_view_changes and ticks.
-use Rattle.std.proofs.Common.{ℕ, ◌<◌, ◌≡◌, ◌∙◌, inl, inr, arith, refl, sym, ap, subst, true, false, cond, List, [], ◌∷◌, ◌++◌, Option, Some, None}
+use Rattle.std.proofs.Common.{ℕ, ◌≤◌, ◌<◌, ◌≡◌, ◌∙◌, inl, inr, arith, refl, sym, ap, subst, Bool, true, false, cond, not, List, [], ◌∷◌, ◌++◌, Option, Some, None}
 use Rattle.std.specs.Prelude.{nat_le}
 use Rattle.vr_base.specs.Replicas.{size}
 use Rattle.vr_ckpt.specs.declared.name.Name.{Name}
@@ -10,7 +10,7 @@ use Rattle.vr_msg.specs.declared.frame.Frame.TheVariants as frame
 use Rattle.vr_msg.specs.declared.output.Output.{Output}
 use Rattle.vr_msg.specs.declared.output.Output.TheVariants as output
 use Rattle.vr_msg.specs.Normal.{primary}
-use Rattle.vr_world.specs.Replica.{Replica, view_change, head, is_primary, part_at, statement_of}
+use Rattle.vr_world.specs.Replica.{Replica, view_change, head, is_alone, is_primary, part_at, statement_of}
 use Rattle.vr_world.specs.Outputs.{send_to, to_primary, do_view_change, get_block, get_prepare}
 use Rattle.vr_world.specs.Steps.{Say, Setting, Step, Word, ◌⨾◌, quiet, change, says, by, naming, when, after_all}
 use Rattle.vr_world.specs.Words.{try, speak, peer, turned, ask_peer, least_absent, ask_for, ask, visit}
@@ -27,7 +27,7 @@ use Rattle.law_2_chains.specs.Local.{Local, begun, through, carried, WhereverCut
 use Rattle.law_2_chains.specs.Chains.{Setup, Every, AsksNothingFrame, AsksNothing, WasMade, WasSent, Under, Mid, Stopped, Goes, statement_told}
 use Rattle.law_2_chains.specs.Finished.{IsNumbered, IsSaid, a_statement, IsTrue, Finished, Finishes}
 use Rattle.law_2_chains.specs.Tables.{Fits}
-use Rattle.law_2_chains.proofs.Scripts.{every_append, every_map, carried_append, cut_append, goes_then, goes_quiet, goes_change, goes_by, goes_naming}
+use Rattle.law_2_chains.proofs.Scripts.{every_append, every_map, carried_append, cut_append, goes_then, goes_quiet, goes_change, goes_by, goes_naming, goes_when}
 use Rattle.law_2_chains.proofs.Readying.{free_ready}
 use Rattle.law_2_chains.proofs.Moving.{stops, mid_stays}
 use Rattle.law_2_chains.proofs.Applying.{goes_says_then}
@@ -92,12 +92,12 @@ module _ (u : Setup) (start : Group Header) (i : ℕ) where
       let made1 = every_append (WasMade s.made) l.made [] x.under.made tt in
       record { after = z.0; ends = z.1; cuts = (stops u start i l (begun (Say o) l) s x.under x.under.disk made1, tt); stopped = stops u start i l (through (Say o) l) s x.under x.under.disk made1 }
 
-  pub concludes_speak : {F : Type 0} (fits : Fits u) (e : Event) (o : Replica) (t : Setting F) (r : Replica) (f : F) (l : Local) (s : Group Header) → Mid u start i r l s → Hears e o r → AreStated u start r → Every AsksNothing l.said
+  pub concludes_speak : {F : Type 0} (fits : Fits u) (several : 2 ≤ u.quorums.n) (e : Event) (o : Replica) (t : Setting F) (r : Replica) (f : F) (l : Local) (s : Group Header) → Mid u start i r l s → Hears e o r → AreStated u start r → Every AsksNothing l.said
       → r.log_view < r.view → Concludes u start i e o l (speak t r f)
   unfolding speak
-  concludes_speak fits e o t r f l s x hears all free lower =
+  concludes_speak fits several e o t r f l s x hears all free lower =
       concludes_by u start i e o _ t r f l (concludes_if u start i e o (nat_le (view_change r.n) (size r.heard)) _ quiet t r f l
-      (λ b. concludes_if u start i e o (is_primary r) try (says (to_primary do_view_change)) t r f l (λ c. concludes_goes u start i e o l _ (goes_try u fits start i e o t r f l s x hears all free))
+      (λ b. concludes_if u start i e o (is_primary r) try (says (to_primary do_view_change)) t r f l (λ c. concludes_goes u start i e o l _ (goes_try u fits several start i e o t r f l s x hears all free))
       (λ c. concludes_none u start i e o (says (to_primary do_view_change)) says_statement t r f l (finishes_states t r f l s x lower)))
       (λ b. concludes_none u start i e o quiet mute_quiet t r f l (goes_finishes u start i l _ (goes_quiet u start i t r f l s x))))
 
@@ -143,7 +143,8 @@ module _ (u : Setup) (start : Group Header) (i : ℕ) where
 
   pub goes_ask : {F : Type 0} (t : Setting F) (r : Replica) (f : F) (l : Local) (s : Group Header) → Mid u start i r l s → Goes u start i l (ask t r f)
   unfolding ask
-  goes_ask t r f l s x = goes_by u start i _ t r f l (asks_for r.missing (least_absent r) r.worn t r f l s x)
+  goes_ask t r f l s x =
+      goes_by u start i _ t r f l (goes_when u start i (not (is_alone r)) (ask_for r.missing (least_absent r) r.worn) t r f l s x (λ b. asks_for r.missing (least_absent r) r.worn t r f l s x))
 
   -- at each tick a place of the disk is visited, and then something is asked for
   pub goes_looks : {F : Type 0} (t : Setting F) (r : Replica) (f : F) (l : Local) (s : Group Header) → Mid u start i r l s → Goes u start i l ((visit ⨾ ask) t r f)
@@ -167,9 +168,14 @@ asks_of [] (Some h) worn t r f e = one (output.Send (record { from = r.index; to
 asks_of [] None (name ∷ names) t r f e = one (output.Send (record { from = r.index; to = peer r; message = get_block name r })) tt (e ∙ asks_one (get_block name) t r f)
 asks_of [] None [] t r f e = nothing e
 
+asks_when : {F : Type 0} (b : Bool) (t : Setting F) (r : Replica) (f : F) → ask t r f ≡ when b (ask_for r.missing (least_absent r) r.worn) t r f → Asks t r f
+unfolding quiet
+asks_when true t r f e = asks_of r.missing (least_absent r) r.worn t r f e
+asks_when false t r f e = nothing e
+
 asks_is : {F : Type 0} (t : Setting F) (r : Replica) (f : F) → Asks t r f
 unfolding ask by
-asks_is t r f = asks_of r.missing (least_absent r) r.worn t r f refl
+asks_is t r f = asks_when (not (is_alone r)) t r f refl
 
 -- a visit says nothing, and an ask no choose line
 pub mute_looks : {F : Type 0} → Mute {F = F} (visit ⨾ ask)
@@ -298,24 +304,24 @@ module _ (u : Setup) (start : Group Header) (i : ℕ) where
         stopped = rw (carried_append seen.script es l1) q.stopped;
       }
 
-  tries_looks : {F : Type 0} (fits : Fits u) (e : Event) (o : Replica) (t : Setting F) (r : Replica) (f : F) (l : Local) (s : Group Header) → Mid u start i r l s → Hears e o r → AreStated u start r → Every AsksNothing l.said
+  tries_looks : {F : Type 0} (fits : Fits u) (several : 2 ≤ u.quorums.n) (e : Event) (o : Replica) (t : Setting F) (r : Replica) (f : F) (l : Local) (s : Group Header) → Mid u start i r l s → Hears e o r → AreStated u start r → Every AsksNothing l.said
       → GoesAndChooses u start i e o l ((try ⨾ visit ⨾ ask) t r f)
-  tries_looks fits e o t r f l s x hears all free =
-      let h = goes_try u fits start i e o t r f l s x hears all free in
+  tries_looks fits several e o t r f l s x hears all free =
+      let h = goes_try u fits several start i e o t r f l s x hears all free in
       chooses_then u start i e o try (visit ⨾ ask) mute_looks t r f l h (λ z. goes_looks u (with_chosen h.goes.after.chosen start) i t _ _ _ _ z)
 
   nothing_looks : {F : Type 0} (t : Setting F) (r : Replica) (f : F) (l : Local) (s : Group Header) → Mid u start i r l s → Goes u start i l ((quiet ⨾ visit ⨾ ask) t r f)
   nothing_looks t r f l s x = goes_then u start i quiet (visit ⨾ ask) t r f l (goes_quiet u start i t r f l s x) (λ a z. goes_looks u start i t _ _ _ a z)
 
-  pub concludes_speak_looks : {F : Type 0} (fits : Fits u) (e : Event) (o : Replica) (t : Setting F) (r : Replica) (f : F) (l : Local) (s : Group Header) → Mid u start i r l s → Hears e o r → AreStated u start r → Every AsksNothing l.said
+  pub concludes_speak_looks : {F : Type 0} (fits : Fits u) (several : 2 ≤ u.quorums.n) (e : Event) (o : Replica) (t : Setting F) (r : Replica) (f : F) (l : Local) (s : Group Header) → Mid u start i r l s → Hears e o r → AreStated u start r → Every AsksNothing l.said
       → r.log_view < r.view → Concludes u start i e o l ((speak ⨾ visit ⨾ ask) t r f)
   unfolding speak by ◌⨾◌
-  concludes_speak_looks {F} fits e o t r f l s x hears all free lower =
+  concludes_speak_looks {F} fits several e o t r f l s x hears all free lower =
       let says_it : Word F = says (to_primary do_view_change) in
       elim (nat_le (view_change r.n) (size r.heard)) as (λ b. Concludes u start i e o l ((when b (cond (is_primary r) try says_it) ⨾ visit ⨾ ask) t r f)) [
         | true ↦
             elim (is_primary r) as (λ c. Concludes u start i e o l ((cond c try says_it ⨾ visit ⨾ ask) t r f)) [
-              | true ↦ concludes_goes u start i e o l _ (tries_looks fits e o t r f l s x hears all free)
+              | true ↦ concludes_goes u start i e o l _ (tries_looks fits several e o t r f l s x hears all free)
               | false ↦ concludes_none u start i e o (says_it ⨾ visit ⨾ ask) (mute_then says_it (visit ⨾ ask) says_statement mute_looks) t r f l (finishes_states_looks t r f l s x lower)
             ]
         | false ↦ concludes_none u start i e o (quiet ⨾ visit ⨾ ask) (mute_then quiet (visit ⨾ ask) mute_quiet mute_looks) t r f l (goes_finishes u start i l _ (nothing_looks t r f l s x))

@@ -9,7 +9,7 @@ use Rattle.vr_msg.specs.declared.output.Output.{Output}
 use Rattle.vr_ckpt.specs.State.{State}
 use Rattle.vr_ckpt.specs.declared.name.Name.{Name}
 use Rattle.vr_ckpt.specs.declared.table.PayloadTable.{PayloadTable}
-use Rattle.vr_world.specs.Replica.{Replica, head, part_at}
+use Rattle.vr_world.specs.Replica.{Replica, head, is_alone, part_at}
 use Rattle.vr_world.specs.Outputs.{send_to_all, prepare, get_block, get_prepare}
 use Rattle.vr_world.specs.Steps.{Effect, Rewrite, Mend, PutBlock, Setting, Word, ◌⨾◌, quiet, change, does, says, by, naming, reading, when, each, after_all}
 use Rattle.vr_world.specs.Words.{with_entry_at, apply, learn, advance, rested, prepare_again, resend, turned, ask_peer, ask_for, ask, least_absent, is_loaded, loads, checkpoint_at, load, blocks_of, op_of_slot, mend_header, header_read, visit_slot, with_worn, visit_read, visit_block, visit_place, place_now, with_cursor, visit}
@@ -19,6 +19,7 @@ use Rattle.vr_world.proofs.Combining.{Keeps, keeps_does}
 use Rattle.vr_world.proofs.Visiting.{keeps_visit, keeps_not_worn}
 use Rattle.vr_world.proofs.Wording.{kept_rested, keeps_apply, keeps_learn, keeps_advance, keeps_prepare_again, keeps_ask}
 use Rattle.law_2_chains.proofs.Blocks.{Other, other_loads, with_other}
+use Rattle.law_2_chains.proofs.LastWord.{last_word}
 use Rattle.law_2_chains.proofs.Holding.{Holds, HoldsBy, holds_same, holds_more, holds_rested, holds_part, holds_if, holds_apply, holds_learn, holds_advance}
 
 -- what it leaves holds the tables, and is sound
@@ -81,6 +82,9 @@ stays_learn c = stays_of (learn c) (keeps_learn c) (holds_learn c)
 pub stays_advance : {F : Type 0} → Stays {F = F} advance
 stays_advance = stays_of advance keeps_advance holds_advance
 
+pub stays_last : {F : Type 0} → Stays {F = F} last_word
+stays_last = stays_by _ (λ r. stays_if (is_alone r) advance apply stays_advance stays_apply)
+
 pub stays_rested : {F : Type 0} → Stays {F = F} (change rested)
 stays_rested = stays_change rested (λ r sound. (holds_rested r, (kept_rested r sound).sound))
 
@@ -120,7 +124,7 @@ holds_ask_for [] None [] t r f = holds_same r
 
 holds_ask : {F : Type 0} (t : Setting F) (r : Replica) (f : F) → HoldsBy ask t r f
 unfolding ask by
-holds_ask t r f = holds_ask_for r.missing (least_absent r) r.worn t r f
+holds_ask t r f = holds_if (not (is_alone r)) (ask_for r.missing (least_absent r) r.worn) t r f (λ b. holds_ask_for r.missing (least_absent r) r.worn t r f)
 
 pub stays_ask : {F : Type 0} → Stays {F = F} ask
 stays_ask = stays_of ask keeps_ask (λ t r f sound. holds_ask t r f)

@@ -271,7 +271,7 @@ module _ (u : Setup) (fits : Fits u) (start : Group Header) (i : ℕ) where
         → Tabled u start i ((change (with_statement d.replica d.statement) ⨾ try) t q e)
     states d q e y is new =
         tabled_change_then u start i (with_statement d.replica d.statement) try t q e (λ g. tabled_try u start i t (with_statement d.replica d.statement q) g
-        (record { sound = (kept_statement d.replica d.statement q y.sound is).sound; place = y.place; size = y.size; lower = y.lower; stated = with_statement_told u fits start i d q y.stated new; unmade = y.unmade }))
+        (record { sound = (kept_statement d.replica d.statement q y.sound is).sound; place = y.place; size = y.size; lower = y.lower; stated = with_statement_told u start i d q y.stated new; unmade = y.unmade }))
 
     entered_stated : (d : DoViewChange) → IsStated (version r) r.cluster d.view d.statement → IsStated (version (with_saved (entered d.view r))) (with_saved (entered d.view r)).cluster (with_saved (entered d.view r)).view d.statement
     unfolding entered value_of

@@ -44,7 +44,8 @@ use Rattle.law_2_chains.proofs.Writing.{stored_ackers, stored_fields, stored_nex
 use Rattle.law_2_chains.proofs.Beginning.{AreStated}
 use Rattle.law_2_chains.proofs.Takes.{above_later, taken_at, taken_views}
 use Rattle.law_2_chains.proofs.Fresh.{no_flags}
-use Rattle.law_2_chains.proofs.Staying.{Stays, stays_then, stays_each, stays_again, stays_apply, stays_advance, stays_resend}
+use Rattle.law_2_chains.proofs.Staying.{stays_then, stays_each, stays_again, stays_apply, stays_advance, stays_last, stays_resend}
+use Rattle.law_2_chains.proofs.LastWord.{last_word}
 use Rattle.law_2_chains.proofs.Tabling.{Tabled, IsPrepared, tabled_after, tabled_says_then, tabled_if, tables_stay, tallies_unled, prepared_all, prepared_left, prepared_each, holds_each, vouched_by}
 
 -- ---- an entry is stored by the primary
@@ -285,10 +286,10 @@ says_is os t r f = refl
 
 module _ (u : Setup) (start : Group Header) (i : ℕ) where
   -- what is stored of the log with which a view begins is prepared
-  tabled_prepared : {F : Type 0} (last : Word F) → Stays last → (l : Log) (r : Replica) (y : Enters u start i r) → IsLogFor r l → MayTake l r → l.view ≡ r.view → is_primary r ≡ true → (t : Setting F) (d : F)
-      → Tabled u start i ((by (λ r. each prepare_again (ops r.commit l.head)) ⨾ last) t (with_saved (taken l r)) d)
+  tabled_prepared : {F : Type 0} (l : Log) (r : Replica) (y : Enters u start i r) → IsLogFor r l → MayTake l r → l.view ≡ r.view → is_primary r ≡ true → (t : Setting F) (d : F)
+      → Tabled u start i ((by (λ r. each prepare_again (ops r.commit l.head)) ⨾ last_word) t (with_saved (taken l r)) d)
   unfolding by ◌⨾◌
-  tabled_prepared last stays_last l r y log may view_is prim t d s a =
+  tabled_prepared l r y log may view_is prim t d s a =
       let q : Replica = with_saved (taken l r) in
       let v = taken_views l r y.sound log may in
       let view : q.view ≡ r.view = v.0 ∙ view_is in
@@ -311,34 +312,29 @@ module _ (u : Setup) (start : Group Header) (i : ℕ) where
             let none : Nothing ≡ Here h = sym (above_later l r y.sound log may k past (omega arith)) ∙ (sym (taken_at l r y.sound log may k (omega arith)) ∙ (sym (saved_part (taken l r) k) ∙ is)) in
             absurd cc
       ] in
-      tables_stay u start i last t x.replica e s stays_last after
+      tables_stay u start i last_word t x.replica e s stays_last after
       (record {
         acks = λ led k j above has. absurd (taken_ackers l r k j (sym (ap (λ (z : Replicas). has_replica z j) (holds.acks k)) ∙ has));
         own = λ several led k h above is.
             let two : 2 ≤ q.n = let n = v.3 in let m = y.size in omega arith in
             let within = near k h (holds.here k h is) in
-            let it = prepared_left q k x.script (last t x.replica e).script (prepared_each t xs k h q d sound two (in_range (l.head - q.commit) (q.commit + 1) k (omega arith) (omega arith)) is) in
+            let it = prepared_left q k x.script (last_word t x.replica e).script (prepared_each t xs k h q d sound two (in_range (l.head - q.commit) (q.commit + 1) k (omega arith) (omega arith)) is) in
             subst (λ w. HasVouchedAt u s w k i) (sym holds.view) (vouched_by u start s i q k _ a it (v.2 ∙ y.place) first);
         top = λ led k h above is. y.unmade prim k h (subst (λ w. In (made_at w k h) start.made) (holds.view ∙ view) (subst (In (made_at x.replica.view k h)) a.made is));
         stated = λ j z is. absurd (none_stated r.n j z (sym (ap (λ (ys : List (Option Statement)). get_or ys j None) (holds.statements ∙ taken_statements l r)) ∙ is));
       })
 
-  -- a view begins, and then it goes on by a word that keeps them
-  pub tabled_begins : {F : Type 0} (last : Word F) → Stays last → (t : Setting F) (r : Replica) (f : F) → Enters u start i r → is_primary r ≡ true → (q : Quorums) (hs : List Header) → choice q (stated r) ≡ Ends hs
-      → MayTake (chosen_log r (stated r) hs) r
-      → Tabled u start i ((says (choose_line (stated r) (chosen_log r (stated r) hs)) ⨾ take (chosen_log r (stated r) hs) ⨾ says (send_to_all start_view) ⨾ by (λ q. each prepare_again (ops q.commit (chosen_log r (stated r) hs).head)) ⨾ last) t r f)
-  tabled_begins last stays_last t r f y prim q hs ends may =
+  -- a view begins
+  pub tabled_begin : {F : Type 0} (t : Setting F) (r : Replica) (f : F) → Enters u start i r → is_primary r ≡ true → (q : Quorums) (hs : List Header) → choice q (stated r) ≡ Ends hs → MayTake (chosen_log r (stated r) hs) r
+      → Tabled u start i (begin_view (stated r) (chosen_log r (stated r) hs) t r f)
+  unfolding begin_view
+  tabled_begin t r f y prim q hs ends may =
       let log : Log = chosen_log r (stated r) hs in
       let log_is = chosen_log_is r q (stated r) hs (all_stated r y.sound) ends in
       tabled_says_then u start i (choose_line (stated r) log) _ t r f (λ d.
       tabled_take_then u start i log _ t r d (λ d.
       tabled_says_then u start i (send_to_all start_view) _ t (with_saved (taken log r)) d (λ d.
-      tabled_prepared last stays_last log r y log_is may refl prim t d)))
-
-  tabled_begin : {F : Type 0} (t : Setting F) (r : Replica) (f : F) → Enters u start i r → is_primary r ≡ true → (q : Quorums) (hs : List Header) → choice q (stated r) ≡ Ends hs → MayTake (chosen_log r (stated r) hs) r
-      → Tabled u start i (begin_view (stated r) (chosen_log r (stated r) hs) t r f)
-  unfolding begin_view
-  tabled_begin t r f y prim q hs ends may = tabled_begins apply stays_apply t r f y prim q hs ends may
+      tabled_prepared log r y log_is may refl prim t d)))
 
   tabled_quiet : {F : Type 0} (t : Setting F) (r : Replica) (f : F) → Enters u start i r → Tabled u start i (quiet t r f)
   tabled_quiet t r f y = tabled_entered u start i r (quiet t r f) (quiet_is t r f) y

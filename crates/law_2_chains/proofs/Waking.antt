@@ -1,17 +1,16 @@
 -- A group that was just made: the machine's members are started one after the other.
 use Rattle.vr_base.specs.declared.kind.Kind.{Kind}
-use Rattle.std.proofs.Common.{ℕ, zero, suc, ◌+◌, ◌≤◌, ◌<◌, ◌^◌, ◌≡◌, ◌∙◌, inl, inr, arith, refl, sym, ap, subst, true, List, [], Some, None, is_some}
+use Rattle.std.proofs.Common.{ℕ, zero, suc, ◌+◌, ◌≤◌, ◌<◌, ◌^◌, ◌≡◌, ◌∙◌, inl, inr, arith, refl, sym, ap, subst, List, [], Some, None}
 use Rattle.std.specs.Prelude.{All}
 use Rattle.std.proofs.lemmas.Bool.{cases_lt}
 use Rattle.std.proofs.lemmas.List.Elements.{All-nil}
-use Rattle.vr_base.specs.Groups.{quorums_of}
+use Rattle.vr_base.proofs.Members.{is_sized}
 use Rattle.vr_header.specs.declared.header.Header.{Header}
 use Rattle.vr_world.specs.Lying.{lying}
-use Rattle.vr_world.specs.Opening.{AreKinds, IsKind, blank, fresh}
+use Rattle.vr_world.specs.Opening.{AreKinds, fresh}
 use Rattle.vr_world.specs.Group.{Played, Run, fresh_group, fresh_member}
 use Rattle.vr_world.specs.GroupFit.{IsFitGroup, IsFitMove}
 use Rattle.vr_header.specs.declared.part.Part.TheVariants.{Here, Nothing}
-use Rattle.vr_world.proofs.FitFresh.{fresh_fits}
 use Rattle.vr_world.proofs.FitGroups.{fresh_at, fresh_group_fits}
 use Rattle.law_1_machine.specs.Basics.{update}
 use Rattle.law_1_machine.proofs.Counting.{here, elsewhere}
@@ -98,16 +97,12 @@ module _ (u : Setup) where
 
 -- ---- the group
 
-sized : (kind : Kind) (c n i : ℕ) → IsKind kind → c < 2 ^ 64 → 2 ≤ n → n ≤ 6 → i < n → is_some (quorums_of n) ≡ true
-unfolding blank
-sized kind c n i k l a b m = (fresh_fits kind c n i k l a b m).sound.size
-
-module _ (u : Setup) (kinds : ℕ → Kind) (c n : ℕ) (are : AreKinds kinds n) (l : c < 2 ^ 64) (a : 2 ≤ n) (b : n ≤ 6) (n_is : u.quorums.n ≡ n) where
+module _ (u : Setup) (kinds : ℕ → Kind) (c n : ℕ) (are : AreKinds kinds n) (b : n ≤ 6) (n_is : u.quorums.n ≡ n) where
   member_is : (i : ℕ) → i < n → IsMember u (begun u n) i (fresh_member (kinds i) c n i)
   member_is i m =
       let s : Group Header = begun u n in
       let same : s.members i ≡ awake u = (members_at u n i).0 m in
-      let size = sized (kinds i) c n i (are i m) l a b m in
+      let size = is_sized (kinds i).version n (are i m).1 b in
       let d = disk_is u (kinds i) c n i size m n_is in
       let run : IsRunning u s i (fresh_member (kinds i) c n i) (fresh (kinds i) c n i) = record {
         memory = loaded u;
@@ -133,11 +128,11 @@ module _ (u : Setup) (kinds : ℕ → Kind) (c n : ℕ) (are : AreKinds kinds n)
     made = All-nil (WasMade []);
   }
 
-pub fresh_runs_so : (kinds : ℕ → Kind) (c n : ℕ) (run : List Played) → AreKinds kinds n → c < 2 ^ 64 → 2 ≤ n → n ≤ 6 → All (λ p. IsFitMove p.move) run → Run (fresh_group kinds c n) run → FollowsFresh kinds c n run
+pub fresh_runs_so : (kinds : ℕ → Kind) (c n : ℕ) (run : List Played) → AreKinds kinds n → c < 2 ^ 64 → 1 ≤ n → n ≤ 6 → All (λ p. IsFitMove p.move) run → Run (fresh_group kinds c n) run → FollowsFresh kinds c n run
 fresh_runs_so kinds c n run are l a b h r =
     let z = sizes_fit lying.hash c n a b in
     let u : Setup = z.0 in
-    let bridge : Bridges u (fresh_group kinds c n) (begun u n) = fresh_bridges u kinds c n are l a b z.2 in
+    let bridge : Bridges u (fresh_group kinds c n) (begun u n) = fresh_bridges u kinds c n are b z.2 in
     record {
       setup = u;
       fits = z.1;

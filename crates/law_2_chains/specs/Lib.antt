@@ -8,7 +8,6 @@ pub mod Choices
 pub mod Openings
 pub mod Lone
 pub mod ChainLaws
-pub mod LoneWords
 pub mod LoneLaws
 pub mod Bridge
 pub mod RunLaws

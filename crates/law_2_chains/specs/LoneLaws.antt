@@ -1,4 +1,4 @@
--- The laws of a group of one, as far as they hold of a group of any size.
+-- The laws of a group of one; those of vouching and of requests hold of a group of any size.
 use Rattle.std.specs.Prelude.{ℕ, ◌≡◌, ◌<◌, ◌≤◌, true, is_some}
 use Rattle.vr_header.specs.declared.header.Header.{Header}
 use Rattle.vr_msg.specs.declared.event.Event.{Event}
@@ -7,8 +7,7 @@ use Rattle.vr_msg.specs.declared.frame.Frame.TheVariants as frame
 use Rattle.vr_msg.specs.declared.request.RequestFields.{RequestFields}
 use Rattle.vr_world.specs.Replica.{Replica, head, header_at, last_view, replication}
 use Rattle.vr_world.specs.Steps.{Setting}
-use Rattle.vr_world.specs.Rules.{changing_ticks, on_request, react}
-use Rattle.vr_world.specs.Words.{advance, apply}
+use Rattle.vr_world.specs.Rules.{on_request, react}
 use Rattle.vr_world.specs.Laws.{HasNames, IsMessage}
 use Rattle.law_1_machine.specs.Group.{Group}
 use Rattle.law_2_chains.specs.Local.{Local}
@@ -16,7 +15,6 @@ use Rattle.law_2_chains.specs.Chains.{Setup, Mid, Every, AsksNothing}
 use Rattle.law_2_chains.specs.ChainLaws.{MayArrive}
 use Rattle.law_2_chains.specs.Tables.{Fits, HasTables, Tables}
 use Rattle.law_2_chains.specs.Lone.{LoneChooses, Vouched}
-use Rattle.law_2_chains.specs.LoneWords.{ticks_ending}
 
 -- In the middle of a step that has said nothing that asks something, a replica may vouch for what it has stored; and the step can go on
 -- from there.
@@ -39,14 +37,3 @@ LoneStepsAreChains F =
     (u : Setup) (start : Group Header) (i : ℕ) (t : Setting F) (r : Replica) (f : F) (l : Local) (e : Event) → Fits u → u.quorums.n ≡ 1 → Mid u start i r l start → HasTables u start i r
     → t.hash ≡ u.hash → r.cluster ≡ u.cluster → HasNames t → (0 < head r → is_some (header_at r (head r)) ≡ true) → Every AsksNothing l.said → MayArrive u start e
     → LoneChooses u start i l e r (react e t r f)
-
--- And so is a tick at one that hasn't started its view, where its view begins with Advance in place of Apply: what is stored of the log
--- counts at once.
-abbrev pub LoneTriesAreChains : Type 0 → Type 0
-LoneTriesAreChains F =
-    (u : Setup) (start : Group Header) (i : ℕ) (t : Setting F) (r : Replica) (f : F) (l : Local) → Fits u → u.quorums.n ≡ 1 → Mid u start i r l start → Tables u start i r → r.log_view < r.view → Every AsksNothing l.said
-    → LoneChooses u start i l event.Tick r (ticks_ending advance t r f)
-
--- where it ends in Apply, as the rules have it, such a tick is theirs
-abbrev pub TicksEndInApply : Type 0 → Type 0
-TicksEndInApply F = (t : Setting F) (r : Replica) (f : F) → changing_ticks t r f ≡ ticks_ending apply t r f

@@ -1,5 +1,5 @@
 -- An opening as a chain of the machine's moves, in its two parts.
-use Rattle.std.specs.Prelude.{ℕ, ◌+◌, ◌≤◌, ◌≡◌, List, Contains, None}
+use Rattle.std.specs.Prelude.{ℕ, ◌+◌, ◌≡◌, List, Contains, None}
 use Rattle.vr_header.specs.declared.header.Header.{Header}
 use Rattle.vr_super.specs.Copies.{IsGood, SuperValue}
 use Rattle.vr_world.specs.Replica.{parts_from}

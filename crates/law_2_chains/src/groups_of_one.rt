@@ -1,5 +1,5 @@
 //! A replica that is a group by itself, as far as the machine is asked. Each function is a law: its contract is the statement, and it does nothing.
-ghost use Rattle.law_2_chains.specs.LoneLaws.{LoneReplicasVouch, LoneStepsAreChains, LoneTriesAreChains, RequestsAreLoneChains, TicksEndInApply};
+ghost use Rattle.law_2_chains.specs.LoneLaws.{LoneReplicasVouch, LoneStepsAreChains, RequestsAreLoneChains};
 
 /// In the middle of a step a replica may vouch for what it has stored, and go on from there.
 pub fn lone_replicas_vouch()
@@ -14,14 +14,4 @@ pub fn requests_are_lone_chains<F>()
 /// Each step of a replica that is a group by itself is such a chain.
 pub fn lone_steps_are_chains<F>()
     ensures { LoneStepsAreChains F }
-{}
-
-/// So is a tick at one that hasn't started its view, where what is stored of the log with which it begins counts at once.
-pub fn lone_tries_are_chains<F>()
-    ensures { LoneTriesAreChains F }
-{}
-
-/// That tick is the rules' own but for its last word, which is Apply there.
-pub fn ticks_end_in_apply<F>()
-    ensures { TicksEndInApply F }
 {}

@@ -1,8 +1,8 @@
 -- Each line of a schedule is a move of the group, or none.
-use Rattle.std.proofs.Common.{◌∷◌, inr, ℕ, ◌+◌, ◌-◌, ◌%◌, ◌<◌, ◌≤◌, ◌≡◌, refl, sym, ap, ◌∙◌, subst, Bool, true, false, cond, List, [], ◌++◌, length, take, Option, Some, None}
+use Rattle.std.proofs.Common.{◌∷◌, inr, ℕ, ◌+◌, ◌-◌, ◌%◌, ◌<◌, ◌≡◌, refl, sym, ap, ◌∙◌, subst, Bool, true, false, cond, List, [], ◌++◌, length, take, Option, Some, None}
 use Rattle.std.specs.Prelude.{nat_le, slice_get}
 use Rattle.std.specs.Option.{option_map, option_map_or}
-use Rattle.std.proofs.lemmas.Bool.{eq-eqb, le-leb, leb-false, leb-true}
+use Rattle.std.proofs.lemmas.Bool.{eq-eqb, leb-false, leb-true}
 use Rattle.vr_disk.specs.DiskState.{Fuse}
 use Rattle.vr_msg.specs.declared.event.Event.TheVariants as event
 use Rattle.vr_msg.specs.declared.output.Output.TheVariants as output
@@ -180,10 +180,6 @@ module _ {home : ℕ} (w : World Lying) (g : Group) (i : ℕ) (m : world.Host Ly
         | false ↦ λ t. start_halts v u run o f may (leb-false made u.calls t) (tells u refl)
       ] refl
 
-  -- the group's size is the value's
-  pub off_several : (v : SuperValue) → IsOff m.disk q v → 2 ≤ v.fields.n
-  off_several v o = let own = good_value home g.n i q v (fits.members i q there) o.may in subst (λ (k : ℕ). 2 ≤ k) (sym own.1.n) fits.several
-
   -- what the script of an opening is
   pub record StartsWell (v : SuperValue) : Type 0 where
     pub value : IsGood v
@@ -204,10 +200,9 @@ module _ {home : ℕ} (w : World Lying) (g : Group) (i : ℕ) (m : world.Host Ly
       let own = good_value home g.n i q v is o.may in
       let file : d.version ≡ is.edition = o.file ∙ own.1.version in
       let value : IsFitValue home g.n i d.version v = subst (λ (k : ℕ). IsFitValue home g.n i k v) (sym file) own in
-      let step = start_is home g.n i d.version v d fits.several value (lies_fit.reads d o.calm.face) in
-      let several = off_several v o in
-      let f = openings_find d q v g.made several o made in
-      let h = is_mended_of v d q several o in
+      let step = start_is home g.n i d.version v d value (lies_fit.reads d o.calm.face) in
+      let f = openings_find d q v g.made o made in
+      let h = is_mended_of v d q o in
       let of = recovered_saved v d in
       let chain = c_resuming.each lying r mid in
       let known = known_right home g.n i d.version xs ys step.known in
@@ -231,7 +226,7 @@ module _ {home : ℕ} (w : World Lying) (g : Group) (i : ℕ) (m : world.Host Ly
   pub opened_as : (v : SuperValue) → IsOff m.disk q v → opened lying m.disk ≡ Some (whole v m.disk)
   unfolding opened
   opened_as v o =
-      let is : lying.opens m.disk ≡ Some v = ap (option_and_then (of_version m.disk.version)) o.value ∙ (rw (eq-eqb v.fields.version m.disk.version (sym o.file), le-leb 2 v.fields.n (off_several v o)) refl) in
+      let is : lying.opens m.disk ≡ Some v = ap (option_and_then (of_version m.disk.version)) o.value ∙ rw (eq-eqb v.fields.version m.disk.version (sym o.file)) refl in
       ap (option_map (λ (v : SuperValue). opening v lying (blank v) m.disk)) is ∙ ap Some (opening_is v m.disk)
 
   start_line : (r : Option Replica) → m.replica ≡ r → ((v : SuperValue) → r ≡ None → opens m.disk.face ≡ Some v → AreMade g.made v (lying.after m.disk (Mend v))) → ((k : Work) → starting_by m r ≡ Some k → WorksWell k)

@@ -46,7 +46,8 @@ use Rattle.law_3_outputs.proofs.Fitting.{IsOpening, arrives, file_at, fit_at, mo
 use Rattle.law_3_outputs.proofs.Ordering.{come_in_order}
 use Rattle.law_3_outputs.proofs.Reading.{opening_reads, reads_good}
 use Rattle.law_3_outputs.proofs.Resuming.{on_disk, resumed_order, said_right}
-use Rattle.law_3_outputs.proofs.Sets.{every_at, get_in, in_contains, in_left, in_right}
+use Rattle.law_3_outputs.proofs.StoredLists.{in_contains}
+use Rattle.law_3_outputs.proofs.Sets.{every_at, get_in, in_left, in_right}
 use Rattle.law_3_outputs.proofs.SlotCalls.{IsTaken, member_taken, read_or_written}
 use Rattle.law_6_one_log.specs.Hashed.{ReadsHashed}
 use Rattle.law_6_one_log.proofs.Disks.{Begun}
@@ -220,10 +221,10 @@ module _ (cluster n : ℕ) (u : Setup) (run : List Played) (x : IsFollowed clust
 
   module _ (t : ℕ) (p : Played) (is : slice_get run t ≡ Some p) where
     here : Contains run p
-    here = in_contains run p (get_in run t p is)
+    here = in_contains p run (get_in run t p is)
 
     pub begun_in : (e : Effect) → In e p.moved.script → Begun H e
-    begun_in e i bytes w = wrote p e bytes here (in_contains p.moved.script e i) w
+    begun_in e i bytes w = wrote p e bytes here (in_contains e p.moved.script i) w
 
     pub reads_in : (d : Lying) → Contains (disks_of p.move) d → ReadsHashed H d.face
     reads_in d face name c e = record { payload = read p d c.payload here face (safe.IsRead.payload name c e); header = read p d _ here face (safe.IsRead.block name c e) }

@@ -27,7 +27,8 @@ use Rattle.law_1_machine.specs.Basics.{In}
 use Rattle.law_4_disks.specs.Worlds.{IsAside, IsMatched, Said}
 use Rattle.law_4_disks.specs.Worlds as worlds
 use Rattle.law_3_outputs.specs.Followed.{IsFitRun}
-use Rattle.law_3_outputs.proofs.Sets.{contains_in, get_in, in_get, in_left, in_right}
+use Rattle.law_3_outputs.proofs.StoredLists.{contains_in}
+use Rattle.law_3_outputs.proofs.Sets.{get_in, in_get, in_left, in_right}
 use Rattle.law_3_outputs.proofs.Traces.{in_either, output_of_move}
 use Rattle.law_6_one_log.specs.Laws.{HasOneLog, KeepsLog, KeepsOneLog}
 use Rattle.law_6_one_log.specs.Outputs.{IsCutByNacks, IsOnceInSession, IsPlaced, RestsOn}
@@ -220,11 +221,11 @@ keeps_log kinds home n k number few many one h m never =
       names = never;
       folds = λ t p is. (o.folds never t p is).1;
       rests = λ number o e. rests_aside home n s.log m.run (take number h.outputs) o (λ not. rests home n m.run s never (take number h.outputs) o (place_of m.run h.outputs m.said number o e not));
-      lines = λ c d i j same. one_line home n m.run s never c d (said_in h.outputs gs m.said (output.Commit c) (λ a. a) (contains_in h.outputs (output.Commit c) i))
-          (said_in h.outputs gs m.said (output.Commit d) (λ a. a) (contains_in h.outputs (output.Commit d) j)) same;
+      lines = λ c d i j same. one_line home n m.run s never c d (said_in h.outputs gs m.said (output.Commit c) (λ a. a) (contains_in (output.Commit c) h.outputs i))
+          (said_in h.outputs gs m.said (output.Commit d) (λ a. a) (contains_in (output.Commit d) h.outputs j)) same;
       logged = λ v c fc nc above kc. s.one v c fc nc above (committed_said (run_stored m.run) h.outputs gs all home n v c kc);
       one = λ v w c d fc fd nc nd above same kc kd. one_entry home n m.run s v w c d fc fd nc nd above same (committed_said (run_stored m.run) h.outputs gs all home n v c kc) (committed_said (run_stored m.run) h.outputs gs all home n w d kd);
-      kept = λ v c fc nc above kc o i. kept_aside v c o (λ not. kept_in home n m.run s v c fc nc above (committed_said (run_stored m.run) h.outputs gs all home n v c kc) o (said_in h.outputs gs m.said o not (contains_in h.outputs o i)));
+      kept = λ v c fc nc above kc o i. kept_aside v c o (λ not. kept_in home n m.run s v c fc nc above (committed_said (run_stored m.run) h.outputs gs all home n v c kc) o (said_in h.outputs gs m.said o not (contains_in o h.outputs i)));
       cut = λ number l e. cut_in home n m.run s never (take number h.outputs) h.outputs all l (place_of m.run h.outputs m.said number (output.Choose l) e (λ a. a));
       once = once s.log;
     }

@@ -1,5 +1,5 @@
 -- An opening in two: what it mends and finds, and what comes of it.
-use Rattle.std.proofs.Common.{◌≡◌, ◌∙◌, sym, ap, refl, List, [], ◌∷◌, ◌++◌}
+use Rattle.std.proofs.Common.{◌≡◌, sym, ap, refl, List, [], ◌∷◌, ◌++◌}
 use Rattle.std.proofs.lemmas.List.{append_assoc}
 use Rattle.vr_super.specs.Copies.{SuperValue}
 use Rattle.vr_rules.specs.Replica.{Replica}

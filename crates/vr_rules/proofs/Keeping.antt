@@ -1,10 +1,10 @@
 -- Changes of single fields keep a replica sound.
 use Rattle.vr_super.specs.Copies.{SuperValue}
 use Rattle.vr_base.specs.Kinds.{strict}
-use Rattle.std.proofs.Common.{ℕ, ◌+◌, ◌-◌, ◌%◌, ◌≤◌, ◌<◌, ◌≡◌, ◌≢◌, ◌∙◌, arith, sym, ap, true, List, [], length, get_or, drop, Option, Some, None, is_some}
+use Rattle.std.proofs.Common.{ℕ, ◌+◌, ◌-◌, ◌%◌, ◌≤◌, ◌<◌, ◌≡◌, ◌≢◌, ◌∙◌, arith, sym, ap, true, List, [], length, get_or, drop, Option, Some, None}
 use Rattle.std.proofs.lemmas.List.{length-drop}
 use Rattle.vr_base.specs.declared.replicas.Replicas.{Replicas}
-use Rattle.vr_base.specs.Groups.{quorums_of}
+use Rattle.vr_base.specs.Groups.{is_size}
 use Rattle.vr_base.specs.Replicas.{no_replicas}
 use Rattle.vr_header.specs.Names.{no_name}
 use Rattle.vr_msg.specs.declared.statement.Statement.{Statement}
@@ -225,7 +225,7 @@ sound_applied r a m b h =
 -- ---- sound but for ops that should be forgotten
 
 pub record Roomy (r : Replica) : Type 0 where
-  pub size : is_some (quorums_of r.n) ≡ true
+  pub size : is_size (version r) r.n ≡ true
   pub member : r.index < r.n
   pub order : IsOrdered r
   pub first : 1 ≤ r.first

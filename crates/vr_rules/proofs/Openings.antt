@@ -382,6 +382,6 @@ sound_rest {F} s r f h = cond_both (is_spent r) (says start_line) going_on (λ (
 
 pub openings_are_sound : {F : Type 0} → OpeningsAreSound F
 unfolding opening ◌⨾◌ does after_all
-openings_are_sound = λ s f v k g two.
+openings_are_sound = λ s f v k g.
     let d = s.after f (Mend v) in
-    sound_rest s (recover_parts v s (blank v) d).replica _ (recovered v s d (value_is v g two) (reads_after s f (Mend v) g k))
+    sound_rest s (recover_parts v s (blank v) d).replica _ (recovered v s d (value_is v g) (reads_after s f (Mend v) g k))

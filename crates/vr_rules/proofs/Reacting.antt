@@ -2,17 +2,13 @@
 use Rattle.vr_header.proofs.Putting.{body_fits}
 use Rattle.vr_base.proofs.Versions.{between}
 use Rattle.vr_base.specs.Versions.{body_limit}
-use Rattle.std.proofs.Common.{ℕ, ◌+◌, ◌-◌, ◌≤◌, ◌<◌, ◌≡◌, ◌≢◌, ◌^◌, arith, refl, ap, Bool, not, List, [], ◌++◌, length, Option, Some, None}
+use Rattle.std.proofs.Common.{ℕ, ◌+◌, ◌-◌, ◌≤◌, ◌<◌, ◌≡◌, ◌≢◌, ◌^◌, arith, refl, ap, Bool, not, List, [], length, Option, Some, None}
 use Rattle.std.specs.Prelude.{find, filter, is_some, nat_lt, nat_le, ◌==◌}
 use Rattle.std.proofs.lemmas.Bool.{and_parts, or_parts, not-false, not-true, ltb-false, leb-false, eqb-true}
-use Rattle.std.proofs.lemmas.List.{length-append}
-use Rattle.vr_base.specs.Bytes.{bytes16}
-use Rattle.vr_base.proofs.FieldLaws.{length-bytes16}
 use Rattle.vr_header.specs.declared.operation.Operation.{Operation}
 use Rattle.vr_header.specs.declared.operation.Operation.TheVariants.{Register, Put, Get, Delete}
 use Rattle.vr_header.specs.Bodies.{IsOperation, operation_bytes}
 use Rattle.vr_header.specs.Made.{Whole}
-use Rattle.vr_header.proofs.BodyLaws.{text_limit}
 use Rattle.vr_ckpt.specs.declared.name.Name.{Name}
 use Rattle.vr_msg.specs.declared.event.Event.{Event}
 use Rattle.vr_msg.specs.declared.event.Event.TheVariants as event

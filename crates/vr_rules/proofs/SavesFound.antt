@@ -3,7 +3,7 @@ use Rattle.std.proofs.Common.{arith, ◌≡◌, ◌⊎◌, ◌≤◌, ◌<◌, �
 use Rattle.std.specs.Prelude.{filter, slice_get, nat_lt, nat_le, nat_eq, ◌&&◌, ◌||◌}
 use Rattle.std.specs.List.{range_with_len}
 use Rattle.std.proofs.lemmas.Bool.{and_parts, or_cases, cases_lt, cases_eq, ltb-true, leb-true, leb-false, eqb-true}
-use Rattle.vr_base.specs.Groups.{least_members}
+use Rattle.vr_base.specs.Groups.{is_size}
 use Rattle.vr_base.specs.Bytes.{is_zeros}
 use Rattle.vr_header.specs.declared.header.Header.{Header}
 use Rattle.vr_header.specs.declared.part.Part.{Part}
@@ -161,7 +161,7 @@ savable_found v ps g top =
     let a = and_parts (good_member k) (good_window k && (good_root k && good_count k n)) g.fields in
     let b = and_parts (good_window k) (good_root k && good_count k n) a.1 in
     let c = and_parts (good_root k) (good_count k n) b.1 in
-    let member = and_parts (nat_lt k.replica k.n) (nat_le k.log_view k.view && nat_lt k.log_view (2 ^ 32 - 1)) (and_parts (nat_le (least_members k.version) k.n && nat_le k.n 6) _ a.0).1 in
+    let member = and_parts (nat_lt k.replica k.n) (nat_le k.log_view k.view && nat_lt k.log_view (2 ^ 32 - 1)) (and_parts (is_size k.version k.n) _ a.0).1 in
     let root = and_parts (nat_lt k.root_address 128) (nat_lt 0 k.checkpoint || (nat_eq k.root_address 0 && is_zeros k.root_name.0)) c.0 in
     record {
       cluster = g.numbers.cluster;

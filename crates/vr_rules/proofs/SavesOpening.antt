@@ -133,10 +133,10 @@ recover_saves s v f b k = saves_then s (blank v) f (recover_parts v) b ((unsaved
 
 pub openings_save_well : {F : Type 0} → OpeningsSaveWell F
 unfolding opening does after_all
-openings_save_well s f v k roots g two =
+openings_save_well s f v k roots g =
     let d = s.after f (Mend v) in
     let reads = reads_after s f (Mend v) g k in
-    let w = value_is v g two in
+    let w = value_is v g in
     let r = (recover_parts v s (blank v) d).replica in
     saves_then s (blank v) f (does (λ r. Mend v)) _ (All-cons IsGoodSave (Mend v) [] tt (All-nil IsGoodSave))
     (recover_saves s v d _ (rest_saves s r _ (is_spent r) refl roots (recovered v s d w reads) (savable_recovered v s d g w reads)))

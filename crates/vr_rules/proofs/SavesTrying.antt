@@ -1,5 +1,5 @@
 -- Words that move the commit number, take a log over or load a checkpoint save values that make good copies.
-use Rattle.std.proofs.Common.{arith, ◌≡◌, ◌≤◌, ◌<◌, ◌+◌, ◌-◌, ◌^◌, refl, ℕ, true, not, List, [], min, max, Result, Ok, Err, Option, Some, None}
+use Rattle.std.proofs.Common.{arith, ◌≡◌, ◌≤◌, ◌<◌, ◌+◌, ◌-◌, ◌^◌, refl, ℕ, true, not, List, [], min, max, Option, Some, None}
 use Rattle.std.specs.Prelude.{nat_lt, nat_le, ◌&&◌}
 use Rattle.std.specs.List.{prefix_len}
 use Rattle.std.proofs.lemmas.Bool.{cond_both}
@@ -11,7 +11,6 @@ use Rattle.vr_ckpt.specs.declared.found.Load.TheVariants.{Loaded, Missing}
 use Rattle.vr_ckpt.specs.declared.table.PayloadTable.{PayloadTable}
 use Rattle.vr_ckpt.specs.State.{State}
 use Rattle.vr_ckpt.specs.StateTexts.{state_decoded}
-use Rattle.vr_ckpt.specs.StateFault.{StateFault}
 use Rattle.vr_ckpt.specs.declared.name.Name.{Name}
 use Rattle.vr_base.specs.Groups.{quorums_of}
 use Rattle.vr_msg.specs.declared.choice.Choice.{Choice}
@@ -105,7 +104,7 @@ module _ {F : Type 0} (v : ℕ) (s : Setting F) (roots : SavesRoots s) where
   good_begin n ss l r f log may a b h =
       good_says_then v s n (choose_line ss l) _ r f (λ d.
       good_then v s (n + 64) n (take l) _ r d (good_take v s (n + 64) l r d log may a b (well_less v (n + 64 + 1) (n + 65) r (omega arith) h)) (λ q x w.
-      (goods_then v s 0 64 _ _ (goods_says v s _) (goods_then v s 0 64 _ _ (goods_by v s 0 _ (λ r. goods_each v s prepare_again (ops r.commit l.head) (goods_prepare_again v s))) (goods_apply v s roots))).every n q x w))
+      (goods_then v s 0 64 _ _ (goods_says v s _) (goods_then v s 0 64 _ _ (goods_by v s 0 _ (λ r. goods_each v s prepare_again (ops r.commit l.head) (goods_prepare_again v s))) (goods_by v s 64 _ (λ r. goods_if v s 64 _ _ _ goods_advance (goods_apply v s roots))))).every n q x w))
 
   good_try_log : (n : ℕ) (ss : List Statement) (l : Log) (r : Replica) (f : F) → IsLogFor r l → l.view < v → v ≤ 2 ^ 32 - 1 → Well v (n + 65) r → GoodBy {F = F} v n (try_log ss l) s r f
   unfolding try_log

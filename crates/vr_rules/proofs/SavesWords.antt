@@ -146,7 +146,7 @@ module _ {F : Type 0} (v : ℕ) (s : Setting F) where
 
   pub goods_ask : Good {F = F} v 0 ask s
   unfolding ask
-  goods_ask = goods_by v s 0 _ (λ r. goods_ask_for r.missing _ r.worn)
+  goods_ask = goods_by v s 0 _ (λ r. goods_when v s 0 _ _ (goods_ask_for r.missing _ r.worn))
 
   -- ---- a visit
 

@@ -1,8 +1,8 @@
 -- The words that are calm: all but those that enter a view.
 use Rattle.vr_rules.specs.Words.{usable}
-use Rattle.std.proofs.Common.{arith, ◌≡◌, ◌≤◌, ◌<◌, ◌+◌, ◌-◌, ◌%◌, refl, sym, ap, ◌∙◌, ℕ, false, cond, List, [], ◌∷◌, Option, Some, None}
+use Rattle.std.proofs.Common.{arith, ◌≡◌, ◌≤◌, ◌<◌, ◌+◌, ◌-◌, ◌%◌, refl, sym, ap, ◌∙◌, ℕ, false, cond, List, [], ◌∷◌, Option, Some, None, inl, inr, true, not, ◌⊎◌, subst}
 use Rattle.std.specs.Prelude.{All, nat_lt, slice_get, ◌==◌}
-use Rattle.std.proofs.lemmas.Bool.{cond_both, eqb-false}
+use Rattle.std.proofs.lemmas.Bool.{cond_both, eqb-false, eq-eqb}
 use Rattle.std.proofs.lemmas.Nat.{mod_below}
 use Rattle.std.proofs.lemmas.List.Elements.{All-nil, All-cons}
 use Rattle.vr_header.specs.declared.header.Header.{Header}
@@ -15,16 +15,14 @@ use Rattle.vr_ckpt.specs.declared.found.Load.TheVariants.{Loaded, Missing}
 use Rattle.vr_ckpt.specs.declared.table.PayloadTable.{PayloadTable}
 use Rattle.vr_ckpt.specs.State.{State}
 use Rattle.vr_ckpt.specs.StateTexts.{state_decoded}
-use Rattle.vr_ckpt.specs.StateFault.{StateFault}
-use Rattle.std.proofs.Common.{Result, Ok, Err}
 use Rattle.vr_msg.specs.declared.frame.Frame.{Frame}
 use Rattle.vr_msg.specs.declared.reply.ReplyKind.{ReplyKind}
 use Rattle.vr_msg.specs.declared.statement.Statement.{Statement}
 use Rattle.vr_msg.specs.declared.choice.Choice.{Choice}
 use Rattle.vr_msg.specs.declared.choice.Choice.TheVariants.{Ends, WaitsAt, TooFew}
 use Rattle.vr_msg.specs.Normal.{primary}
-use Rattle.vr_rules.specs.Replica.{Replica, leads, is_primary, statement_of, forgetting, with_part, version}
-use Rattle.vr_rules.specs.Steps.{Mend, Word, change, does, says, outputs}
+use Rattle.vr_rules.specs.Replica.{Replica, leads, is_primary, statement_of, forgetting, with_part, version, is_alone}
+use Rattle.vr_rules.specs.Steps.{Mend, Word, change, does, says, outputs, quiet}
 use Rattle.vr_rules.specs.declared.asker.Asker.{Asker}
 use Rattle.vr_rules.specs.Outputs as told
 use Rattle.vr_rules.specs.Words as words
@@ -55,7 +53,7 @@ near_place r x h e =
     let commit : x.commit ≡ r.commit = ap (λ (p : Place). p.commit) e in
     record {
       same = record { cluster = ap (λ (p : Place). p.cluster) e; index = index; n = n; view = view; commit = omega arith };
-      placed = record { member = omega arith; views = omega arith; peer = omega arith };
+      placed = record { member = omega arith; views = omega arith; peer = subst (λ (k : ℕ). (k ≡ 1) ⊎ (x.turn + 1 < k)) (sym n) (subst (λ (k : ℕ). (r.n ≡ 1) ⊎ (k + 1 < r.n)) (sym turn) h.peer) };
     }
 
 -- or raises the commit number beside
@@ -68,6 +66,16 @@ own r = record { cluster = refl; replica = refl }
 
 pub own_commit : (r : Replica) → IsCommitOf r r r.commit
 own_commit r = record { from = omega arith; upto = omega arith }
+
+-- the peer that it asks is another replica, where there is one
+peer_of : (o r : Replica) → Near o r → (o.n ≡ 1 → ⊥) → r.turn + 1 < r.n
+peer_of o r near several = elim near.placed.peer [ inl one ↦ absurd (several (sym near.same.n ∙ one)) | inr more ↦ more ]
+
+not_alone : (o r : Replica) → Near o r → not (is_alone r) ≡ true → o.n ≡ 1 → ⊥
+not_alone o r near t one =
+    let same : r.n ≡ 1 = near.same.n ∙ one in
+    let bad : false ≡ true = rw (eq-eqb r.n 1 same) at t in
+    cc
 
 pub primary_stays : (o r : Replica) → Near o r → is_primary r ≡ is_primary o
 primary_stays o r near =
@@ -165,7 +173,7 @@ module _ {F : Type 0} {MayAsk : ℕ → ℕ → Type 0} {o : Replica} where
       calm_then _ _
       (calm_change _ (λ r near.
       let member : r.index < r.n = near.placed.member in
-      let peer : r.turn + 1 < r.n = near.placed.peer in
+      let peer = near.placed.peer in
       record {
         same = record { cluster = refl; index = refl; n = refl; view = e ∙ sym near.same.view; commit = omega arith };
         placed = record { member = member; views = omega arith; peer = peer };
@@ -182,7 +190,7 @@ module _ {F : Type 0} {MayAsk : ℕ → ℕ → Type 0} {o : Replica} where
       calm_then _ _ (calm_one _ (λ r near. (refl, refl)))
       (calm_then _ _ (calm_take l e)
       (calm_then _ _ (calm_all _ (λ r near to. (own r, refl, own_commit r)))
-      (calm_then _ _ (calm_by _ (λ r near. calm_each _ _ calm_prepare_again)) calm_apply)))
+      (calm_then _ _ (calm_by _ (λ r near. calm_each _ _ calm_prepare_again)) (calm_by _ (λ r near. calm_if _ _ _ (λ _. calm_advance) (λ _. calm_apply))))))
 
   calm_waits : (op : ℕ) → Calm {F = F} MayAsk o (says (told.wait_line op))
   calm_waits op = calm_one _ (λ r near. (refl, refl))
@@ -213,24 +221,24 @@ module _ {F : Type 0} {MayAsk : ℕ → ℕ → Type 0} {o : Replica} where
       (λ _. calm_all _ (λ r near to. (refl, refl, own_commit r)))
       (λ q. calm_primary _ (sym (primary_stays o r near) ∙ q) (λ r near. (own r, refl))))))
 
-  calm_ask_peer : (message : Replica → Frame) → ((r : Replica) (to : ℕ) → IsPresentFrame (MayAsk to) r r (message r)) → Calm {F = F} MayAsk o (words.ask_peer message)
+  calm_ask_peer : (message : Replica → Frame) → (o.n ≡ 1 → ⊥) → ((r : Replica) (to : ℕ) → IsPresentFrame (MayAsk to) r r (message r)) → Calm {F = F} MayAsk o (words.ask_peer message)
   unfolding words.ask_peer
-  calm_ask_peer message h =
-      calm_then _ _ (calm_send words.peer message (λ r near. peer_is r.index r.n r.turn near.placed.member near.placed.peer) (λ r near. h r _))
+  calm_ask_peer message several h =
+      calm_then _ _ (calm_send words.peer message (λ r near. peer_is r.index r.n r.turn near.placed.member (peer_of o r near several)) (λ r near. h r _))
       (calm_change _ (λ r near. record {
         same = record { cluster = refl; index = refl; n = refl; view = refl; commit = omega arith };
-        placed = record { member = near.placed.member; views = near.placed.views; peer = turn_is r.n r.turn near.placed.peer };
+        placed = record { member = near.placed.member; views = near.placed.views; peer = inr (turn_is r.n r.turn (peer_of o r near several)) };
       }))
 
-  calm_ask_for : (names : List Name) (absent : Option Header) (worn : List Name) → Calm {F = F} MayAsk o (words.ask_for names absent worn)
-  calm_ask_for (name ∷ names) absent worn = calm_ask_peer _ (λ r to. own r)
-  calm_ask_for [] (Some h) worn = calm_naming _ (λ hash. calm_ask_peer _ (λ r to. own r))
-  calm_ask_for [] None (name ∷ names) = calm_ask_peer _ (λ r to. own r)
-  calm_ask_for [] None [] = calm_quiet
+  calm_ask_for : (names : List Name) (absent : Option Header) (worn : List Name) → (o.n ≡ 1 → ⊥) → Calm {F = F} MayAsk o (words.ask_for names absent worn)
+  calm_ask_for (name ∷ names) absent worn several = calm_ask_peer _ several (λ r to. own r)
+  calm_ask_for [] (Some h) worn several = calm_naming _ (λ hash. calm_ask_peer _ several (λ r to. own r))
+  calm_ask_for [] None (name ∷ names) several = calm_ask_peer _ several (λ r to. own r)
+  calm_ask_for [] None [] several = calm_quiet
 
   pub calm_ask : Calm {F = F} MayAsk o words.ask
   unfolding words.ask
-  calm_ask = calm_by _ (λ r near. calm_ask_for _ _ _)
+  calm_ask = calm_by _ (λ r near. calm_if (not (is_alone r)) _ quiet (λ t. calm_ask_for _ _ _ (not_alone o r near t)) (λ _. calm_quiet))
 
   -- ---- a visit of the disk
 

@@ -118,7 +118,7 @@ module _ {F : Type 0} where
 
   pub still_ask : Still words.ask
   unfolding words.ask
-  still_ask = still_by _ (λ r. still_ask_for _ _ _)
+  still_ask = still_by _ (λ r. still_if _ _ _ (still_ask_for _ _ _) still_quiet)
 
   -- ---- what may wait
 

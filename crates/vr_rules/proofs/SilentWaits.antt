@@ -177,15 +177,15 @@ module _ {F : Type 0} where
         rw (outputs_append (map Say (os r)) b.script, outputs_said (os r)) (All-append IsNoWait (os r) (outputs b.script) (n r) ((unwaiting_mute w h).said s r d));
   }
 
+  pub mute_advance : Mute words.advance
+  unfolding words.advance
+  mute_advance = mute_then _ _ (mute_change _) mute_apply
+
   pub unwaiting_begin : (ss : List Statement) (l : words.Log) → Unwaiting (words.begin_view ss l)
   unfolding words.begin_view
   unwaiting_begin ss l =
       unwaiting_says (words.choose_line ss l) _ (λ r. All-cons IsNoWait _ [] tt (All-nil IsNoWait))
-      (mute_then _ _ (mute_take l) (mute_then _ _ (mute_all _) (mute_then _ _ (mute_by _ (λ r. mute_each _ _ mute_prepare_again)) mute_apply)))
-
-  pub mute_advance : Mute words.advance
-  unfolding words.advance
-  mute_advance = mute_then _ _ (mute_change _) mute_apply
+      (mute_then _ _ (mute_take l) (mute_then _ _ (mute_all _) (mute_then _ _ (mute_by _ (λ r. mute_each _ _ mute_prepare_again)) (mute_by _ (λ r. mute_if _ _ _ mute_advance mute_apply)))))
 
   pub mute_learn : (c : ℕ) → Mute (words.learn c)
   unfolding words.learn

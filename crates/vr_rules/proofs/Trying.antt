@@ -30,7 +30,7 @@ use Rattle.vr_rules.proofs.Combining.{KeptBy, Keeps, kept_then, kept_says_then, 
 use Rattle.vr_rules.proofs.Stating.{own_statement}
 use Rattle.vr_rules.specs.Given.{IsLogFor}
 use Rattle.vr_rules.proofs.Taking.{MayTake, may_take_is, kept_take, log_reaches}
-use Rattle.vr_rules.proofs.Wording.{keeps_prepare_again, keeps_apply}
+use Rattle.vr_rules.proofs.Wording.{keeps_prepare_again, keeps_apply, keeps_advance}
 
 -- ---- lists
 
@@ -166,7 +166,7 @@ unfolding begin_view
 kept_begin_view ss l s r f h log m =
     kept_says_then (choose_line ss l) _ s r f (λ d.
     kept_then (take l) _ s r d (kept_take l s r d h log m)
-    (keeps_then _ _ (keeps_says _) (keeps_then _ _ (keeps_by _ (λ r. keeps_each prepare_again (ops r.commit l.head) keeps_prepare_again)) keeps_apply)))
+    (keeps_then _ _ (keeps_says _) (keeps_then _ _ (keeps_by _ (λ r. keeps_each prepare_again (ops r.commit l.head) keeps_prepare_again)) (keeps_by _ (λ r. keeps_if _ _ _ keeps_advance keeps_apply)))))
 
 kept_try_log : {F : Type 0} (ss : List Statement) (l : Log) (s : Setting F) (r : Replica) (f : F) → IsSound r → IsLogFor r l → KeptBy (try_log ss l) s r f
 unfolding try_log

@@ -207,7 +207,7 @@ keeps_ask_for [] None [] = keeps_quiet
 
 pub keeps_ask : {F : Type 0} → Keeps {F = F} ask
 unfolding ask
-keeps_ask = keeps_by _ (λ r. keeps_ask_for r.missing _ r.worn)
+keeps_ask = keeps_by _ (λ r. keeps_when _ _ (keeps_ask_for r.missing _ r.worn))
 
 -- ---- loading
 

@@ -1,7 +1,7 @@
 -- What a replica keeps of itself between steps.
 use Rattle.std.specs.Prelude.{ℕ, ◌+◌, ◌-◌, ◌%◌, ◌^◌, ◌<◌, ◌≤◌, ◌≡◌, ◌≢◌, true, false, is_some, List, [], length, slice_index_or, Some, None}
 use Rattle.vr_base.specs.Bytes.{IsBytes, is_zeros}
-use Rattle.vr_base.specs.Groups.{quorums_of}
+use Rattle.vr_base.specs.Groups.{is_size}
 use Rattle.vr_header.specs.declared.header.Header.{Header}
 use Rattle.vr_header.specs.Spelling.{IsHeader}
 use Rattle.vr_msg.specs.declared.statement.Statement.{Statement}
@@ -45,7 +45,8 @@ pub record KnowsStatements (r : Replica) : Type 0 where
   pub each : (i : ℕ) (s : Statement) → slice_index_or r.statements i None ≡ Some s → IsStated (version r) r.cluster r.view s
 
 pub record IsSound (r : Replica) : Type 0 where
-  pub size : is_some (quorums_of r.n) ≡ true
+  -- so many members as groups with its file may have
+  pub size : is_size (version r) r.n ≡ true
   pub member : r.index < r.n
   pub order : IsOrdered r
   pub lists : IsListed r

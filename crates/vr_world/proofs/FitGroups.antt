@@ -1,4 +1,5 @@
 -- Every group in a run of one is fit.
+use Rattle.vr_base.specs.Groups.{least_members}
 use Rattle.vr_base.specs.declared.kind.Kind.{Kind}
 use Rattle.std.proofs.Common.{arith, ◌≡◌, ◌≤◌, ◌<◌, ◌+◌, ◌^◌, ◌⊎◌, inl, inr, refl, sym, ap, ◌∙◌, subst, ℕ, zero, suc, List, [], ◌∷◌, ◌-◌, ◌++◌, length, map, take, drop, Some, None}
 use Rattle.std.specs.Prelude.{All, nat_lt, slice_get, slice_set}
@@ -170,7 +171,7 @@ one_moved : (c : ℕ) (g : Group) (at : ℕ) (old m : Member) (es : List Effect)
     → Left c g (group.with_script g at m es said).group
 one_moved c g at old m es said there h k alike fit s = record {
   fit = record {
-    several = h.several;
+    some = h.some;
     members = λ j x e. elim (set_place g.members at j m x e) [
       | inl p ↦ subst (λ k. IsFitMember c g.n k x) p.0 (subst (IsFitMember c g.n at) p.1 k)
       | inr q ↦ h.members j x q
@@ -208,17 +209,16 @@ step_is c n i ed r e d h at m k =
     let own = subst (λ (k : ℕ). IsOwnStep c n i k (stepped e r d)) at.saved.version of_file in
     record { fit = fit; known = record { fit = fit.each; saves = saves.each; own = own.each }; replica = record { sound = steps_stay_sound lying d r e lies_fit.names h.sound m; savable = saves.savable; blocks = fit.blocks }; at = own.replica }
 
-opening_is : (c n i ed : ℕ) (v : SuperValue) (d : Lying) → 2 ≤ n → IsFitValue c n i ed v → ReadsWell lying d → Stepped c n i ed (opening v lying (blank v) d)
-opening_is c n i ed v d several g k =
-    let two : 2 ≤ v.fields.n = omega (arith, several, g.1.n) in
-    let fit = openings_fit lying d v lies_fit.program lies_fit.roots k g.0 two in
-    let saves = openings_save_well lying d v (headers_of lying d k) lies_fit.roots g.0 two in
+opening_is : (c n i ed : ℕ) (v : SuperValue) (d : Lying) → IsFitValue c n i ed v → ReadsWell lying d → Stepped c n i ed (opening v lying (blank v) d)
+opening_is c n i ed v d g k =
+    let fit = openings_fit lying d v lies_fit.program lies_fit.roots k g.0 in
+    let saves = openings_save_well lying d v (headers_of lying d k) lies_fit.roots g.0 in
     let of_file : IsOwnStep c n i v.fields.version (opening v lying (blank v) d) = rw (← g.1.cluster, ← g.1.n, ← g.1.index) (openings_are_own lying d v) in
     let own = subst (λ (k : ℕ). IsOwnStep c n i k (opening v lying (blank v) d)) g.1.version of_file in
-    record { fit = fit; known = record { fit = fit.each; saves = saves.each; own = own.each }; replica = record { sound = openings_are_sound lying d v (headers_of lying d k) g.0 two; savable = saves.savable; blocks = fit.blocks }; at = own.replica }
+    record { fit = fit; known = record { fit = fit.each; saves = saves.each; own = own.each }; replica = record { sound = openings_are_sound lying d v (headers_of lying d k) g.0; savable = saves.savable; blocks = fit.blocks }; at = own.replica }
 
-pub start_is : (c n i ed : ℕ) (v : SuperValue) (d : Lying) → 2 ≤ n → IsFitValue c n i ed v → ReadsWell lying d → Stepped c n i ed (in_two v d)
-start_is c n i ed v d several g k = subst (Stepped c n i ed) (opening_in_two v d) (opening_is c n i ed v d several g k)
+pub start_is : (c n i ed : ℕ) (v : SuperValue) (d : Lying) → IsFitValue c n i ed v → ReadsWell lying d → Stepped c n i ed (in_two v d)
+start_is c n i ed v d g k = subst (Stepped c n i ed) (opening_in_two v d) (opening_is c n i ed v d g k)
 
 -- ---- moves
 
@@ -265,7 +265,7 @@ module _ (c : ℕ) (g : Group) (at : ℕ) (m : Member) (there : slice_get g.memb
   stepped_is r e d runs event k = let run = is.running r runs in step_is c g.n at ed r e d run.0 run.1 event k
 
   opened_is : (v : SuperValue) (d : Lying) → MayOpen m v → ReadsWell lying d → Stepped c g.n at ed (in_two v d)
-  opened_is v d may k = start_is c g.n at ed v d h.several (good_value c g.n at m v is may) k
+  opened_is v d may k = start_is c g.n at ed v d (good_value c g.n at m v is may) k
 
 leaves : (c : ℕ) (g : Group) (move : Move) (moved : Moved) → IsFitGroup c g → IsFitMove move → Moves g move moved → Left c g moved.group
 leaves c g _ _ h k (group.steps at arrival e d m r runs i) = finishes c g at m runs.member h (stepped e r d) (stepped_is c g at m runs.member h r e d runs.running (arrives c g at arrival e h k.0 i) k.1)
@@ -282,7 +282,7 @@ moves_kinds kinds c g move moved of h k m at x e = let old = (leaves c g move mo
 
 -- ---- runs
 
-fresh_is : (kind : Kind) (c n i : ℕ) → IsKind kind → c < 2 ^ 64 → 2 ≤ n → n ≤ 6 → i < n → IsFitMember c n i (fresh_member kind c n i)
+fresh_is : (kind : Kind) (c n i : ℕ) → IsKind kind → c < 2 ^ 64 → least_members kind.version ≤ n → n ≤ 6 → i < n → IsFitMember c n i (fresh_member kind c n i)
 unfolding blank
 fresh_is kind c n i of l a b m =
     let k = fresh_fits kind c n i of l a b m in
@@ -311,11 +311,11 @@ fresh_place kinds c n at m e =
     let same : 0 + at ≡ at = omega arith in
     (subst (λ j. fresh_member (kinds j) c n j ≡ m) same k.0, k.1)
 
-pub fresh_group_fits : (kinds : ℕ → Kind) (c n : ℕ) → AreKinds kinds n → c < 2 ^ 64 → 2 ≤ n → n ≤ 6 → IsFitGroup c (fresh_group kinds c n)
+pub fresh_group_fits : (kinds : ℕ → Kind) (c n : ℕ) → AreKinds kinds n → c < 2 ^ 64 → 1 ≤ n → n ≤ 6 → IsFitGroup c (fresh_group kinds c n)
 unfolding fresh_group
 fresh_group_fits kinds c n are l a b = record {
-  several = a;
-  members = λ at m e. let k = fresh_place kinds c n at m e in subst (IsFitMember c n at) k.0 (fresh_is (kinds at) c n at (are at k.1) l a b k.1);
+  some = a;
+  members = λ at m e. let k = fresh_place kinds c n at m e in subst (IsFitMember c n at) k.0 (let is = are at k.1 in fresh_is (kinds at) c n at is.0 l is.1 b k.1);
   sent = All-nil MayCome;
   made = All-nil IsMade;
 }
