@@ -98,7 +98,7 @@ unfolding fresh_world
 first_there = refl
 
 beside : AreBeside start (fresh_group (λ i. strict) 0 2)
-beside = subst (λ (w : World Lying). AreBeside w (fresh_group (λ i. strict) 0 2)) (sym (schedules_begin strict 2)) (fresh_beside (λ i. strict) 0 2 (λ i l. (omega arith, omega arith)) (omega arith) (omega arith) (omega arith))
+beside = subst (λ (w : World Lying). AreBeside w (fresh_group (λ i. strict) 0 2)) (sym (schedules_begin strict 2)) (fresh_beside (λ i. strict) 0 2 (λ i l. ((omega arith, omega arith), omega arith)) (omega arith) (omega arith))
 
 face_is : IsFace disk.face
 face_is =

@@ -189,7 +189,7 @@ module _ (cluster n : ℕ) (run : List Played) (fit : IsFitRun cluster n run) (u
 pub follows_it : (cluster n : ℕ) (run : List Played) → IsFitRun cluster n run → FollowsIt cluster n run
 unfolding followed
 follows_it cluster n run fit =
-    let y : FollowsFresh fit.kinds cluster n run = fresh_runs_so fit.kinds cluster n run fit.are_kinds fit.number fit.few fit.many fit.moves fit.of_run in
+    let y : FollowsFresh fit.kinds cluster n run = fresh_runs_so fit.kinds cluster n run fit.are_kinds fit.number fit.some fit.many fit.moves fit.of_run in
     record {
       setup = y.setup;
       followed = followed cluster n run fit y.setup y.cluster_is y.first y.bridges y.follows y.size_is y.hash_is y.fits y.none_sent y.none_made;

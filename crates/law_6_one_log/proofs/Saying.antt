@@ -98,11 +98,11 @@ line_hashed run c g _ _ there fit h file (group.recovers at v d m o) l j =
     let is = fit.members at m o.member in
     let value = good_value c g.n at m v is o.value in
     let opens = opening_of c g at m v fit o.member o.value in
-    let taken = member_taken c g.n at is.edition v d (opening_script v d) value file (start_is c g.n at is.edition v d fit.several value h).known in
+    let taken = member_taken c g.n at is.edition v d (opening_script v d) value file (start_is c g.n at is.edition v d value h).known in
     elim (in_either (outputs xs) (outputs ys) (output.Commit l) (subst (λ (os : List Output). In (output.Commit l) os) (outputs_append xs ys) j)) [
       | inl a ↦ absurd (every_in IsOther (outputs xs) (output.Commit l) a ((quiet_mending v).every lying (blank v) d).said)
       | inr b ↦
-          let q = (resumed_order v d opens.0 opens.1 h).read l b in
+          let q = (resumed_order v d opens h).read l b in
           let parts : (xs ++ q.first) ++ q.rest ≡ opening_script v d = append_assoc xs q.first q.rest ∙ ap (λ (zs : List Effect). xs ++ zs) q.are in
           read_hashed run c (record { before = g; move = group.Recovers at v d; moved = group.started g at m v d }) there d (xs ++ q.first) q.rest q.slot l.entry (one_disk d) parts
           (taken_front d.version (xs ++ q.first) q.rest (subst (All (IsTaken d.version)) (sym parts) taken)) q.within (ap (λ (z : Lying). lying.entry z q.slot) (after_append lying d xs q.first) ∙ q.reads)

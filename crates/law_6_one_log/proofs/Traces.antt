@@ -1,4 +1,6 @@
 -- What a run that is safe says of outputs that are its own but for some lines aside.
+use Rattle.vr_base.proofs.Members.{least_of}
+use Rattle.vr_base.specs.Groups.{least_members}
 use Rattle.vr_base.specs.declared.kind.Kind.{Kind}
 use Rattle.std.proofs.Common.{ℕ, ◌-◌, ◌^◌, ◌<◌, ◌≤◌, ◌≡◌, ◌∙◌, inl, inr, arith, sym, ap, subst, List, Some}
 use Rattle.std.specs.Prelude.{slice_get, take}
@@ -207,10 +209,10 @@ place_of run ws all number o e not =
 once : (log : List Whole) → IsOnceInSession log
 once log before between later d e is client request first second = each_once before between d e client request first second
 
-pub keeps_log : (kinds : ℕ → Kind) (home n : ℕ) → AreKinds kinds n → home < 2 ^ 64 → 2 ≤ n → n ≤ 6 → ((run : List Played) → IsFitRun home n run → HasOneLog home n run) → (h : Happened Lying) (m : IsMatched (fresh_group kinds home n) h) → NoCollision (IsHashed m.run (root_header home))
+pub keeps_log : (kinds : ℕ → Kind) (home n : ℕ) → AreKinds kinds n → home < 2 ^ 64 → 1 ≤ n → n ≤ 6 → ((run : List Played) → IsFitRun home n run → HasOneLog home n run) → (h : Happened Lying) (m : IsMatched (fresh_group kinds home n) h) → NoCollision (IsHashed m.run (root_header home))
     → KeepsLog kinds home n h
-keeps_log kinds home n k number few many one h m never =
-    let fit : IsFitRun home n m.run = record { number = number; few = few; many = many; moves = m.reads; files = m.files; kinds = kinds; are_kinds = k; of_run = m.is } in
+keeps_log kinds home n k number some many one h m never =
+    let fit : IsFitRun home n m.run = record { number = number; some = some; many = many; moves = m.reads; files = m.files; kinds = kinds; are_kinds = k; of_run = m.is } in
     let o = one m.run fit in
     let s = o.safe in
     let gs = run_outputs m.run in
@@ -231,6 +233,6 @@ keeps_log kinds home n k number few many one h m never =
     }
 
 -- of the group that a schedule begins
-pub keeps : (kind : Kind) (n : ℕ) → IsKind kind → 2 ≤ n → n ≤ 6 → ((run : List Played) → IsFitRun 0 n run → HasOneLog 0 n run) → (h : Happened Lying) (m : IsMatched (fresh_group (λ i. kind) 0 n) h) → NoCollision (IsHashed m.run (root_header 0))
+pub keeps : (kind : Kind) (n : ℕ) → IsKind kind → least_members kind.version ≤ n → n ≤ 6 → ((run : List Played) → IsFitRun 0 n run → HasOneLog 0 n run) → (h : Happened Lying) (m : IsMatched (fresh_group (λ i. kind) 0 n) h) → NoCollision (IsHashed m.run (root_header 0))
     → KeepsOneLog kind n h
-keeps kind n k few many one h m never = keeps_log (λ i. kind) 0 n (λ i l. k) (omega arith) few many one h m never
+keeps kind n k least many one h m never = let some = (least_of kind.version).0 in keeps_log (λ i. kind) 0 n (λ i l. (k, least)) (omega arith) (omega (arith, some, least)) many one h m never

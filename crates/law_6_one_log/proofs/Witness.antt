@@ -1,4 +1,5 @@
 -- A schedule of which all holds that is asked.
+use Rattle.vr_base.proofs.Members.{least_of}
 use Rattle.vr_base.specs.declared.kind.Kind.{Kind}
 use Rattle.std.proofs.Common.{ℕ, ◌≡◌, ◌⊎◌, arith, inl, inr, refl, sym, ◌∙◌, subst, List, [], ◌∷◌, Option, Some, None}
 use Rattle.std.specs.Prelude.{Contains, slice_get, ⊤}
@@ -87,7 +88,7 @@ module _ (kind : Kind) (is : IsKind kind) where
   first_there = refl
 
   beside : AreBeside start (fresh_group (λ i. kind) 0 2)
-  beside = subst (λ (w : World Lying). AreBeside w (fresh_group (λ i. kind) 0 2)) (sym (schedules_begin kind 2)) (fresh_beside (λ i. kind) 0 2 (λ i l. is) (omega arith) (omega arith) (omega arith))
+  beside = subst (λ (w : World Lying). AreBeside w (fresh_group (λ i. kind) 0 2)) (sym (schedules_begin kind 2)) (fresh_beside (λ i. kind) 0 2 (λ i l. (is, (least_of kind.version).1)) (omega arith) (omega arith))
 
   face_is : IsFace disk.face
   face_is =
