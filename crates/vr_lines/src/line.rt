@@ -6,7 +6,7 @@ use vr_msg::Request;
 /// What happens to a group. Replicas are those of the group, and sectors those of a disk.
 #[derive(Debug, Drop, PartialEq, Eq)]
 pub enum Line {
-    /// A group of so many replicas, 2 to 6, begins, each on a new file of this kind.
+    /// A group of so many replicas begins, 1 or 2 to 6 by the version, each on a new file of this kind.
     Cluster {
         n: u8,
         kind: Kind,
