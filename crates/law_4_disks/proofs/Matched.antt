@@ -9,7 +9,6 @@ use Rattle.vr_msg.specs.declared.output.Output.TheVariants as output
 use Rattle.vr_msg.specs.declared.output.Sent.{Sent}
 use Rattle.vr_lie.specs.Copies.{SuperValue}
 use Rattle.vr_lie.specs.Opens.{opens}
-use Rattle.vr_lie.proofs.Keeping.{opens_on}
 use Rattle.vr_lie.specs.declared.fault.Fault.{Fault}
 use Rattle.vr_lie.specs.Faults.{faulted}
 use Rattle.vr_world.specs.Replica.{Replica}
@@ -23,7 +22,6 @@ use Rattle.vr_world.specs.World.{Acted, Happening, World, Begins, Asks, AsksInVe
 use Rattle.vr_world.specs.Outputs.{messages}
 use Rattle.vr_world.specs.Group as group
 use Rattle.vr_world.specs.Migrating.{migrated, migration_calls}
-use Rattle.vr_world.proofs.Migrating.{migrated_good}
 use Rattle.vr_world.specs.Group.{Asked, Group, IsArrival, Message, Movable, Move, Moves, Opens, Time, carried_out, cut_after, cut_in_two, migration, move_cut, moved_over, found, keeps_all, mended, once_mended, opening_script, recovered, resumed, start_cut, started}
 use Rattle.vr_world.proofs.Halves.{after_both}
 use Rattle.std.specs.List.{AllByRecursion}
@@ -38,14 +36,14 @@ use Rattle.vr_world.specs.Group.{Arrival, made_in}
 use Rattle.vr_world.specs.GroupFit.{IsFitArrival, IsFitGroup}
 use Rattle.vr_world.specs.Own.{IsOwnValue}
 use Rattle.vr_world.proofs.FitLies.{lies_fit, same_version}
-use Rattle.vr_world.proofs.FitGroups.{Known, good_value, known_right, start_is}
+use Rattle.vr_world.proofs.FitGroups.{Known, good_value, groups_fit, known_right, start_is}
 use Rattle.law_4_disks.specs.Beside.{AreMade, Finds, IsOff, IsOn, MayGo, TellsIn}
 use Rattle.law_4_disks.specs.Naming.{IsHashedAfter, IsHashedMigrating}
 use Rattle.law_4_disks.specs.Laws.{LinesAreMoves}
 use Rattle.law_4_disks.specs.Worlds.{AreBeside, IsHashedCut, IsHashedMoving, IsMatchedBy, Migration, Stands, Work, aside, asking, begun_by, begun_of, handling, migrating, moved_by, moved_of, none, opening_as, read_of, starting, starting_by, work_of}
 use Rattle.law_4_disks.proofs.Faults.{fault_face, lie_off, lie_on}
 use Rattle.law_4_disks.proofs.Migrating.{begun_whole, migrates, migration_cut, tells_migrating}
-use Rattle.law_4_disks.proofs.Lines.{StepsWell, WorksWell, ask, fuse, handle, no_move, none_runs, none_sent, outputs_given, runs_one, stock_moves, off_stopped, on_running, one_move, placed, said_same, some_replica, stayed, stop, well_of}
+use Rattle.law_4_disks.proofs.Lines.{StepsWell, WorksWell, ask, fuse, handle, no_move, none_runs, none_sent, outputs_given, runs_one, stock_moves, off_stopped, on_running, one_move, own_place, placed, said_same, some_replica, stayed, stop, well_of}
 use Rattle.law_4_disks.proofs.Chaining.{c_resuming}
 use Rattle.law_4_disks.proofs.Going.{known_goes, mended_value, once_last, recovered_saved, recovered_state, recovered_table}
 use Rattle.law_4_disks.proofs.Opening.{is_mended_of, openings_find}
@@ -67,7 +65,7 @@ use Rattle.law_4_disks.proofs.StockingRules.{b_resuming}
 use Rattle.law_4_disks.proofs.Starts.{begun_all, opening_is, start_cuts}
 use Rattle.law_4_disks.proofs.Telling.{fault_tells, tells_in}
 
-abbrev moving : world.Host Lying → SuperValue → Migration
+abbrev pub moving : world.Host Lying → SuperValue → Migration
 moving m v = record { host = m; value = v }
 
 abbrev pub whole : SuperValue → Lying → Step
@@ -230,7 +228,7 @@ module _ {home : ℕ} (w : World Lying) (g : Group) (i : ℕ) (m : world.Host Ly
       let leaves = (b_resuming {P = IsBytes} {Q = IsBytes}).each g.n i d.version (recovered v d) (after_all lying d (mended v d).script) h.here known in
       start_acts v m.fuse run o h.finds h.well leaves (mending_blocks IsBytes IsBytes v d) (λ u e. tells_in (opening_script v d) d v u.calls u.code o.calm.face h.go (works.names u e))
 
-  opens_as : (v : SuperValue) → IsOff m.disk q v → lying.opens m.disk ≡ Some v
+  pub opens_as : (v : SuperValue) → IsOff m.disk q v → lying.opens m.disk ≡ Some v
   opens_as v o = ap (option_and_then (of_version m.disk.version)) o.value ∙ rw (eq-eqb v.fields.version m.disk.version (sym o.file)) refl
 
   pub opened_as : (v : SuperValue) → IsOff m.disk q v → opened lying m.disk ≡ Some (whole v m.disk)
@@ -252,8 +250,13 @@ module _ {home : ℕ} (w : World Lying) (g : Group) (i : ℕ) (m : world.Host Ly
   movable_so : (v : SuperValue) → m.replica ≡ None → IsOff m.disk q v → v.fields.version ≡ 1 → Movable g i q v
   movable_so v run o first = record { member = there; stopped = s.replica ∙ run; value = o.may; first = first }
 
-  good_then : (v : SuperValue) → IsOff m.disk q v → IsGood (migrated v)
-  good_then v o = migrated_good v ((opens_on m.disk.face o.calm.face).value v o.value).1
+  -- the group stays fit, so the new value makes a good copy
+  pub new_good : (v : SuperValue) → m.replica ≡ None → IsOff m.disk q v → v.fields.version ≡ 1 → IsGood (migrated v)
+  unfolding carried_out
+  new_good v run o first =
+      let p : group.Member = record (carried_out (migration v) q) { replica = None } in
+      let fit = groups_fit.each home g (Move.Migrates i v) (moved_over g i q v) fits tt (Moves.migrates i v q (movable_so v run o first)) in
+      (fit.members i p (own_place g.members i q p there)).last.0
 
   -- ---- a fault
 
@@ -287,7 +290,7 @@ module _ {home : ℕ} (w : World Lying) (g : Group) (i : ℕ) (m : world.Host Ly
   migrate_goes v fuse run o first =
       let a = migrated_with hazards i m v fuse in
       let p : group.Member = record (carried_out (migration v) q) { replica = None } in
-      let off = migrates v m.disk q o first (good_then v o) in
+      let off = migrates v m.disk q o first (new_good v run o first) in
       let stands : Stands a.member p = record {
         replica = refl;
         running = λ r e. absurd (let bad : None ≡ Some r = e in cc);
@@ -301,7 +304,7 @@ module _ {home : ℕ} (w : World Lying) (g : Group) (i : ℕ) (m : world.Host Ly
   unfolding messages
   migrate_halts v u run o first l never =
       let a = migration_halted hazards i m v u in
-      let good = good_then v o in
+      let good = new_good v run o first in
       let c = migration_cut v m.disk q o first good u.calls u.code l (tells_migrating v m.disk q o first good u.calls u.code never) in
       let k = cut_after c.effects (migration v) q in
       let p : group.Member = record k { replica = None } in
@@ -322,7 +325,7 @@ module _ {home : ℕ} (w : World Lying) (g : Group) (i : ℕ) (m : world.Host Ly
       let rest : Fuse = record { calls = u.calls - made; code = u.code } in
       let es = moved_by (Some u) (record { host = m; value = v }) in
       elim (nat_le made u.calls) as (λ t. nat_le made u.calls ≡ t → IsMatchedBy home es [] g (with_member w i (cond t (migrated_with hazards i m v (Some rest)) (migration_halted hazards i m v u)))) [
-        | true ↦ λ t. subst (λ (es : List Effect). IsMatchedBy home es [] g (with_member w i (migrated_with hazards i m v (Some rest)))) (sym (begun_whole v m.disk q o first (good_then v o) u.calls (leb-true made u.calls t))) (migrate_goes v (Some rest) run o first)
+        | true ↦ λ t. subst (λ (es : List Effect). IsMatchedBy home es [] g (with_member w i (migrated_with hazards i m v (Some rest)))) (sym (begun_whole v m.disk q o first (new_good v run o first) u.calls (leb-true made u.calls t))) (migrate_goes v (Some rest) run o first)
         | false ↦ λ t. migrate_halts v u run o first (leb-false made u.calls t) (never u refl)
       ] refl
 

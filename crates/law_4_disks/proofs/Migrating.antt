@@ -28,10 +28,10 @@ use Rattle.vr_lie.proofs.Keeping.{opens_on, write_law}
 use Rattle.vr_lie.proofs.Spelling.{whole_version}
 use Rattle.vr_lie.proofs.Standing.{calls_stand, stands_look}
 use Rattle.vr_world.specs.Group.{Member, MayOpen, begins, carried_out, cut_after, ends, migration}
-use Rattle.vr_world.specs.Lying.{Lying, after_calls, cut_calls, each_slot, settled}
+use Rattle.vr_world.specs.Lying.{Lying, after_calls, cut_calls, settled}
 use Rattle.vr_world.specs.Migrating.{migrated, migration_calls, slot_calls}
-use Rattle.vr_world.specs.Steps.{Effect, Mend, Save}
-use Rattle.law_4_disks.specs.Beside.{HoldsEntry, IsCalm, IsHeld, IsOff, IsOn, MayCome, Tells}
+use Rattle.vr_world.specs.Steps.{Mend, Save}
+use Rattle.law_4_disks.specs.Beside.{IsCalm, IsHeld, IsOff, IsOn, MayCome, Tells}
 use Rattle.law_4_disks.specs.Naming.{IsHashedBy, IsHashedMigrating, IsMet, mended_on, moved_on}
 use Rattle.law_4_disks.proofs.Calls.{AreCalls, calls_append, mend_are, save_are, writes_are}
 use Rattle.law_4_disks.proofs.Effects.{apart_after, apart_stands, apart_stopped, at_slot, calm_after, calm_cut, grid_cut, grid_done, held_moves, mend_cut, mend_opens, synced}
@@ -177,7 +177,6 @@ same_settled d x s =
       version = version;
     }
 
-
 -- calls behind others
 after_later : (cs ds : List Call) (d : Lying) → Same (after_calls (after_calls d cs) ds) (after_calls d (cs ++ ds))
 after_later cs ds d = record {
@@ -289,13 +288,13 @@ module _ (v : SuperValue) (d : Lying) (m : Member) (o : IsOff d m v) (first : v.
         | inr e ↦ (
           new,
           settled_second x q new calm (omega (arith, is)) refl
-          (λ slot l.
-          let h = held_at last.held slot in
-          let rests : Rests 2 slot last.face = λ k y. rw on_moved.calm.rests refl in
-          let stands = apart_cut 2 saves last.face slot h k code l on_moved.calm.face.count (saves_apart 2 slot) rests (stand_twice slot l) in
-          let still = apart_held_cut 2 saves last.face slot k code h l on_moved.calm.face.count (saves_apart 2 slot) rests (stand_twice slot l) in
-          subst (Stands 2 v.fields.mode x.face slot) (still ∙ sym (same slot l)) stands)
-          held e (inr refl) refl,
+              (λ slot l.
+              let h = held_at last.held slot in
+              let rests : Rests 2 slot last.face = λ k y. rw on_moved.calm.rests refl in
+              let stands = apart_cut 2 saves last.face slot h k code l on_moved.calm.face.count (saves_apart 2 slot) rests (stand_twice slot l) in
+              let still = apart_held_cut 2 saves last.face slot k code h l on_moved.calm.face.count (saves_apart 2 slot) rests (stand_twice slot l) in
+              subst (Stands 2 v.fields.mode x.face slot) (still ∙ sym (same slot l)) stands)
+              held e (inr refl) refl,
         )
       ]
 
