@@ -23,7 +23,7 @@ use Rattle.vr_rings.proofs.Standing.{apart_held, both_is, both_whole, calls_stan
 -- ---- the writes go to no sector of an old slot
 
 -- the sectors of the new prepares, from a slot's on
-abbrev Within2 : ℕ → Call → Type 0
+abbrev pub Within2 : ℕ → Call → Type 0
 Within2 slot = Within (prepare_place 2 slot) (prepare_place 2 64)
 
 wider : (low less : ℕ) (cs : List Call) → less ≤ low → AllByRecursion (Within2 low) cs → AllByRecursion (Within2 less) cs
@@ -32,7 +32,7 @@ wider low less [] l w = tt
 wider low less (Write i b ∷ cs) l w = let p = w.0 in ((omega arith, p.1), wider low less cs l w.1)
 wider low less (Sync ∷ cs) l w = (tt, wider low less cs l w.1)
 
-moves_within : (new : ℕ → List ℕ) (n slot : ℕ) → slot + n ≤ 64 → AllByRecursion (Within2 slot) (moves slot n new)
+pub moves_within : (new : ℕ → List ℕ) (n slot : ℕ) → slot + n ≤ 64 → AllByRecursion (Within2 slot) (moves slot n new)
 unfolding moves
 moves_within new zero slot l = tt
 moves_within new (suc n) slot l =
@@ -95,7 +95,7 @@ cut_held {mode} (c ∷ cs) f slot held (suc j) code l n a w s =
 
 -- ---- what the new places read as
 
-spared : (slot i : ℕ) (cs : List Call) → i < prepare_place 2 slot → AllByRecursion (Within2 slot) cs → AllByRecursion (Spares i) cs
+pub spared : (slot i : ℕ) (cs : List Call) → i < prepare_place 2 slot → AllByRecursion (Within2 slot) cs → AllByRecursion (Spares i) cs
 spared slot i cs l w = within_spares (prepare_place 2 slot) (prepare_place 2 64) cs i w (inl l)
 
 -- what a slot's new sectors read as

@@ -1,5 +1,5 @@
 -- A file of version 1 becomes one of version 2: each slot's prepare is written at its new place, and the old ones stay.
-use Rattle.std.specs.Prelude.{ℕ, zero, suc, ◌+◌, ◌≡◌, true, ◌||◌, List, [], ◌∷◌, ◌++◌, length, Option, Some, replicate, None, if◌then◌else◌}
+use Rattle.std.specs.Prelude.{ℕ, zero, suc, ◌+◌, ◌≡◌, Bool, true, ◌||◌, List, [], ◌∷◌, ◌++◌, length, Option, Some, replicate, None, if◌then◌else◌}
 use Rattle.vr_base.specs.Bytes.{is_zeros}
 use Rattle.vr_base.specs.declared.mode.Mode.{Mode}
 use Rattle.vr_disk.specs.DiskState.{Call, Sync, Face, after_all, cut}
@@ -8,19 +8,31 @@ use Rattle.vr_disk.specs.Sectors.{writes}
 use Rattle.vr_rings.specs.Held.{Stands, held_after_all, held_cut, is_prepare}
 use Rattle.vr_rings.specs.Slots.{prepare_reading}
 
--- what is written for what an old prepare reads as: the same where that is a whole entry, or zeros, and else bytes that are neither
+-- an old prepare is written as it is: it is a whole entry, or zeros
+abbrev pub is_movable : List ℕ → Bool
+is_movable prepare = is_prepare prepare || is_zeros prepare
+
+-- what is written for what an old prepare reads as: the same where that may be, and else bytes that are neither
 abbrev pub moved_of : Option (List ℕ) → List ℕ
 moved_of None = replicate 4096 255
-moved_of (Some prepare) = if is_prepare prepare || is_zeros prepare then prepare else replicate 4096 255
+moved_of (Some prepare) = if is_movable prepare then prepare else replicate 4096 255
 
 -- the new prepare of a slot
 abbrev pub relocated : Face → ℕ → List ℕ
 relocated f slot = moved_of (prepare_reading 1 f slot)
 
+-- the calls that write it
+abbrev pub slot_moves : Face → ℕ → List Call
+slot_moves f slot = writes (prepare_place 2 slot) (prepare_sectors 2) (relocated f slot)
+
 -- the sectors of so many slots' new prepares, from one slot on
 unfoldable pub moves : ℕ → ℕ → (ℕ → List ℕ) → List Call
 moves slot zero new = []
 moves slot (suc n) new = writes (prepare_place 2 slot) (prepare_sectors 2) (new slot) ++ moves (slot + 1) n new
+
+-- those of all, as the face has them
+abbrev pub all_moved : Face → List Call
+all_moved f = moves 0 64 (relocated f)
 
 -- those of all, and one sync
 abbrev pub move_calls : (ℕ → List ℕ) → List Call
