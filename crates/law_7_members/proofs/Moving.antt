@@ -128,6 +128,9 @@ one_move cluster g _ _ h (deeds.half_found at v d effects m there stopped may) =
   said = refl;
 }
 
+one_move cluster g _ _ h (deeds.migrated at v m may) = record { move = group.Migrates at v; moves = group.migrates at v m may; fits = tt; bytes = tt; file = tt; said = refl }
+one_move cluster g _ _ h (deeds.half_migrated at v effects m may) = record { move = group.MigratesCut at v effects; moves = group.migrates_cut at v effects m may; fits = tt; bytes = tt; file = tt; said = refl }
+
 -- ---- one after the other
 
 record IsRun (g : Group) (xs : List By) : Type 0 where
