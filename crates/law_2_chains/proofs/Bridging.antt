@@ -20,7 +20,7 @@ use Rattle.vr_world.specs.Commitment.{Stored}
 use Rattle.vr_world.specs.Lying.{Lying, lying}
 use Rattle.vr_world.specs.Outputs.{messages}
 use Rattle.vr_world.specs.Group as group
-use Rattle.vr_world.specs.Group.{Arrival, Asked, Message, Time, IsArrival, Move, Moved, Moves, Opens, Played, Run, begins, carried_out, cut_after, cut_in_two, ends, keeps_all, made_by_effect, made_in, mended, once_mended, opening_script, resumed, stepped, with_script}
+use Rattle.vr_world.specs.Group.{Arrival, Asked, Message, Time, IsArrival, Move, Moved, Movable, Moves, Opens, Played, Run, begins, carried_out, cut_after, cut_in_two, ends, keeps_all, made_by_effect, made_in, mended, migration, once_mended, opening_script, resumed, stepped, with_script}
 use Rattle.vr_world.specs.GroupFit.{IsFitArrival, IsFitGroup, IsFitMember, IsFitMove}
 use Rattle.vr_world.specs.Own.{IsAt}
 use Rattle.vr_world.specs.Sound.{IsSound}
@@ -62,6 +62,7 @@ use Rattle.law_2_chains.proofs.Moving.{stops}
 use Rattle.law_2_chains.proofs.Playing.{leaves, cut_at}
 use Rattle.law_2_chains.proofs.Chained.{chain_react}
 use Rattle.law_2_chains.proofs.Opening.{opens}
+use Rattle.law_2_chains.proofs.Migrating.{Migrated, migrates}
 use Rattle.law_2_chains.specs.Bridge.{Bridges, Chained, ChoosesWell, Follows, IsGround, IsMember, IsOwnVouch, IsRunning, IsSent, ServesWell}
 use Rattle.law_2_chains.specs.Lone.{CountsNoMore, IsStored, LoneChooses, Vouched, counted_by, vouch_for}
 use Rattle.std.proofs.lemmas.Option.{slice_get_within}
@@ -109,6 +110,7 @@ sent_told u before a (output.Choose c ∷ os) h = sent_told u before a os h.1
 sent_told u before a (output.Wait w ∷ os) h = sent_told u before a os h.1
 sent_told u before a (output.Start w ∷ os) h = sent_told u before a os h.1
 sent_told u before a (output.Halted r ∷ os) h = sent_told u before a os h.1
+sent_told u before a (output.Migrated r ∷ os) h = sent_told u before a os h.1
 sent_told u before a (output.Done ∷ os) h = sent_told u before a os h.1
 sent_told u before a (output.KeptOut ∷ os) h = sent_told u before a os h.1
 
@@ -246,7 +248,7 @@ module _ (u : Setup) (g : group.Group) (s : Group Header) (bridge : Bridges u g 
         disk = subst (IsDisk m) (sym same) x.disk;
         running = λ r e.
             let y = x.running r e in
-            record { memory = y.memory; running = ap (λ (z : Member Header). z.memory) same ∙ y.running; reflects = y.reflects; stored = y.stored; tables = tables_other j f.edition r other (f.running r e).1 y.tables; vouched = λ alone views k h above here. sent _ (y.vouched alone views k h above here) };
+            record { memory = y.memory; running = ap (λ (z : Member Header). z.memory) same ∙ y.running; reflects = y.reflects; stored = y.stored; tables = tables_other j m.last.fields.version r other (f.running r e).1 y.tables; vouched = λ alone views k h above here. sent _ (y.vouched alone views k h above here) };
         stopped = λ e. ap (λ (z : Member Header). z.memory) same ∙ x.stopped e;
       }
 
@@ -701,14 +703,14 @@ module _ (u : Setup) (fits : Fits u) (hash : u.hash ≡ lying.hash) (g : group.G
       }
 
   -- of a stopped member nothing counts
-  none_of_stopped : u.quorums.n ≡ 1 → (at : ℕ) (m : group.Member) (v : SuperValue) (d : Lying) → Opens g at m v d → ReadsWell lying d → (es : List Effect) (x : Stored) → In x (stored_from g es) → ⊥
-  none_of_stopped alone at m v d o reads es x h =
-      let b = may_begin at m v d o reads in
-      let member = (value_is v b.good).member in
-      let place = b.place in
-      let size = b.size in
+  none_of_stopped : u.quorums.n ≡ 1 → (at : ℕ) (m : group.Member) → slice_get g.members at ≡ Some m → m.replica ≡ None → (es : List Effect) (x : Stored) → In x (stored_from g es) → ⊥
+  none_of_stopped alone at m there stopped es x h =
+      let f = (fit.members at m there).last in
+      let member = (value_is m.last f.0).member in
+      let place = f.1.index in
+      let size = f.1.n ∙ bridge.size in
       let lowest : at ≡ 0 = omega arith in
-      subst (In x) (stored_none g m es (subst (λ k. slice_get g.members k ≡ Some m) lowest o.member) o.stopped) h
+      subst (In x) (stored_none g m es (subst (λ k. slice_get g.members k ≡ Some m) lowest there) stopped) h
 
   -- at its end a replica that is a group by itself vouches
   record OpenedSo (at : ℕ) (q : Replica) (l : Local) : Type 0 where
@@ -741,7 +743,7 @@ module _ (u : Setup) (fits : Fits u) (hash : u.hash ≡ lying.hash) (g : group.G
       let found : k.member ≡ once_mended v d m = ap (keeps_all (group.found v d)) p.member in
       let z = opened_so at y.replica (carried y.script k) c.finishes.after c.finishes.ends c.tables in (
         z.after,
-        ends_chained u g s bridge fit at es [] es s (ground_of u g s at es s (begun_same u s at es)) (group.Recovers at v d) refl none_said (λ alone z j. absurd (none_of_stopped alone at m v d o reads es z j)) (slice_get_within g.members at m o.member) y.replica (carried_out y.script (once_mended v d m)) (carried y.script k) z.after z.ends
+        ends_chained u g s bridge fit at es [] es s (ground_of u g s at es s (begun_same u s at es)) (group.Recovers at v d) refl none_said (λ alone z j. absurd (none_of_stopped alone at m o.member o.stopped es z j)) (slice_get_within g.members at m o.member) y.replica (carried_out y.script (once_mended v d m)) (carried y.script k) z.after z.ends
             (q.member ∙ ap (carried_out y.script) found) (q.made ∙ (ap (λ (hs : List Header). hs ++ made_in y.script) p.made ∙ sym (made_append x.script y.script)))
             (q.said ∙ (ap (λ (os : List Output). os ++ outputs y.script) p.said ∙ sym (outputs_append x.script y.script))) z.tables tt tt,
       )
@@ -759,7 +761,7 @@ module _ (u : Setup) (fits : Fits u) (hash : u.hash ≡ lying.hash) (g : group.G
       let chained : (w : group.Member) (j : Local) (z : Stopped u s at j) → j.member ≡ w → j.made ≡ made_in es → w ≡ cut_in_two x.script y.script (keeps_all (group.found v d)) k m → (z : Group Header) × Chained u s z (record { before = g; move = group.RecoversCut at v d k; moved = group.start_cut g at m v d k }) =
       λ w j z member made is. (
         z.group,
-        stops_chained u g s bridge fit at es [] (take k es) s (ground_of u g s at es s (begun_same u s at es)) (group.RecoversCut at v d k) refl none_said (λ alone x h. absurd (none_of_stopped alone at m v d o reads (take k es) x h)) (cut_in_two x.script y.script (keeps_all (group.found v d)) k m) j z (member ∙ is) made tt tt
+        stops_chained u g s bridge fit at es [] (take k es) s (ground_of u g s at es s (begun_same u s at es)) (group.RecoversCut at v d k) refl none_said (λ alone x h. absurd (none_of_stopped alone at m o.member o.stopped (take k es) x h)) (cut_in_two x.script y.script (keeps_all (group.found v d)) k m) j z (member ∙ is) made tt tt
             (λ w i. line_true u s.sent c.finishes.after.sent (outputs (opening_script v d)) (subst (Every (IsTrue u s.sent c.finishes.after.sent)) said c.finishes.ends.told) w (outputs_take (k + 1) (opening_script v d) (output.Commit w) i)),
       ) in
       elim (cases_lt k (length x.script)) [
@@ -775,12 +777,46 @@ module _ (u : Setup) (fits : Fits u) (hash : u.hash ≡ lying.hash) (g : group.G
             (z.made ∙ (ap (λ (hs : List Header). hs ++ made_in (take (j + 1) y.script)) p.made ∙ (sym (made_append x.script (take (j + 1) y.script)) ∙ ap made_in (sym parts)))) (rw (le-ltb k (length x.script) past) refl)
       ]
 
+  -- ---- migrations
+
+  migration_of : (at : ℕ) (m : group.Member) (v : SuperValue) → Movable g at m v → Migrated u s at v (local m)
+  migration_of at m v o =
+      let x = bridge.members at m o.member in
+      let good = (good_value u.cluster g.n at m v (fit.members at m o.member) o.value).0 in
+      migrates u s at v (local m) s (record { reached = bridge.reached; sent = refl; chosen = λ c h. h; others = λ j n. refl; disk = x.disk; made = tt; none_made = refl }) (x.stopped o.stopped) o.value good
+
+  none_committed : (v : SuperValue) (c : Committed) → In (output.Commit c) (outputs (migration v)) → ⊥
+  unfolding outputs
+  none_committed v c i = i
+
+  migrates_so : (at : ℕ) (m : group.Member) (v : SuperValue) → Movable g at m v → (z : Group Header) × Chained u s z (record { before = g; move = group.Migrates at v; moved = group.moved_over g at m v })
+  migrates_so at m v o =
+      let es : List Effect = migration v in
+      let c = (migration_of at m v o).ends in
+      let left = leaves es (local m) in (
+        c.group,
+        stops_chained u g s bridge fit at es [] es s (ground_of u g s at es s (begun_same u s at es)) (group.Migrates at v) refl none_said (λ alone z j. absurd (none_of_stopped alone at m o.member o.stopped es z j)) (carried_out es m) (carried es (local m)) c
+            left.member left.made tt tt (λ w j. absurd (none_committed v w j)),
+      )
+
+  migrates_cut_so : (at : ℕ) (m : group.Member) (v : SuperValue) (k : ℕ) → Movable g at m v → (z : Group Header) × Chained u s z (record { before = g; move = group.MigratesCut at v k; moved = group.move_cut g at m v k })
+  migrates_cut_so at m v k o =
+      let es : List Effect = take (k + 1) (migration v) in
+      let c = migration_of at m v o in
+      let z = cut_so (Stopped u s at) k (migration v) (local m) c.cuts c.ends in (
+        z.stopped.group,
+        stops_chained u g s bridge fit at es [] (take k es) s (ground_of u g s at es s (begun_same u s at es)) (group.MigratesCut at v k) refl none_said (λ alone x h. absurd (none_of_stopped alone at m o.member o.stopped (take k es) x h)) (cut_after k (migration v) m) z.left z.stopped
+            z.member z.made tt tt (λ w j. absurd (none_committed v w (outputs_take (k + 1) (migration v) (output.Commit w) j))),
+      )
+
   pub moves_so : (move : Move) (moved : Moved) → IsFitMove move → Moves g move moved → (z : Group Header) × Chained u s z (record { before = g; move = move; moved = moved })
   moves_so _ _ h (group.steps at a e d m r runs i) = steps_so at a e d m r runs.member runs.running h.0 i
   moves_so _ _ h (group.cuts at a e d k m r runs i) = cuts_so at a e d k m r runs.member runs.running h.0 i
   moves_so _ _ h (group.crashes at m there) = crashes_so at m there
   moves_so _ _ h (group.recovers at v d m o) = starts_so at m v d o h
   moves_so _ _ h (group.recovers_cut at v d k m o) = starts_cut_so at m v d k o h
+  moves_so _ _ h (group.migrates at v m o) = migrates_so at m v o
+  moves_so _ _ h (group.migrates_cut at v k m o) = migrates_cut_so at m v k o
 
 -- ---- runs
 

@@ -100,6 +100,7 @@ picked_more P Q f (output.Reply a) h = tt
 picked_more P Q f (output.Commit c) h = tt
 picked_more P Q f (output.Start s) h = tt
 picked_more P Q f (output.Halted r) h = tt
+picked_more P Q f (output.Migrated r) h = tt
 picked_more P Q f output.Done h = tt
 picked_more P Q f output.KeptOut h = tt
 

@@ -58,6 +58,7 @@ true_more u before a b f (output.Choose c) h = tt
 true_more u before a b f (output.Wait w) h = tt
 true_more u before a b f (output.Start s) h = tt
 true_more u before a b f (output.Halted r) h = tt
+true_more u before a b f (output.Migrated r) h = tt
 true_more u before a b f output.Done h = tt
 true_more u before a b f output.KeptOut h = tt
 
@@ -152,6 +153,7 @@ module _ (u : Setup) (before : List (Message Header)) (i : ℕ) (m : Memory Head
   send_output s (output.Wait w) reached runs may = send_none s (output.Wait w) reached tt
   send_output s (output.Start w) reached runs may = send_none s (output.Start w) reached tt
   send_output s (output.Halted r) reached runs may = send_none s (output.Halted r) reached tt
+  send_output s (output.Migrated r) reached runs may = send_none s (output.Migrated r) reached tt
   send_output s output.Done reached runs may = send_none s output.Done reached tt
   send_output s output.KeptOut reached runs may = send_none s output.KeptOut reached tt
 

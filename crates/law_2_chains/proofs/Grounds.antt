@@ -49,6 +49,8 @@ put_out g _ _ number o (group.cuts at arrival event disk effects m r runs comes)
 put_out g _ _ number o (group.crashes at m there) is = absurd cc
 put_out g _ _ number o (group.recovers at value disk m opens) is = is
 put_out g _ _ number o (group.recovers_cut at value disk effects m opens) is = absurd cc
+put_out g _ _ number o (group.migrates at value m movable) is = absurd cc
+put_out g _ _ number o (group.migrates_cut at value effects m movable) is = absurd cc
 
 -- an own vouch by effects is one by these and more
 pub own_later : (u : Setup) (g : group.Group) (a b es : List Effect) (z : Message Header) → es ≡ a ++ b → IsOwnVouch u g a z → IsOwnVouch u g es z

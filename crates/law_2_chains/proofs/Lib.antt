@@ -45,6 +45,7 @@ pub mod Tabling
 pub mod TabledWords
 pub mod TabledRules
 pub mod Mending
+pub mod Migrating
 pub mod Resuming
 pub mod Opening
 pub mod Sizes

@@ -354,6 +354,59 @@ sound_rewritten v q made m h size above near is sound =
           ];
     }
 
+-- a stopped member, once this value of its superblock is mended
+pub record Mended (u : Setup) (start : Group Header) (i : ℕ) (v : SuperValue) (l : Local) : Type 0 where
+  pub after : Group Header
+  pub under : Under u start i (through (Mend v) l) after
+  pub still : (after.members i).memory ≡ None
+  pub cleared : (after.members i).under ≡ None
+  pub cut : Stopped u start i (begun (Mend v) l)
+
+module _ (u : Setup) (start : Group Header) (i : ℕ) (v : SuperValue) (l : Local) (s : Group Header) (x : Under u start i l s) (still : (s.members i).memory ≡ None) where
+  mend_cut : Stopped u start i (begun (Mend v) l)
+  mend_cut = record {
+    group = s;
+    under = record { reached = x.reached; sent = x.sent; chosen = x.chosen; others = x.others; disk = x.disk; made = every_append (WasMade s.made) l.made [] x.made tt; none_made = x.none_made };
+    still = still;
+  }
+
+  made_then : Every (WasMade s.made) (through (Mend v) l).made
+  made_then = every_append (WasMade s.made) l.made [] x.made tt
+
+  abbrev last_one : Member Header
+  last_one = record (s.members i) { under = None }
+
+  mend_last : l.member.last ≡ v → Mended u start i v l
+  mend_last is = record {
+    after = becomes s i last_one;
+    under = under_moves u start i l (through (Mend v) l) s last_one x (move.opens_last i) (let d = x.disk in record { last = subst (λ w. IsValue w (s.members i).last) is d.last; under = tt; slots = d.slots; size = d.size }) made_then;
+    still = ap (λ (z : Member Header). z.memory) (member_at s i last_one) ∙ still;
+    cleared = ap (λ (z : Member Header). z.under) (member_at s i last_one);
+    cut = mend_cut;
+  }
+
+  under_of : (o : Option SuperValue) (z : Option (Superblock Header)) → IsUnder o z → o ≡ Some v → (y : Superblock Header) × (z ≡ Some y) × IsValue v y
+  under_of None z d e = absurd cc
+  under_of (Some w) None d e = absurd d
+  under_of (Some w) (Some y) d e = let same : w ≡ v = cc in (y, refl, subst (λ k. IsValue k y) same d)
+
+  mend_under : l.member.under ≡ Some v → Mended u start i v l
+  mend_under is =
+      let y = under_of l.member.under (s.members i).under x.disk.under is in
+      let z : Member Header = record (s.members i) { last = y.0; under = None; memory = None } in
+      record {
+        after = becomes s i z;
+        under = under_moves u start i l (through (Mend v) l) s z x (move.opens_cut i y.0 y.1) (let d = x.disk in record { last = y.2; under = tt; slots = d.slots; size = d.size }) made_then;
+        still = ap (λ (z : Member Header). z.memory) (member_at s i z);
+        cleared = ap (λ (z : Member Header). z.under) (member_at s i z);
+        cut = mend_cut;
+      }
+
+  -- whichever value it opens as
+  pub mend_stopped : MayOpen l.member v → Mended u start i v l
+  mend_stopped (inl is) = mend_last is
+  mend_stopped (inr is) = mend_under is
+
 module _ (u : Setup) (start : Group Header) (i : ℕ) (v : SuperValue) (q : Replica) (made : List Header) where
   -- stopped, with this value, and Parts that are sound
   pub record Rests (l : Local) (s : Group Header) : Type 0 where
@@ -473,57 +526,10 @@ module _ (u : Setup) (start : Group Header) (i : ℕ) (v : SuperValue) (q : Repl
 
   -- before it, the member has stopped
   module _ (l : Local) (s : Group Header) (x : Under u start i l s) (still : (s.members i).memory ≡ None) (sound : AreSound v (kept_at l.member) made q) where
-    mend_cut : Stopped u start i (begun (Mend v) l)
-    mend_cut = record {
-      group = s;
-      under = record { reached = x.reached; sent = x.sent; chosen = x.chosen; others = x.others; disk = x.disk; made = every_append (WasMade s.made) l.made [] x.made tt; none_made = x.none_made };
-      still = still;
-    }
-
-    made_then : Every (WasMade s.made) (through (Mend v) l).made
-    made_then = every_append (WasMade s.made) l.made [] x.made tt
-
-    abbrev last_one : Member Header
-    last_one = record (s.members i) { under = None }
-
-    mend_last : l.member.last ≡ v → Mends l (Mend v ∷ [])
-    mend_last is = record {
-      after = becomes s i last_one;
-      rests = record {
-        under = under_moves u start i l (through (Mend v) l) s last_one x (move.opens_last i) (let d = x.disk in record { last = subst (λ w. IsValue w (s.members i).last) is d.last; under = tt; slots = d.slots; size = d.size }) made_then;
-        still = ap (λ (z : Member Header). z.memory) (member_at s i last_one) ∙ still;
-        cleared = ap (λ (z : Member Header). z.under) (member_at s i last_one);
-        last = refl;
-        sound = sound;
-      };
-      cuts = (mend_cut, tt);
-    }
-
-    under_of : (o : Option SuperValue) (z : Option (Superblock Header)) → IsUnder o z → o ≡ Some v → (y : Superblock Header) × (z ≡ Some y) × IsValue v y
-    under_of None z d e = absurd cc
-    under_of (Some w) None d e = absurd d
-    under_of (Some w) (Some y) d e = let same : w ≡ v = cc in (y, refl, subst (λ k. IsValue k y) same d)
-
-    mend_under : l.member.under ≡ Some v → Mends l (Mend v ∷ [])
-    mend_under is =
-        let y = under_of l.member.under (s.members i).under x.disk.under is in
-        let z : Member Header = record (s.members i) { last = y.0; under = None; memory = None } in
-        record {
-          after = becomes s i z;
-          rests = record {
-            under = under_moves u start i l (through (Mend v) l) s z x (move.opens_cut i y.0 y.1) (let d = x.disk in record { last = y.2; under = tt; slots = d.slots; size = d.size }) made_then;
-            still = ap (λ (z : Member Header). z.memory) (member_at s i z);
-            cleared = ap (λ (z : Member Header). z.under) (member_at s i z);
-            last = refl;
-            sound = sound;
-          };
-          cuts = (mend_cut, tt);
-        }
-
-    -- whichever value it opens as
     mend_first : MayOpen l.member v → Mends l (Mend v ∷ [])
-    mend_first (inl is) = mend_last is
-    mend_first (inr is) = mend_under is
+    mend_first may =
+        let y = mend_stopped u start i v l s x still may in
+        record { after = y.after; rests = record { under = y.under; still = y.still; cleared = y.cleared; last = refl; sound = sound }; cuts = (y.cut, tt) }
 
     pub mends_value : MayOpen l.member v → ((h : Header) → Contains made h → WasMade start.made h) → ((k : ℕ) (h : Header) → header_of (part_at q k) ≡ Some h → h.op ≡ k) → (es : List Effect)
         → Every (IsRewriting q v.fields.checkpoint (v.fields.checkpoint + 64)) es → Mends l (Mend v ∷ es)

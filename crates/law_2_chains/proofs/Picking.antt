@@ -58,6 +58,7 @@ module _ (P : Chosen → Type 0) where
   plain_picked (output.Choose c) h = absurd h
   plain_picked (output.Start s) h = tt
   plain_picked (output.Halted r) h = tt
+  plain_picked (output.Migrated r) h = tt
   plain_picked output.Done h = tt
   plain_picked output.KeptOut h = tt
 

@@ -73,6 +73,7 @@ module _ (u : Setup) (sent : List (Message Header)) (i : ℕ) (m m' : Memory Hea
   said_later (output.Wait w) h = tt
   said_later (output.Start s) h = tt
   said_later (output.Halted r) h = tt
+  said_later (output.Migrated r) h = tt
   said_later output.Done h = tt
   said_later output.KeptOut h = tt
 
@@ -106,6 +107,7 @@ module _ (u : Setup) (sent : List (Message Header)) (i : ℕ) (m : Memory Header
   free_said (output.Wait w) h = tt
   free_said (output.Start s) h = tt
   free_said (output.Halted r) h = tt
+  free_said (output.Migrated r) h = tt
   free_said output.Done h = tt
   free_said output.KeptOut h = tt
 

@@ -223,6 +223,7 @@ free_true u before sent (output.Choose l) h = tt
 free_true u before sent (output.Wait w) h = tt
 free_true u before sent (output.Start s) h = tt
 free_true u before sent (output.Halted r) h = tt
+free_true u before sent (output.Migrated r) h = tt
 free_true u before sent output.Done h = tt
 free_true u before sent output.KeptOut h = tt
 

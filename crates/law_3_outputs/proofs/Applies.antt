@@ -24,7 +24,7 @@ use Rattle.vr_msg.specs.Choice.{ops}
 use Rattle.vr_ckpt.specs.declared.name.Name.{Name}
 use Rattle.vr_ckpt.proofs.Stored.{answer_next, repeat_stored, state_next}
 use Rattle.law_2_chains.specs.Outputs.{kind_of, replies, asker_of, commit_line, applied_reply, send, send_to, send_to_all, others, to_primary, prepare, prepare_ok, start_view, start_view_change, do_view_change, get_block, get_prepare, wait_line}
-use Rattle.law_2_chains.specs.Replica.{Replica, leads, part_at, with_part, forgetting, last_view, is_primary, is_started, is_here, version}
+use Rattle.law_2_chains.specs.Replica.{Replica, is_alone, leads, part_at, with_part, forgetting, last_view, is_primary, is_started, is_here, version}
 use Rattle.law_2_chains.specs.Steps.{Mend, Rewrite, Say, Setting, Word, ◌⨾◌, quiet, change, does, says, by, reading, when, times, each, outputs, after_all}
 use Rattle.law_2_chains.specs.Words.{Log, rested, entered, enter, saves, with_saved, save, writes, stored, write, accept, entry_of, lost, or_lost, with_entry, with_entry_at, applied, checkpoints, with_checkpoint, checkpoint_of, make_checkpoint, is_checkpoint, apply_entry, is_loaded, apply_next, apply, advanced, advance, learned, learn, taken, take as take_over, prepare_again, choose_line, begin_view, try_log, may_take, obey_choice, chosen_log, decided, stated, try, speak, resend, turned, ask_peer, ask_for, ask, least_absent, peer, blocks_of, header_read, mend_header, op_of_slot, place_now, visit, visit_block, visit_place, visit_read, visit_slot, with_cursor, with_worn}
 use Rattle.law_2_chains.specs.Chains.{Every}
@@ -228,7 +228,8 @@ module _ {F : Type 0} (log : List Whole) (numbers : IsNumbered log) where
       fair_then log (says (choose_line ss l)) _ (fair_says log (choose_line ss l) (λ r. (tt, tt)))
       (fair_then log (take_over l) _ (fair_take l)
       (fair_then log (says (send_to_all start_view)) _ (fair_sends start_view)
-      (fair_then log (by (λ r. each prepare_again (ops r.commit l.head))) apply (fair_by log _ (λ r. fair_each log prepare_again (ops r.commit l.head) fair_again)) fair_apply)))
+      (fair_then log (by (λ r. each prepare_again (ops r.commit l.head))) _ (fair_by log _ (λ r. fair_each log prepare_again (ops r.commit l.head) fair_again))
+      (fair_by log _ (λ r. fair_if log (is_alone r) advance apply fair_advance fair_apply)))))
 
   fair_try_log : (ss : List Statement) (l : Log) → IsFair {F = F} log (try_log ss l)
   unfolding try_log
@@ -264,7 +265,7 @@ module _ {F : Type 0} (log : List Whole) (numbers : IsNumbered log) where
 
   pub fair_ask : IsFair {F = F} log ask
   unfolding ask
-  fair_ask = fair_by log _ (λ r. fair_ask_for r.missing (least_absent r) r.worn)
+  fair_ask = fair_by log _ (λ r. fair_when log (not (is_alone r)) _ (fair_ask_for r.missing (least_absent r) r.worn))
 
   -- ---- a visit
 

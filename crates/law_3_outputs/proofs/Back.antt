@@ -31,7 +31,8 @@ use Rattle.law_2_chains.specs.Commitment as said
 use Rattle.law_2_chains.specs.Commitment.{Evidence, HasSent, IsCommitted, Stored}
 use Rattle.law_2_chains.specs.Safe.{before, run_outputs}
 use Rattle.law_3_outputs.specs.Followed.{IsFollowed, IsFrom, by_then, own_vouches, stored_until, vouch_of}
-use Rattle.law_3_outputs.proofs.Sets.{in_contains, in_get, in_left, in_right, set_of}
+use Rattle.law_2_chains.proofs.StoredLists.{in_contains}
+use Rattle.law_3_outputs.proofs.Sets.{in_get, in_left, in_right, set_of}
 use Rattle.law_3_outputs.proofs.Stored.{OwnVouch, next_before, own_more, own_of, stored_front, stored_next}
 use Rattle.law_3_outputs.proofs.Traces.{from_of, in_either, last, outputs_front, outputs_next, vouch_said}
 use Rattle.law_3_outputs.proofs.Forth.{good, then_later}
@@ -113,7 +114,7 @@ module _ (cluster n : ℕ) (u : Setup) (run : List Played) (x : IsFollowed clust
         let from : r ≡ 0 = (let e : machine.Prepare_ok r view k c ≡ vouch_of y.of = y.is in cc) in
         let of_view : y.of.view ≡ view = (let e : machine.Prepare_ok r view k c ≡ vouch_of y.of = y.is in cc) in
         let of_header : y.of.header ≡ c = (let e : machine.Prepare_ok r view k c ≡ vouch_of y.of = y.is in cc) in
-        said.alone (sym x.size_is ∙ y.alone) from (subst (Contains by.stored) (stored_is y.of view c of_view of_header) (in_contains by.stored y.of y.among))
+        said.alone (sym x.size_is ∙ y.alone) from (subst (Contains by.stored) (stored_is y.of view c of_view of_header) (in_contains y.of by.stored y.among))
 
     not_prepared : (view k r commit : ℕ) (c : Header) → OwnVouch u by.stored (machine.Prepare r view k c commit) → ⊥
     not_prepared view k r commit c y = let e : machine.Prepare r view k c commit ≡ vouch_of y.of = y.is in absurd cc

@@ -39,7 +39,8 @@ use Rattle.law_2_chains.specs.Safe as safe
 use Rattle.law_2_chains.specs.Finished.{AreBacked, IsNumbered}
 use Rattle.law_3_outputs.specs.Followed.{IsFollowed, IsGoodEntry, IsLineOf, by_then}
 use Rattle.law_3_outputs.proofs.Reading.{runs_read}
-use Rattle.law_3_outputs.proofs.Sets.{get_in, in_contains}
+use Rattle.law_2_chains.proofs.StoredLists.{in_contains}
+use Rattle.law_3_outputs.proofs.Sets.{get_in}
 use Rattle.law_3_outputs.proofs.Traces.{WasWritten, last, sent_later, chosen_later, said_of, sent_of, output_in}
 use Rattle.law_3_outputs.proofs.Machine.{number_is}
 use Rattle.law_3_outputs.proofs.Forth.{CommittedAt, good, is_committed, then_later}
@@ -121,7 +122,7 @@ module _ (cluster n : ℕ) (u : Setup) (run : List Played) (x : IsFollowed clust
         let w = in_log cluster n u run x f.view h.op h above (then_end move p at number f.view h.op h f.committed) in
         let e = w.0 in
         let hashed : IsHashed run (root_header cluster) (operation_bytes e.entry.operation) =
-        wrote e.move (Write e.again e.entry) _ (in_contains run e.move e.of_run) (in_contains e.move.moved.script _ e.of_move) (safe.IsWritten.operation e.again e.entry) in
+        wrote e.move (Write e.again e.entry) _ (in_contains e.move run e.of_run) (in_contains _ e.move.moved.script e.of_move) (safe.IsWritten.operation e.again e.entry) in
         let same = one_whole (IsHashed run (root_header cluster)) never e.entry c.entry e.is e.good read.good hashed f.hashed in
         record { at = w.1 ∙ ap Some same; number = above; view = f.view; committed = back_then f.view h.op h f.committed }
 
@@ -186,6 +187,7 @@ module _ (cluster n : ℕ) (u : Setup) (run : List Played) (x : IsFollowed clust
     keeps (output.Wait m) i = tt
     keeps (output.Start m) i = tt
     keeps (output.Halted m) i = tt
+    keeps (output.Migrated m) i = tt
     keeps output.Done i = tt
     keeps output.KeptOut i = tt
 

@@ -1,5 +1,5 @@
 -- Every move of a run of a group writes good entries.
-use Rattle.std.proofs.Common.{ℕ, zero, suc, ◌≡◌, ◌≤◌, ◌+◌, sym, subst, List, [], ◌∷◌, Some}
+use Rattle.std.proofs.Common.{ℕ, zero, suc, ◌≡◌, ◌+◌, subst, List, [], ◌∷◌, Some}
 use Rattle.std.specs.Prelude.{All, slice_get}
 use Rattle.std.proofs.lemmas.List.Elements.{All-nil, All-head, All-tail, All-take, All-contains}
 use Rattle.vr_header.specs.Made.{Whole}
@@ -21,7 +21,7 @@ use Rattle.law_2_chains.proofs.FitSteps.{steps_fit}
 use Rattle.law_2_chains.proofs.FitOpening.{openings_fit}
 use Rattle.law_2_chains.proofs.FitLies.{lies_fit}
 use Rattle.law_2_chains.proofs.FitGroups.{good_value, groups_fit}
-use Rattle.law_3_outputs.proofs.Sets.{in_contains}
+use Rattle.law_2_chains.proofs.StoredLists.{in_contains}
 use Rattle.law_3_outputs.specs.Followed.{IsFitRun, IsGoodEntry}
 use Rattle.law_3_outputs.specs.Written.{WritesGood}
 
@@ -37,7 +37,7 @@ pub good_whole : (e : Whole) → IsWhole e → IsGoodEntry e
 good_whole e h = record { header = h.header; body = h.entry.body }
 
 fit_good : (es : List Effect) → All IsFit es → WritesGood es
-fit_good es h again e i = good_whole e (All-contains IsFit es (Write again e) h (in_contains es (Write again e) i))
+fit_good es h again e i = good_whole e (All-contains IsFit es (Write again e) h (in_contains (Write again e) es i))
 
 pub at_place : {X : Type 0} (P : X → Type 0) (xs : List X) (i : ℕ) (x : X) → All P xs → slice_get xs i ≡ Some x → P x
 at_place P [] i x h e = absurd cc
@@ -55,15 +55,12 @@ arrives c g at Time e h l i = rw i tt
 step_fit : (r : Replica) (e : Event) (d : Lying) → IsFitReplica r → IsEvent e → ReadsWell lying d → All IsFit (stepped e r d).script
 step_fit r e d h m k = (steps_fit lying d r e lies_fit.program lies_fit.roots k h.sound h.savable h.blocks m).each
 
--- a value as which a member of a group of at least two may open
-abbrev pub IsOpening : SuperValue → Type 0
-IsOpening v = IsGood v × (2 ≤ v.fields.n)
+-- a value as which a member of a group may open
+pub opening_of : (c : ℕ) (g : Group) (at : ℕ) (m : Member) (v : SuperValue) → IsFitGroup c g → slice_get g.members at ≡ Some m → MayOpen m v → IsGood v
+opening_of c g at m v h there may = (good_value c g.n at m v (h.members at m there) may).0
 
-pub opening_of : (c : ℕ) (g : Group) (at : ℕ) (m : Member) (v : SuperValue) → IsFitGroup c g → slice_get g.members at ≡ Some m → MayOpen m v → IsOpening v
-opening_of c g at m v h there may = let value = good_value c g.n at m v (h.members at m there) may in (value.0, subst (λ (k : ℕ). 2 ≤ k) (sym value.1.n) h.several)
-
-pub opening_fit : (v : SuperValue) (d : Lying) → IsOpening v → ReadsWell lying d → All IsFit (opening_script v d)
-opening_fit v d g k = subst (λ (x : Step). All IsFit x.script) (opening_in_two v d) (openings_fit lying d v lies_fit.program lies_fit.roots k g.0 g.1).each
+pub opening_fit : (v : SuperValue) (d : Lying) → IsGood v → ReadsWell lying d → All IsFit (opening_script v d)
+opening_fit v d g k = subst (λ (x : Step). All IsFit x.script) (opening_in_two v d) (openings_fit lying d v lies_fit.program lies_fit.roots k g).each
 
 script_fit : (c : ℕ) (g : Group) (move : Move) (moved : Moved) → IsFitGroup c g → IsFitMove move → Moves g move moved → All IsFit moved.script
 script_fit c g _ _ h k (group.steps at arrival e d m r runs i) = step_fit r e d ((h.members at m runs.member).running r runs.running).0 (arrives c g at arrival e h k.0 i) k.1
@@ -78,7 +75,7 @@ script_fit c g _ _ h k (group.recovers_cut at v d j m o) = All-take IsFit (j + 1
 -- each group of a run is fit
 pub fit_at : (cluster n : ℕ) (run : List Played) → IsFitRun cluster n run → (t : ℕ) (p : Played) → slice_get run t ≡ Some p → IsFitPlayed cluster p × IsFitMove p.move
 fit_at cluster n run x t p is =
-    (at_place (IsFitPlayed cluster) run t p (groups_fit.runs x.kinds cluster n run x.are_kinds x.number x.few x.many x.moves x.of_run) is, at_place (λ (p : Played). IsFitMove p.move) run t p x.moves is)
+    (at_place (IsFitPlayed cluster) run t p (groups_fit.runs x.kinds cluster n run x.are_kinds x.number x.some x.many x.moves x.of_run) is, at_place (λ (p : Played). IsFitMove p.move) run t p x.moves is)
 
 -- and reads the member's file
 pub file_at : (cluster n : ℕ) (run : List Played) → IsFitRun cluster n run → (t : ℕ) (p : Played) → slice_get run t ≡ Some p → IsOfFile p.before p.move

@@ -31,7 +31,8 @@ use Rattle.law_2_chains.specs.Commitment.{IsCommitted, Stored}
 use Rattle.law_2_chains.specs.Safe.{IsHashed, wrote, IsWritten, evidence, run_outputs}
 use Rattle.law_2_chains.specs.Safe as safe
 use Rattle.law_3_outputs.specs.Followed.{IsFollowed, by_then, own_vouches, stored_until, vouch_of}
-use Rattle.law_3_outputs.proofs.Sets.{contains_in, get_in, in_contains}
+use Rattle.law_2_chains.proofs.StoredLists.{contains_in, in_contains}
+use Rattle.law_3_outputs.proofs.Sets.{get_in}
 use Rattle.law_3_outputs.proofs.Stored.{own_in, own_more, stored_of_move, until_all}
 use Rattle.law_3_outputs.proofs.Traces.{WasWritten, in_either, last, sent_later, sent_of, from_of, written_of}
 use Rattle.law_3_outputs.proofs.Machine.{joins}
@@ -70,7 +71,7 @@ module _ (cluster n : ℕ) (u : Setup) (run : List Played) (x : IsFollowed clust
   -- what was stored in the run
   stored_told : n ≡ 1 → (z : Stored) → Contains (run_stored run) z → In (vouch_of z) end.sent
   stored_told one z h =
-      let y = stored_of_move run z (contains_in (run_stored run) z h) in
+      let y = stored_of_move run z (contains_in z (run_stored run) h) in
       let within = slice_get_within run y.0 y.1 y.2 in
       sent_later cluster n u run x (length run) (suc y.0) (omega arith) (omega arith) (vouch_of z) ((x.carried y.0 y.1 y.2).vouched (vouch_of z) (own_in u (stored_of y.1) z (x.size_is ∙ one) y.3))
 
@@ -106,7 +107,7 @@ module _ (cluster n : ℕ) (u : Setup) (run : List Played) (x : IsFollowed clust
   -- its bytes were hashed
   pub written_hashed : (c h : Header) → WasWritten run h → IsHashed run c (named_bytes h) × IsHeader h
   written_hashed c h w = (
-    subst (λ (k : Header). IsHashed run c (named_bytes k)) w.is (wrote w.move (Write w.again w.entry) _ (in_contains run w.move w.of_run) (in_contains w.move.moved.script _ w.of_move) (safe.IsWritten.header w.again w.entry)),
+    subst (λ (k : Header). IsHashed run c (named_bytes k)) w.is (wrote w.move (Write w.again w.entry) _ (in_contains w.move run w.of_run) (in_contains _ w.move.moved.script w.of_move) (safe.IsWritten.header w.again w.entry)),
     subst IsHeader w.is w.good.header,
   )
 

@@ -43,5 +43,6 @@ pub use Rattle.law_2_chains.proofs.Scripts
 pub use Rattle.law_2_chains.proofs.SendsScripts
 pub use Rattle.law_2_chains.proofs.SilentWaits
 pub use Rattle.law_2_chains.proofs.Slots
+pub use Rattle.law_2_chains.proofs.StoredLists
 pub use Rattle.law_2_chains.proofs.Waking
 pub use Rattle.law_2_chains.proofs.Writing

@@ -16,7 +16,8 @@ use Rattle.law_2_chains.specs.Chains.{Setup}
 use Rattle.law_2_chains.specs.Reflecting.{entries_by}
 use Rattle.law_2_chains.proofs.Making.{logged_made}
 use Rattle.law_3_outputs.specs.Followed.{IsFollowed}
-use Rattle.law_3_outputs.proofs.Sets.{bound, greatest, Listed, listed, in_contains}
+use Rattle.law_2_chains.proofs.StoredLists.{in_contains}
+use Rattle.law_3_outputs.proofs.Sets.{bound, greatest, Listed, listed}
 use Rattle.law_3_outputs.proofs.Traces.{WasWritten, last, written_of}
 use Rattle.law_3_outputs.proofs.Machine.{committed_begun, logged}
 use Rattle.law_3_outputs.proofs.Forth.{CommittedAt, good}
@@ -33,7 +34,7 @@ module _ (cluster n : ℕ) (u : Setup) (run : List Played) (x : IsFollowed clust
   newest =
       let b = bound g.log_view u.quorums.n in
       let size = x.size_is in
-      let few = x.fit.few in
+      let some = x.fit.some in
       greatest g.finished b.0 y.history.first.0 (λ v f. let l = y.led v f in let m = b.1 (v % u.quorums.n) (mod-lt v (omega arith)) in omega arith)
 
   abbrev IsLogged : ℕ → Whole → Type 0
@@ -84,5 +85,5 @@ module _ (cluster n : ℕ) (u : Setup) (run : List Played) (x : IsFollowed clust
         at = w.1;
         is = e.is;
         good = e.good;
-        hashed = wrote e.move (Write e.again e.entry) _ (in_contains run e.move e.of_run) (in_contains e.move.moved.script _ e.of_move) (safe.IsWritten.operation e.again e.entry);
+        hashed = wrote e.move (Write e.again e.entry) _ (in_contains e.move run e.of_run) (in_contains _ e.move.moved.script e.of_move) (safe.IsWritten.operation e.again e.entry);
       }

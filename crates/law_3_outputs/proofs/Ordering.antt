@@ -40,7 +40,7 @@ use Rattle.law_2_chains.specs.Deciding.{Hash, session_answer, request_table, pre
 use Rattle.law_2_chains.specs.Asker.{Asker}
 use Rattle.law_2_chains.specs.Laws.{HasNames, IsEvent, IsMessage}
 use Rattle.law_2_chains.specs.Outputs.{send_to, send_to_all, to_primary, prepare, commit_message, do_view_change, start_view, start_view_change, get_view, get_sync, sync_view, give_prepare, give_block, wait_line}
-use Rattle.law_2_chains.specs.Replica.{Replica, head, header_at, is_here, is_frozen, is_spent, is_primary, is_started, last_view, part_at, view_change, version}
+use Rattle.law_2_chains.specs.Replica.{Replica, is_alone, head, header_at, is_here, is_frozen, is_spent, is_primary, is_started, last_view, part_at, view_change, version}
 use Rattle.law_2_chains.specs.Rules.{asker_by, next_entry, make, stored_reply, obey_request, on_request, acknowledge, ask_view, obey_prepare, on_prepare, acknowledged, obey_prepare_ok, on_prepare_ok, obey_commit, on_commit, heard_of, obey_start_view_change, on_start_view_change, with_statement, obey_do_view_change, on_do_view_change, acknowledge_stored, obey_start_view, on_start_view, obey_get_view, on_get_view, obey_get_prepare, on_get_prepare, obey_give_prepare, on_give_prepare, asked_block, block_at, give_read, obey_get_block, on_get_block, without, put_block, put_found, mend_found, not_worn, obey_give_block, on_give_block, obey_get_sync, on_get_sync, obey_sync_view, on_sync_view, test_of, idler, next_view, obey_tick, on_tick, on_message, on_event, react}
 use Rattle.law_2_chains.specs.Sound.{IsSound, IsStated}
 use Rattle.law_2_chains.specs.Steps.{PutBlock, Say, Setting, Step, Word, ◌⨾◌, quiet, change, does, says, by, naming, reading, when, each, outputs, after_all}
@@ -224,11 +224,13 @@ module _ {F : Type 0} where
   unfolding begin_view says
   at_begin ss l s r f h log m =
       let again : Word F = by (λ r. each prepare_again (ops r.commit l.head)) in
+      let counts : Word F = by (λ r. cond (is_alone r) advance apply) in
       let d = after_all s f (map Say (choose_line ss l r)) in
       at_then (says (choose_line ss l)) _ s r f (at_quiet (says (choose_line ss l)) s r f (quiet_says (choose_line ss l) (λ r. (tt, tt))))
-      (at_and (take l) (says (send_to_all start_view) ⨾ again ⨾ apply) s r d (quiet_take l) (kept_take l s r d h log m)
-      (quiet_and (says (send_to_all start_view)) (again ⨾ apply) (quiet_sends start_view) (keeps_says _)
-      (quiet_and again apply (quiet_by _ (λ r. quiet_each prepare_again (ops r.commit l.head) quiet_again)) (keeps_by _ (λ r. keeps_each prepare_again (ops r.commit l.head) keeps_prepare_again)) orderly_apply)))
+      (at_and (take l) (says (send_to_all start_view) ⨾ again ⨾ counts) s r d (quiet_take l) (kept_take l s r d h log m)
+      (quiet_and (says (send_to_all start_view)) (again ⨾ counts) (quiet_sends start_view) (keeps_says _)
+      (quiet_and again counts (quiet_by _ (λ r. quiet_each prepare_again (ops r.commit l.head) quiet_again)) (keeps_by _ (λ r. keeps_each prepare_again (ops r.commit l.head) keeps_prepare_again))
+      (orderly_by _ (λ r. orderly_if (is_alone r) advance apply orderly_advance orderly_apply)))))
 
   at_choice : (c : Choice) (s : Setting F) (r : Replica) (f : F) → IsSound r → decided r ≡ c → OrderlyAt s r f (obey_choice (stated r) c)
   unfolding try_log naming by

@@ -18,7 +18,7 @@ use Rattle.vr_msg.specs.declared.output.Output.TheVariants as output
 use Rattle.vr_msg.specs.Logs.{header_of}
 use Rattle.vr_ckpt.specs.declared.name.Name.{Name}
 use Rattle.law_2_chains.specs.Outputs.{kind_of, replies, asker_of, commit_line, applied_reply, send, send_to_all, others, to_primary, prepare, prepare_ok, start_view_change, get_block, get_prepare}
-use Rattle.law_2_chains.specs.Replica.{Replica, leads, part_at, with_part, forgetting, last_view, is_primary, is_started, is_here}
+use Rattle.law_2_chains.specs.Replica.{Replica, is_alone, leads, part_at, with_part, forgetting, last_view, is_primary, is_started, is_here}
 use Rattle.law_2_chains.specs.Sound.{IsSound}
 use Rattle.law_2_chains.specs.Steps.{Effect, Mend, Rewrite, Say, Setting, Step, Word, ◌⨾◌, quiet, change, does, says, by, naming, reading, when, times, each, outputs, after_all}
 use Rattle.law_2_chains.specs.Words.{Log, rested, entered, enter, saves, with_saved, save, writes, stored, write, accept, entry_of, lost, or_lost, with_entry, with_entry_at, applied, checkpoints, with_checkpoint, checkpoint_of, make_checkpoint, is_checkpoint, apply_entry, is_loaded, apply_next, apply, taken, take as take_over, prepare_again, resend, turned, ask_peer, ask_for, ask, least_absent, load, loads, checkpoint_at, blocks_of, header_read, mend_header, op_of_slot, place_now, visit, visit_block, visit_place, visit_read, visit_slot, with_cursor, with_worn}
@@ -50,6 +50,7 @@ other_line i (output.Choose c) h = refl
 other_line i (output.Wait w) h = refl
 other_line i (output.Start s) h = refl
 other_line i (output.Halted r) h = refl
+other_line i (output.Migrated r) h = refl
 other_line i output.Done h = refl
 other_line i output.KeptOut h = refl
 
@@ -61,6 +62,7 @@ other_ordered i m (output.Choose c) h = tt
 other_ordered i m (output.Wait w) h = tt
 other_ordered i m (output.Start s) h = tt
 other_ordered i m (output.Halted r) h = tt
+other_ordered i m (output.Migrated r) h = tt
 other_ordered i m output.Done h = tt
 other_ordered i m output.KeptOut h = tt
 
@@ -82,6 +84,7 @@ mute_other (output.Choose c) h = tt
 mute_other (output.Wait w) h = tt
 mute_other (output.Start s) h = tt
 mute_other (output.Halted r) h = tt
+mute_other (output.Migrated r) h = tt
 mute_other output.Done h = tt
 mute_other output.KeptOut h = tt
 
@@ -111,6 +114,7 @@ in_order_lined log i m (o ∷ os) h f =
       | output.Wait w ↦ λ e k. tt
       | output.Start s ↦ λ e k. tt
       | output.Halted r ↦ λ e k. tt
+      | output.Migrated r ↦ λ e k. tt
       | output.Done ↦ λ e k. tt
       | output.KeptOut ↦ λ e k. tt
     ] in
@@ -351,7 +355,7 @@ module _ {F : Type 0} where
 
   pub quiet_ask : Quiet {F = F} ask
   unfolding ask
-  quiet_ask = quiet_by (λ r. ask_for r.missing (least_absent r) r.worn) (λ r. quiet_ask_for r.missing (least_absent r) r.worn)
+  quiet_ask = quiet_by _ (λ r. quiet_when (not (is_alone r)) (ask_for r.missing (least_absent r) r.worn) (quiet_ask_for r.missing (least_absent r) r.worn))
 
   -- ---- a visit
 

@@ -3,7 +3,7 @@ use Rattle.vr_base.specs.declared.kind.Kind.{Kind}
 use Rattle.std.proofs.Common.{ℕ, zero, suc, ◌+◌, ◌<◌, ◌≤◌, ◌^◌, ◌≡◌, ◌∙◌, ◌⊎◌, inl, inr, arith, ap, subst, List, [], ◌∷◌, Some}
 use Rattle.std.specs.Prelude.{All, slice_get, slice_set}
 use Rattle.std.proofs.lemmas.List.Elements.{All-head, All-tail}
-use Rattle.vr_super.specs.Copies.{SuperValue}
+use Rattle.vr_super.specs.Copies.{IsGood, SuperValue}
 use Rattle.vr_msg.specs.declared.event.Event.{Event}
 use Rattle.law_2_chains.specs.Replica.{Replica}
 use Rattle.law_2_chains.specs.Lying.{Lying, lying}
@@ -18,7 +18,7 @@ use Rattle.law_2_chains.proofs.InTwo.{opening_in_two}
 use Rattle.law_2_chains.proofs.SendsSteps.{steps_are_present}
 use Rattle.law_2_chains.proofs.SendsOpening.{openings_are_present}
 use Rattle.law_3_outputs.specs.Followed.{IsFitRun}
-use Rattle.law_3_outputs.proofs.Fitting.{IsOpening, opening_of}
+use Rattle.law_3_outputs.proofs.Fitting.{opening_of}
 
 -- each running member
 abbrev pub ArePlaced : Group → Type 0
@@ -36,8 +36,8 @@ set_other (z ∷ zs) (suc i) (suc j) y x e = set_other zs i j y x e
 pub step_present : (r : Replica) (e : Event) (d : Lying) → IsPlaced r → IsPresent (Answers e) r (stepped e r d)
 step_present r e d h = steps_are_present lying d r e h
 
-pub opening_present : (v : SuperValue) (d : Lying) → IsOpening v → IsPresent (λ to view. ⊥) (blank v) (record { replica = (resumed v d).replica; script = opening_script v d })
-opening_present v d g = subst (IsPresent (λ to view. ⊥) (blank v)) (opening_in_two v d) (openings_are_present lying d v g.0 g.1)
+pub opening_present : (v : SuperValue) (d : Lying) → IsGood v → IsPresent (λ to view. ⊥) (blank v) (record { replica = (resumed v d).replica; script = opening_script v d })
+opening_present v d g = subst (IsPresent (λ to view. ⊥) (blank v)) (opening_in_two v d) (openings_are_present lying d v g)
 
 module _ (g : Group) (at : ℕ) (placed : ArePlaced g) where
   -- one member runs on, or has stopped
@@ -68,17 +68,17 @@ runs_placed c g _ (goes _ move moved later moves rest) fit h placed (suc t) p e 
     let one = All-head (λ (p : Played). IsFitMove p.move) q later h in
     runs_placed c moved.group later rest (groups_fit.each c g move moved fit one moves) (All-tail (λ (p : Played). IsFitMove p.move) q later h) (move_placed c g move moved fit one moves placed) t p e
 
-fresh_placed : (kinds : ℕ → Kind) (c n : ℕ) → AreKinds kinds n → c < 2 ^ 64 → 2 ≤ n → n ≤ 6 → ArePlaced (fresh_group kinds c n)
+fresh_placed : (kinds : ℕ → Kind) (c n : ℕ) → AreKinds kinds n → c < 2 ^ 64 → n ≤ 6 → ArePlaced (fresh_group kinds c n)
 unfolding fresh_group
-fresh_placed kinds c n are l a b at m r x =
+fresh_placed kinds c n are l b at m r x =
     let k = fresh_at kinds c n 0 n at m x.member in
     let j : 0 + at ≡ at = omega arith in
     let is : group.fresh_member (kinds at) c n at ≡ m = subst (λ i. group.fresh_member (kinds i) c n i ≡ m) j k.0 in
     let same : Some (fresh (kinds at) c n at) ≡ Some r = ap (λ (z : Member). z.replica) is ∙ x.running in
     let one : fresh (kinds at) c n at ≡ r = cc in
-    subst IsPlaced one (fresh_fits (kinds at) c n at (are at k.1) l a b k.1).placed
+    subst IsPlaced one (fresh_fits (kinds at) c n at (are at k.1).0 l (are at k.1).1 b k.1).placed
 
 -- in each group of a run
 pub placed_at : (cluster n : ℕ) (run : List Played) → IsFitRun cluster n run → (t : ℕ) (p : Played) → slice_get run t ≡ Some p → ArePlaced p.before
 placed_at cluster n run x t p is =
-    runs_placed cluster (fresh_group x.kinds cluster n) run x.of_run (fresh_group_fits x.kinds cluster n x.are_kinds x.number x.few x.many) x.moves (fresh_placed x.kinds cluster n x.are_kinds x.number x.few x.many) t p is
+    runs_placed cluster (fresh_group x.kinds cluster n) run x.of_run (fresh_group_fits x.kinds cluster n x.are_kinds x.number x.some x.many) x.moves (fresh_placed x.kinds cluster n x.are_kinds x.number x.many) t p is

@@ -5,7 +5,7 @@ use Rattle.std.proofs.lemmas.List.Elements.{All-nil, All-cons, All-head, All-tai
 use Rattle.vr_msg.specs.declared.output.Committed.{Committed}
 use Rattle.vr_msg.specs.declared.output.Output.{Output}
 use Rattle.vr_msg.specs.declared.output.Output.TheVariants as output
-use Rattle.vr_super.specs.Copies.{SuperValue}
+use Rattle.vr_super.specs.Copies.{IsGood, SuperValue}
 use Rattle.law_2_chains.specs.Fit.{IsFit, ReadsWell}
 use Rattle.law_2_chains.specs.Group.{Group, Move, Moved, Moves, Played, fresh_group, mended, opening_script, resumed}
 use Rattle.law_2_chains.specs.Group as group
@@ -21,7 +21,7 @@ use Rattle.law_2_chains.proofs.SendsScripts.{outputs_append}
 use Rattle.law_1_machine.specs.Basics.{In}
 use Rattle.law_3_outputs.specs.Written.{IsWellRead, StepsReadGood}
 use Rattle.law_3_outputs.specs.Followed.{IsFitRun}
-use Rattle.law_3_outputs.proofs.Fitting.{IsOpening, arrives, fit_at, good_whole, move_of, opening_fit, opening_of}
+use Rattle.law_3_outputs.proofs.Fitting.{arrives, fit_at, good_whole, move_of, opening_fit, opening_of}
 use Rattle.law_3_outputs.proofs.Ordering.{come_in_order}
 use Rattle.law_3_outputs.proofs.Orders.{IsOther}
 use Rattle.law_3_outputs.proofs.Resuming.{quiet_mending, resumed_order}
@@ -45,7 +45,7 @@ fit_back [] ys h = h
 fit_back (x ∷ xs) ys h = fit_back xs ys (All-tail IsFit x (xs ++ ys) h)
 
 -- an opening mends without a line, and reads then what it applies
-pub opening_reads : (v : SuperValue) (d : Lying) → IsOpening v → ReadsWell lying d → (l : Committed) → In (output.Commit l) (outputs (opening_script v d)) → IsWellRead l.entry
+pub opening_reads : (v : SuperValue) (d : Lying) → IsGood v → ReadsWell lying d → (l : Committed) → In (output.Commit l) (outputs (opening_script v d)) → IsWellRead l.entry
 opening_reads v d g k l j =
     let xs = (mended v d).script in
     let ys = (resumed v d).script in
@@ -53,7 +53,7 @@ opening_reads v d g k l j =
     elim (in_either (outputs xs) (outputs ys) (output.Commit l) (subst (λ (os : List Output). In (output.Commit l) os) (outputs_append xs ys) j)) [
       | inl a ↦ absurd (every_in IsOther (outputs xs) (output.Commit l) a ((quiet_mending v).every lying (blank v) d).said)
       | inr b ↦
-          let o = (resumed_order v d g.0 g.1 k).read l b in
+          let o = (resumed_order v d g k).read l b in
           let late = reads_later lying d xs k (fit_front xs ys fit) in
           let whole = late.entry o.first (fit_front o.first o.rest (subst (All IsFit) (sym o.are) (fit_back xs ys fit))) o.slot l.entry o.within o.reads in
           record { form = whole.entry.header; good = good_whole l.entry whole }

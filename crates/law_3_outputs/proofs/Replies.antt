@@ -82,6 +82,7 @@ line_before i (suc number) (output.Choose l ∷ os) h = let r = line_before i nu
 line_before i (suc number) (output.Wait w ∷ os) h = let r = line_before i number os (omega (arith, h)) in let l = r.2 in (suc r.0, r.1, omega arith, r.3)
 line_before i (suc number) (output.Start s ∷ os) h = let r = line_before i number os (omega (arith, h)) in let l = r.2 in (suc r.0, r.1, omega arith, r.3)
 line_before i (suc number) (output.Halted n ∷ os) h = let r = line_before i number os (omega (arith, h)) in let l = r.2 in (suc r.0, r.1, omega arith, r.3)
+line_before i (suc number) (output.Migrated n ∷ os) h = let r = line_before i number os (omega (arith, h)) in let l = r.2 in (suc r.0, r.1, omega arith, r.3)
 line_before i (suc number) (output.Done ∷ os) h = let r = line_before i number os (omega (arith, h)) in let l = r.2 in (suc r.0, r.1, omega arith, r.3)
 line_before i (suc number) (output.KeptOut ∷ os) h = let r = line_before i number os (omega (arith, h)) in let l = r.2 in (suc r.0, r.1, omega arith, r.3)
 
@@ -209,7 +210,7 @@ module _ (cluster n : ℕ) (u : Setup) (run : List Played) (x : IsFollowed clust
       let fit = fit_at cluster n run x.fit t p is in
       let value = opening_of cluster g at m v fit.0.0 opens.member opens.value in
       let had = y.loads never log (is_log cluster n u run x) t at p v d is refl free in
-      resumed_have log (log_numbered cluster n u run x) v d value.0 value.1 fit.1 free had (λ c i. line_at t p is c (said_right (mended v d).script (resumed v d).script (output.Commit c) i))) free)
+      resumed_have log (log_numbered cluster n u run x) v d value fit.1 free had (λ c i. line_at t p is c (said_right (mended v d).script (resumed v d).script (output.Commit c) i))) free)
   moved_have t g _ _ is (recovers_cut at v f k m opens) have = changed_have log g _ at (record (cut_in_two (mended v f).script (resumed v f).script (keeps_all (found v f)) k m) { replica = None }) refl have (λ q e' free. absurd cc)
 
   -- a group that was just made

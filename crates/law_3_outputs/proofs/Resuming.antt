@@ -1,5 +1,5 @@
 -- The commit lines of an opening come in order, and it keeps the state of the log past its load.
-use Rattle.std.proofs.Common.{ℕ, ◌+◌, ◌≤◌, ◌≡◌, ◌∙◌, refl, sym, subst, Bool, true, false, cond, List, [], ◌++◌, Option, Some, None}
+use Rattle.std.proofs.Common.{ℕ, ◌+◌, ◌≡◌, ◌∙◌, refl, sym, subst, Bool, true, false, cond, List, [], ◌++◌, Option, Some, None}
 use Rattle.std.specs.Prelude.{nat_lt, nat_le, not, slice_get, ◌||◌, ◌-◌}
 use Rattle.std.proofs.lemmas.Bool.{true≢false}
 use Rattle.vr_header.specs.Made.{Whole}
@@ -40,9 +40,9 @@ keeps_leave : {F : Type 0} → Keeps {F = F} leave_view
 keeps_leave = keeps_by _ (λ r. keeps_when (leads r) _ (keeps_then _ _ (keeps_change in_next_view kept_next) keeps_save))
 
 -- what was found is sound
-found_opened : (v : SuperValue) (d : Lying) → IsGood v → 2 ≤ v.fields.n → ReadsWell lying d → Opened (recovered v d)
+found_opened : (v : SuperValue) (d : Lying) → IsGood v → ReadsWell lying d → Opened (recovered v d)
 unfolding ◌⨾◌ does after_all
-found_opened v d good two reads = opening.recovered v lying (lying.after d (Mend v)) (value_is v good two) (reads_after lying d (Mend v) good (headers_of lying d reads))
+found_opened v d good reads = opening.recovered v lying (lying.after d (Mend v)) (value_is v good) (reads_after lying d (Mend v) good (headers_of lying d reads))
 
 -- what a part of a script says is said in it
 said_left : (xs ys : List Effect) (o : Output) → In o (outputs xs) → In o (outputs (xs ++ ys))
@@ -116,11 +116,11 @@ module _ {F : Type 0} where
   quiet_announce = quiet_by _ (λ r. quiet_when (not (is_started r)) _
       (quiet_then (change heard_itself) _ (quiet_change heard_itself (λ r. refl) (λ r. refl)) (quiet_by _ (λ r. quiet_when (nat_le r.view last_view) _ (quiet_sends start_view_change)))))
 
-module _ (v : SuperValue) (d : Lying) (good : IsGood v) (two : 2 ≤ v.fields.n) (reads : ReadsWell lying d) where
+module _ (v : SuperValue) (d : Lying) (good : IsGood v) (reads : ReadsWell lying d) where
   loaded_sound : IsSound (has_loaded v d).replica
   unfolding ◌⨾◌ says
   loaded_sound =
-      let h = found_opened v d good two reads in
+      let h = found_opened v d good reads in
       let q : Replica = (leave_view lying (recovered v d) (on_disk v d)).replica in
       let k : IsSound q = (keeps_leave.every lying (recovered v d) (on_disk v d) h.sound).kept.sound in
       let e : q.applied ≡ q.checkpoint = left_applied lying (recovered v d) (on_disk v d) h.applied in
@@ -153,7 +153,7 @@ module _ (v : SuperValue) (d : Lying) (good : IsGood v) (two : 2 ≤ v.fields.n)
       ] in
       go (is_spent (recovered v d))
 
-module _ (log : List Whole) (numbers : IsNumbered log) (v : SuperValue) (d : Lying) (good : IsGood v) (two : 2 ≤ v.fields.n) (reads : ReadsWell lying d) where
+module _ (log : List Whole) (numbers : IsNumbered log) (v : SuperValue) (d : Lying) (good : IsGood v) (reads : ReadsWell lying d) where
   abbrev AreLines : List Effect → Type 0
   AreLines es = (c : Committed) → In (output.Commit c) (outputs es) → slice_get log (c.entry.header.op - 1) ≡ Some c.entry
 
@@ -170,7 +170,7 @@ module _ (log : List Whole) (numbers : IsNumbered log) (v : SuperValue) (d : Lyi
       let d4 = after_all lying d3 p.script in
       let n = announce lying p.replica d4 in
       let lined : Lined log l.replica.index l.replica.applied (outputs p.script) =
-      in_order_lined log l.replica.index l.replica.applied (outputs p.script) (orderly_apply.every lying l.replica d3 (loaded_sound v d good two reads)).ordered (λ c i.
+      in_order_lined log l.replica.index l.replica.applied (outputs p.script) (orderly_apply.every lying l.replica d3 (loaded_sound v d good reads)).ordered (λ c i.
       are c (said_right a.script (b.script ++ (l.script ++ (p.script ++ n.script))) (output.Commit c) (said_right b.script (l.script ++ (p.script ++ n.script)) (output.Commit c) (said_right l.script (p.script ++ n.script) (output.Commit c) (said_left p.script n.script (output.Commit c) i))))) in
       words.keeps_state log p.replica n.replica (announced lying p.replica d4) ((fair_apply log numbers).each lying l.replica d3 had lined true).state
 

@@ -1,8 +1,7 @@
 -- Sets of replicas made of a test, lists made entry by entry, and the greatest number that passes a test.
 use Rattle.std.proofs.Common.{ℕ, zero, suc, ◌+◌, ◌≤◌, ◌<◌, ◌≡◌, ◌∙◌, inl, inr, arith, refl, sym, ap, subst, Bool, true, false, cond, List, [], ◌∷◌, ◌++◌, length, get_or, Some, length-append}
-use Rattle.std.specs.Prelude.{All, Contains, count_by, slice_get}
+use Rattle.std.specs.Prelude.{count_by, slice_get}
 use Rattle.std.proofs.lemmas.Bool.{cases_eq, true≢false}
-use Rattle.std.proofs.lemmas.List.Elements.{All-cons, All-contains, All-nil, All-weaker}
 use Rattle.std.proofs.lemmas.List.Sums.{sum_by-cons}
 use Rattle.vr_base.specs.declared.replicas.Replicas.{Replicas}
 use Rattle.vr_base.specs.Replicas.{has_replica, size}
@@ -112,15 +111,3 @@ greatest f (suc n) first most =
 pub bound : (f : ℕ → ℕ) (n : ℕ) → (b : ℕ) × ((r : ℕ) → r < n → f r ≤ b)
 bound f zero = (0, λ r l. absurd (omega arith))
 bound f (suc n) = let p = bound f n in (p.0 + f n, λ r l. elim (cases_eq r n) [ inl e ↦ (let s = ap f e in omega arith) | inr d ↦ let a = p.1 r (omega arith) in omega arith ])
-
-pub in_contains : {X : Type 0} (xs : List X) (x : X) → In x xs → Contains xs x
-in_contains [] x h = absurd h
-in_contains (y ∷ xs) x (inl e) = (0, omega arith, sym e)
-in_contains (y ∷ xs) x (inr h) = let p = in_contains xs x h in let l = p.1 in (suc p.0, omega arith, p.2)
-
-all_in : {X : Type 0} (xs : List X) → All (λ x. In x xs) xs
-all_in [] = All-nil (λ x. In x [])
-all_in {X} (y ∷ ys) = All-cons (λ x. In x (y ∷ ys)) y ys (inl refl) (All-weaker (λ (x : X). In x ys) (λ x. In x (y ∷ ys)) (λ x i. inr i) ys (all_in ys))
-
-pub contains_in : {X : Type 0} (xs : List X) (x : X) → Contains xs x → In x xs
-contains_in xs x h = All-contains (λ y. In y xs) xs x (all_in xs) h

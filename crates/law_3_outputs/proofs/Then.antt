@@ -53,6 +53,7 @@ module _ (u : Setup) (a b : List (Message Header)) (f : (m : Message Header) →
   true_by_more sent (output.Wait w) h = tt
   true_by_more sent (output.Start s) h = tt
   true_by_more sent (output.Halted r) h = tt
+  true_by_more sent (output.Migrated r) h = tt
   true_by_more sent output.Done h = tt
   true_by_more sent output.KeptOut h = tt
 
@@ -82,6 +83,7 @@ true_free u a b sent (output.Choose l) free h = tt
 true_free u a b sent (output.Wait w) free h = tt
 true_free u a b sent (output.Start s) free h = tt
 true_free u a b sent (output.Halted r) free h = tt
+true_free u a b sent (output.Migrated r) free h = tt
 true_free u a b sent output.Done free h = tt
 true_free u a b sent output.KeptOut free h = tt
 

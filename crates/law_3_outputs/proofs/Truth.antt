@@ -24,6 +24,7 @@ module _ (cluster n : ℕ) (u : Setup) (run : List Played) (x : IsFollowed clust
   backed_is move number p (output.Wait w) never i so = tt
   backed_is move number p (output.Start s) never i so = tt
   backed_is move number p (output.Halted r) never i so = tt
+  backed_is move number p (output.Migrated r) never i so = tt
   backed_is move number p output.Done never i so = tt
   backed_is move number p output.KeptOut never i so = tt
 

@@ -46,6 +46,7 @@ mute_line i (output.Choose c) h = refl
 mute_line i (output.Wait w) h = refl
 mute_line i (output.Start s) h = refl
 mute_line i (output.Halted r) h = refl
+mute_line i (output.Migrated r) h = refl
 mute_line i output.Done h = refl
 mute_line i output.KeptOut h = refl
 
@@ -57,6 +58,7 @@ mute_told log m b (output.Choose c) h = tt
 mute_told log m b (output.Wait w) h = tt
 mute_told log m b (output.Start s) h = tt
 mute_told log m b (output.Halted r) h = tt
+mute_told log m b (output.Migrated r) h = tt
 mute_told log m b output.Done h = tt
 mute_told log m b output.KeptOut h = tt
 

@@ -211,7 +211,7 @@ module _ {F : Type 0} where
 
   pub c_begin_view : (ss : List Statement) (l : Log) → Chained {F = F} (begin_view ss l)
   unfolding begin_view
-  c_begin_view ss l = c_then _ _ (c_says (choose_line ss l)) (c_then _ _ (c_take l) (c_then _ _ (c_says _) (c_then _ _ (c_by _ (λ r. c_each prepare_again _ c_prepare_again)) c_apply)))
+  c_begin_view ss l = c_then _ _ (c_says (choose_line ss l)) (c_then _ _ (c_take l) (c_then _ _ (c_says _) (c_then _ _ (c_by _ (λ r. c_each prepare_again _ c_prepare_again)) (c_by _ (λ r. c_if _ _ _ c_advance c_apply)))))
 
   pub c_try_log : (ss : List Statement) (l : Log) → Chained {F = F} (try_log ss l)
   unfolding try_log
@@ -246,7 +246,7 @@ module _ {F : Type 0} where
 
   pub c_ask : Chained {F = F} ask
   unfolding ask
-  c_ask = c_by _ (λ r. c_ask_for _ _ _)
+  c_ask = c_by _ (λ r. c_when _ _ (c_ask_for _ _ _))
 
   -- ---- a visit: the value that is mended is the one that was saved
 

@@ -60,21 +60,21 @@ Apart v cs = (slot : ℕ) → slot < 64 → AllByRecursion (AllApart v slot) cs
 pub holds_as : {v w a b : ℕ} {x y : Option (List ℕ)} (g : Header) → x ≡ y → v ≡ w → a ≡ b → HoldsEntry v a g x → HoldsEntry w b g y
 holds_as g e f c h = record { entry = h.entry; whole = h.whole; header = h.header; group = h.group ∙ c; version = subst (λ (n : ℕ). g.version ≤ n) f h.version; there = sym e ∙ h.there }
 
-held_moves : (d x : Lying) (m q : Member) → x.version ≡ d.version → q.kept ≡ m.kept → q.last.fields.cluster ≡ m.last.fields.cluster → ((slot : ℕ) → slot < 64 → held_at x.held slot ≡ held_at d.held slot) → IsHeld d m → IsHeld x q
+pub held_moves : (d x : Lying) (m q : Member) → x.version ≡ d.version → q.kept ≡ m.kept → q.last.fields.cluster ≡ m.last.fields.cluster → ((slot : ℕ) → slot < 64 → held_at x.held slot ≡ held_at d.held slot) → IsHeld d m → IsHeld x q
 held_moves d x m q f e c s h = record {
   count = ap (λ (k : List (Option Header)). length k) e ∙ h.count;
   each = λ slot g l k. holds_as g (sym (s slot l)) (sym f) (sym c) (h.each slot g l (ap (λ (k : List (Option Header)). get_or k slot None) (sym e) ∙ k));
 }
 
-apart_after : {mode : Mode} (cs : List Call) (d : Lying) → IsCalm mode d → Apart d.version cs → (slot : ℕ) → slot < 64 → held_at (after_calls d cs).held slot ≡ held_at d.held slot
+pub apart_after : {mode : Mode} (cs : List Call) (d : Lying) → IsCalm mode d → Apart d.version cs → (slot : ℕ) → slot < 64 → held_at (after_calls d cs).held slot ≡ held_at d.held slot
 apart_after cs d c a slot l =
     at_slot (λ slot. held_after_all d.version d.face cs slot (held_at d.held slot)) slot l ∙ apart_held_all d.version cs d.face slot (held_at d.held slot) l c.face.count (a slot l) (c.stand.each slot l)
 
-apart_stopped : {mode : Mode} (cs : List Call) (d : Lying) (j code : ℕ) → IsCalm mode d → Apart d.version cs → (slot : ℕ) → slot < 64 → held_at (cut_calls j code d cs).held slot ≡ held_at d.held slot
+pub apart_stopped : {mode : Mode} (cs : List Call) (d : Lying) (j code : ℕ) → IsCalm mode d → Apart d.version cs → (slot : ℕ) → slot < 64 → held_at (cut_calls j code d cs).held slot ≡ held_at d.held slot
 apart_stopped cs d j code c a slot l =
     at_slot (λ slot. held_cut d.version j code d.face cs slot (held_at d.held slot)) slot l ∙ apart_held_cut d.version cs d.face slot j code (held_at d.held slot) l c.face.count (a slot l) (λ k x. rw c.rests refl) (c.stand.each slot l)
 
-apart_stands : {mode : Mode} (cs : List Call) (d : Lying) (j code : ℕ) → IsCalm mode d → Apart d.version cs → (slot : ℕ) → slot < 64 → Stands d.version mode (cut j code d.face cs) slot (held_cut d.version j code d.face cs slot (held_at d.held slot))
+pub apart_stands : {mode : Mode} (cs : List Call) (d : Lying) (j code : ℕ) → IsCalm mode d → Apart d.version cs → (slot : ℕ) → slot < 64 → Stands d.version mode (cut j code d.face cs) slot (held_cut d.version j code d.face cs slot (held_at d.held slot))
 apart_stands cs d j code c a slot l = apart_cut d.version cs d.face slot (held_at d.held slot) j code l c.face.count (a slot l) (λ k x. rw c.rests refl) (c.stand.each slot l)
 
 -- ---- mending, from whatever the superblock opens as

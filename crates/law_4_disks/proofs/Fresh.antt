@@ -6,6 +6,7 @@ use Rattle.std.proofs.lemmas.Bool.{cases_eq, cases_lt}
 use Rattle.std.proofs.lemmas.List.{append-nil, get_or-replicate, get_or_past, length-replicate, take_all}
 use Rattle.std.proofs.lemmas.List.FromFn.{get_or-map-range_with_len, length-map-range_with_len}
 use Rattle.std.proofs.lemmas.Option.{slice_get_within, slice_get-get_or}
+use Rattle.vr_base.specs.Groups.{least_members}
 use Rattle.vr_base.specs.declared.kind.Kind.{Kind}
 use Rattle.vr_base.specs.declared.mode.Mode.{Mode}
 use Rattle.vr_disk.specs.DiskState.{Call, Face, IsCell, IsContent, IsFace, Sync, after, after_all}
@@ -137,7 +138,7 @@ all_open v g gv a =
 abbrev nothing_kept : Option Header
 nothing_kept = None
 
-formatted_on : (kind : Kind) (home n i : ℕ) → IsKind kind → home < 2 ^ 64 → 2 ≤ n → n ≤ 6 → i < n → IsOn (hazards.formatted kind home n i) (group.fresh_member kind home n i)
+formatted_on : (kind : Kind) (home n i : ℕ) → IsKind kind → home < 2 ^ 64 → least_members kind.version ≤ n → n ≤ 6 → i < n → IsOn (hazards.formatted kind home n i) (group.fresh_member kind home n i)
 formatted_on kind home n i k room a b l =
     let v = first_value kind home n i in
     let cs = copy_bytes v in
@@ -168,19 +169,19 @@ fresh_saved : (kind : Kind) (home n i : ℕ) → (fresh kind home n i).saved ≡
 unfolding blank
 fresh_saved kind home n i = refl
 
-fresh_stands : (kinds : ℕ → Kind) (home n i : ℕ) → AreKinds kinds n → home < 2 ^ 64 → 2 ≤ n → n ≤ 6 → i < n → Beside (first_host kinds home n i) (group.fresh_member (kinds i) home n i)
-fresh_stands kinds home n i k room a b l = record {
+fresh_stands : (kinds : ℕ → Kind) (home n i : ℕ) → AreKinds kinds n → home < 2 ^ 64 → n ≤ 6 → i < n → Beside (first_host kinds home n i) (group.fresh_member (kinds i) home n i)
+fresh_stands kinds home n i k room b l = record {
   replica = refl;
-  running = λ r e. (formatted_on (kinds i) home n i (k i l) room a b l, ap (λ (r : Replica). r.saved) (sym (some_replica (fresh (kinds i) home n i) r e)) ∙ fresh_saved (kinds i) home n i);
+  running = λ r e. (formatted_on (kinds i) home n i (k i l).0 room (k i l).1 b l, ap (λ (r : Replica). r.saved) (sym (some_replica (fresh (kinds i) home n i) r e)) ∙ fresh_saved (kinds i) home n i);
   stopped = λ e. absurd (let bad : Some (fresh (kinds i) home n i) ≡ None = e in cc);
 }
 
 pub some_world : (a b : world.Host Lying) → Some a ≡ Some b → a ≡ b
 some_world a b e = cc
 
-pub fresh_beside : (kinds : ℕ → Kind) (home n : ℕ) → AreKinds kinds n → home < 2 ^ 64 → 2 ≤ n → n ≤ 6 → AreBeside (first_world kinds home n) (fresh_group kinds home n)
+pub fresh_beside : (kinds : ℕ → Kind) (home n : ℕ) → AreKinds kinds n → home < 2 ^ 64 → n ≤ 6 → AreBeside (first_world kinds home n) (fresh_group kinds home n)
 unfolding first_world fresh_group
-fresh_beside kinds home n k room a b = record {
+fresh_beside kinds home n k room b = record {
   n = refl;
   sent = refl;
   count = length-map-range_with_len (λ i. group.fresh_member (kinds i) home n i) 0 n ∙ sym (length-map-range_with_len (first_host kinds home n) 0 n);
@@ -193,7 +194,7 @@ fresh_beside kinds home n k room a b = record {
       let l : i < n = omega (arith, size, within) in
       let is : m ≡ f i = some_world m (f i) (sym e ∙ (slice_get-get_or (map f (range_with_len 0 n)) i m within ∙ ap Some (get_or-map-range_with_len f 0 n i i m l (omega arith)))) in
       let there : slice_get (map h (range_with_len 0 n)) i ≡ Some (h i) = slice_get-get_or (map h (range_with_len 0 n)) i (h i) (omega (arith, size2, l)) ∙ ap Some (get_or-map-range_with_len h 0 n i i (h i) l (omega arith)) in
-      (h i, there, subst (λ (m : world.Host Lying). Beside m (h i)) (sym is) (fresh_stands kinds home n i k room a b l));
+      (h i, there, subst (λ (m : world.Host Lying). Beside m (h i)) (sym is) (fresh_stands kinds home n i k room b l));
 }
 
 fresh_stocked : (kind : Kind) (home n i : ℕ) → IsStocked (fresh kind home n i)
@@ -222,7 +223,7 @@ unfolding fresh_group
 none_made kinds home n = refl
 
 pub worlds_begin : WorldsBegin
-worlds_begin kinds home n k room a b = record { beside = fresh_beside kinds home n k room a b; fit = fresh_group_fits kinds home n k room a b; stock = group_stocked kinds home n }
+worlds_begin kinds home n k room a b = record { beside = fresh_beside kinds home n k room b; fit = fresh_group_fits kinds home n k room a b; stock = group_stocked kinds home n }
 
 pub schedules_begin : SchedulesBegin
 unfolding world.fresh_world first_world

@@ -1,17 +1,25 @@
 -- Line by line.
-use Rattle.std.proofs.Common.{ℕ, zero, suc, ◌+◌, ◌-◌, ◌<◌, ◌≡◌, ◌≢◌, ◌⊎◌, inl, inr, arith, refl, sym, ap, ◌∙◌, subst, true, false, cond, List, [], ◌∷◌, ◌++◌, length, take, set, Option, Some, None, length-set, get_or-set_same}
-use Rattle.std.specs.Prelude.{slice_get, nat_le}
+use Rattle.std.proofs.Common.{ℕ, zero, suc, ◌+◌, ◌-◌, ◌^◌, ◌≤◌, ◌<◌, ◌≡◌, ◌≢◌, ◌⊎◌, inl, inr, arith, refl, sym, ap, ◌∙◌, subst, true, false, cond, List, [], ◌∷◌, ◌++◌, length, take, set, Option, Some, None, length-set, get_or-set_same}
+use Rattle.std.specs.Prelude.{max, slice_get, nat_le}
 use Rattle.std.proofs.lemmas.Bool.{cases_eq, leb-false, leb-true}
 use Rattle.std.proofs.lemmas.List.{append-nil}
 use Rattle.std.proofs.lemmas.List.Elements.{All-cons, All-nil}
 use Rattle.std.proofs.lemmas.Option.{slice_get_within, slice_get-get_or}
 use Rattle.vr_disk.specs.DiskState.{Fuse}
+use Rattle.vr_base.specs.Versions.{value_limit}
+use Rattle.vr_base.proofs.Versions.{more}
+use Rattle.vr_header.specs.declared.operation.Operation.{Operation}
+use Rattle.vr_header.specs.declared.operation.Operation.TheVariants.{Register, Put, Get, Delete}
+use Rattle.vr_header.specs.Bodies.{IsOperation}
+use Rattle.vr_header.proofs.BodyLaws.{text_more}
+use Rattle.vr_msg.specs.declared.request.RequestFields.{RequestFields}
 use Rattle.vr_msg.specs.declared.event.Event.{Event}
 use Rattle.vr_msg.specs.declared.output.Output.{Output}
 use Rattle.vr_msg.specs.declared.output.Output.TheVariants as output
 use Rattle.vr_msg.specs.declared.output.Sent.{Sent}
 use Rattle.vr_lie.specs.Copies.{SuperValue}
-use Rattle.vr_world.specs.Replica.{Replica}
+use Rattle.vr_world.specs.Replica.{Replica, version}
+use Rattle.vr_world.specs.Fit.{IsAsked}
 use Rattle.vr_world.specs.Steps.{Effect, Mend, Step, after_all}
 use Rattle.vr_world.specs.Steps as steps
 use Rattle.vr_world.specs.Rules.{asked_block, react}
@@ -20,10 +28,10 @@ use Rattle.vr_msg.specs.declared.frame.Frame.TheVariants as frame
 use Rattle.vr_world.specs.Sectors.{script_calls}
 use Rattle.vr_world.specs.Lying.{Lying, cut_calls, hazards, lying}
 use Rattle.vr_world.specs.World as world
-use Rattle.vr_world.specs.World.{Acted, Happened, World, acts, halted, stays, went, went_or_halted, with_member}
+use Rattle.vr_world.specs.World.{Acted, Happened, World, acts, halted, in_version, stays, went, went_or_halted, with_member}
 use Rattle.vr_world.specs.Outputs.{message_of, messages}
 use Rattle.vr_world.specs.Group as group
-use Rattle.vr_world.specs.Group.{Arrival, Group, IsArrival, Move, Moved, Moves, Played, Run, Runs, carried_out, cut_after, cut_short, finished, stepped, with_script}
+use Rattle.vr_world.specs.Group.{Arrival, Asked, Group, IsArrival, Move, Moved, Moves, Played, Run, Runs, carried_out, cut_after, cut_short, finished, stepped, with_script}
 use Rattle.vr_world.specs.Safe.{disks_of, run_outputs}
 use Rattle.law_4_disks.specs.Beside.{IsOff, IsOn, MayGo}
 use Rattle.std.specs.List.{AllByRecursion}
@@ -192,6 +200,27 @@ halted_stands i m q s u n v o = record {
 pub running_off : (d : Lying) (q : group.Member) → IsOn d q → IsOff d q q.last
 running_off d q o = record { calm = o.calm; held = o.held; value = o.value; file = o.file; may = inl refl; group = refl }
 
+-- ---- a request that is made in a later version can be asked, if it can in its own
+
+operation_more : (v w : ℕ) (o : Operation) → v ≤ w → w ≤ 2 → IsOperation v o → IsOperation w o
+operation_more v w Register l few g = tt
+operation_more v w (Put key value) l few g = (g.0, text_more (value_limit v) (value_limit w) value (more v w 1024 3000 l few (omega arith)) g.1)
+operation_more v w (Get key) l few g = g
+operation_more v w (Delete key) l few g = g
+
+asked_in : (v : ℕ) (x : RequestFields) → v ≤ 2 → IsAsked x → IsAsked (in_version v x)
+asked_in v x few a =
+    let of = a.version in
+    record {
+      form = record { first = a.form.first; fits = operation_more x.version (max x.version v) x.operation (omega arith) (omega (arith, few, of)) a.form.fits };
+      client = a.client;
+      request = a.request;
+      version = (omega (arith, of), omega (arith, few, of));
+    }
+
+abbrev asking_as : RequestFields → world.Host Lying → Replica → Work
+asking_as x m r = stepping (event.Request (in_version (version r) x)) m r
+
 -- ---- what is known of the work of a line
 
 pub record WorksWell (k : Work) : Type 0 where
@@ -296,8 +325,7 @@ module _ {home : ℕ} (w : World Lying) (g : Group) (i : ℕ) (m : world.Host Ly
       let saved = (s.running r run).1 in
       let is = fits.members i q there in
       let runs = is.running r (s.replica ∙ run) in
-      let file : d.version ≡ is.edition = on.file ∙ is.last.1.version in
-      let place : IsAt home g.n i d.version r = subst (λ (k : ℕ). IsAt home g.n i k r) (sym file) runs.1 in
+      let place : IsAt home g.n i d.version r = subst (λ (k : ℕ). IsAt home g.n i k r) (sym on.file) runs.1 in
       let event = arrives home g i arrival e fits fit arrive in
       let step = step_is home g.n i d.version r e d runs.0 place event (lies_fit.reads d on.calm.face) in
       let good : IsGood r.saved = subst IsGood (sym saved) is.last.0 in
@@ -321,6 +349,17 @@ module _ {home : ℕ} (w : World Lying) (g : Group) (i : ℕ) (m : world.Host Ly
   unfolding messages
   handle arrival e None run arrive fit given works = no_move [] g (with_member w i (stays m)) fits stock (stayed w g i m q (stays m) b at there s refl) none
   handle arrival e (Some r) run arrive fit given works = handle_by arrival e r run arrive fit given (works (stepping e m r) refl)
+
+  -- a request that is made in the version of the replica
+  pub ask : (x : RequestFields) (o : Option Replica) → m.replica ≡ o → IsAsked x → x.cluster < 2 ^ 64 → ((k : Work) → option_map (asking_as x m) o ≡ Some k → WorksWell k)
+      → IsMatchedBy home (begun_of (option_map (asking_as x m) o)) (read_of (option_map (asking_as x m) o)) g (with_member w i (world.asked_by hazards x i m o))
+  unfolding messages
+  ask x None run asked room works = no_move [] g (with_member w i (stays m)) fits stock (stayed w g i m q (stays m) b at there s refl) none
+  ask x (Some r) run asked room works =
+      let known = (fits.members i q there).last.0.numbers.version.1 in
+      let few : version r ≤ 2 = subst (λ (v : SuperValue). v.fields.version ≤ 2) (sym (s.running r run).1) known in
+      let y = in_version (version r) x in
+      handle_by (Asked y) (event.Request y) r run (asked_in (version r) x few asked, refl) room tt (works (asking_as x m r) refl)
 
   pub stop : IsMatchedBy home [] [] g (with_member w i (world.stops i m))
   unfolding made_in messages

@@ -1,8 +1,8 @@
 -- Each line of a schedule is a move of the group, or none.
-use Rattle.std.proofs.Common.{◌∷◌, inr, ℕ, ◌+◌, ◌-◌, ◌%◌, ◌<◌, ◌≤◌, ◌≡◌, refl, sym, ap, ◌∙◌, subst, Bool, true, false, cond, List, [], ◌++◌, length, take, Option, Some, None}
-use Rattle.std.specs.Prelude.{nat_le, slice_get}
+use Rattle.std.proofs.Common.{◌∷◌, inl, inr, ℕ, ◌+◌, ◌-◌, ◌%◌, ◌<◌, ◌≡◌, refl, sym, ap, ◌∙◌, subst, Bool, true, false, cond, List, [], ◌++◌, length, take, Option, Some, None}
+use Rattle.std.specs.Prelude.{◌==◌, nat_le, slice_get}
 use Rattle.std.specs.Option.{option_map, option_map_or}
-use Rattle.std.proofs.lemmas.Bool.{eq-eqb, le-leb, leb-false, leb-true}
+use Rattle.std.proofs.lemmas.Bool.{eq-eqb, eqb-true, leb-false, leb-true}
 use Rattle.vr_disk.specs.DiskState.{Fuse}
 use Rattle.vr_msg.specs.declared.event.Event.TheVariants as event
 use Rattle.vr_msg.specs.declared.output.Output.TheVariants as output
@@ -18,10 +18,11 @@ use Rattle.vr_world.specs.Opening.{blank, opened, opening}
 use Rattle.vr_world.specs.Sectors.{of_version, script_calls}
 use Rattle.vr_world.specs.Lying.{Lying, cut_calls, hazards, keeps_premise, lied_to, lying, unless_kept_out}
 use Rattle.vr_world.specs.World as world
-use Rattle.vr_world.specs.World.{Acted, Happening, World, Begins, Asks, Arrives, Ticks, Stops, Starts, Fuses, Lies, at_member, acts, delivered, halted, handles, lied, nothing, stays, went, went_or_halted, with_member}
+use Rattle.vr_world.specs.World.{Acted, Happening, World, Begins, Asks, AsksInVersion, Arrives, Ticks, Stops, Starts, Migrates, Fuses, Lies, at_member, acts, delivered, halted, handles, if_first, lied, migrated_or_halted, migrated_with, migration_halted, movable_by, nothing, stays, went, went_or_halted, with_member}
 use Rattle.vr_world.specs.Outputs.{messages}
 use Rattle.vr_world.specs.Group as group
-use Rattle.vr_world.specs.Group.{Asked, Group, IsArrival, Message, Move, Moves, Opens, Time, carried_out, cut_in_two, found, keeps_all, mended, once_mended, opening_script, recovered, resumed, start_cut, started}
+use Rattle.vr_world.specs.Migrating.{migrated, migration_calls}
+use Rattle.vr_world.specs.Group.{Asked, Group, IsArrival, Message, Movable, Move, Moves, Opens, Time, carried_out, cut_after, cut_in_two, migration, move_cut, moved_over, found, keeps_all, mended, once_mended, opening_script, recovered, resumed, start_cut, started}
 use Rattle.vr_world.proofs.Halves.{after_both}
 use Rattle.std.specs.List.{AllByRecursion}
 use Rattle.std.specs.Option.{option_and_then}
@@ -32,15 +33,17 @@ use Rattle.vr_lie.specs.Copies.{IsGood}
 use Rattle.vr_lie.specs.Faults.{IsFault}
 use Rattle.vr_world.specs.Steps.{Effect, Mend}
 use Rattle.vr_world.specs.Group.{Arrival, made_in}
-use Rattle.vr_world.specs.GroupFit.{IsFitArrival, IsFitGroup, IsFitValue}
+use Rattle.vr_world.specs.GroupFit.{IsFitArrival, IsFitGroup}
+use Rattle.vr_world.specs.Own.{IsOwnValue}
 use Rattle.vr_world.proofs.FitLies.{lies_fit, same_version}
-use Rattle.vr_world.proofs.FitGroups.{Known, good_value, known_right, start_is}
+use Rattle.vr_world.proofs.FitGroups.{Known, good_value, groups_fit, known_right, start_is}
 use Rattle.law_4_disks.specs.Beside.{AreMade, Finds, IsOff, IsOn, MayGo, TellsIn}
-use Rattle.law_4_disks.specs.Naming.{IsHashedAfter}
+use Rattle.law_4_disks.specs.Naming.{IsHashedAfter, IsHashedMigrating}
 use Rattle.law_4_disks.specs.Laws.{LinesAreMoves}
-use Rattle.law_4_disks.specs.Worlds.{AreBeside, IsHashedCut, IsMatchedBy, Stands, Work, aside, begun_by, begun_of, handling, none, opening_as, read_of, starting, starting_by, work_of}
+use Rattle.law_4_disks.specs.Worlds.{AreBeside, IsHashedCut, IsHashedMoving, IsMatchedBy, Migration, Stands, Work, aside, asking, begun_by, begun_of, handling, migrating, moved_by, moved_of, none, opening_as, read_of, starting, starting_by, work_of}
 use Rattle.law_4_disks.proofs.Faults.{fault_face, lie_off, lie_on}
-use Rattle.law_4_disks.proofs.Lines.{StepsWell, WorksWell, fuse, handle, no_move, none_runs, none_sent, outputs_given, runs_one, stock_moves, off_stopped, on_running, one_move, placed, said_same, some_replica, stayed, stop, well_of}
+use Rattle.law_4_disks.proofs.Migrating.{begun_whole, migrates, migration_cut, tells_migrating}
+use Rattle.law_4_disks.proofs.Lines.{StepsWell, WorksWell, ask, fuse, handle, no_move, none_runs, none_sent, outputs_given, runs_one, stock_moves, off_stopped, on_running, one_move, own_place, placed, said_same, some_replica, stayed, stop, well_of}
 use Rattle.law_4_disks.proofs.Chaining.{c_resuming}
 use Rattle.law_4_disks.proofs.Going.{known_goes, mended_value, once_last, recovered_saved, recovered_state, recovered_table}
 use Rattle.law_4_disks.proofs.Opening.{is_mended_of, openings_find}
@@ -61,6 +64,9 @@ use Rattle.law_4_disks.proofs.Stocking.{At, Leaves}
 use Rattle.law_4_disks.proofs.StockingRules.{b_resuming}
 use Rattle.law_4_disks.proofs.Starts.{begun_all, opening_is, start_cuts}
 use Rattle.law_4_disks.proofs.Telling.{fault_tells, tells_in}
+
+abbrev moving : world.Host Lying → SuperValue → Migration
+moving m v = record { host = m; value = v }
 
 abbrev pub whole : SuperValue → Lying → Step
 whole v d = record { replica = (resumed v d).replica; script = opening_script v d }
@@ -180,10 +186,6 @@ module _ {home : ℕ} (w : World Lying) (g : Group) (i : ℕ) (m : world.Host Ly
         | false ↦ λ t. start_halts v u run o f may (leb-false made u.calls t) (tells u refl)
       ] refl
 
-  -- the group's size is the value's
-  pub off_several : (v : SuperValue) → IsOff m.disk q v → 2 ≤ v.fields.n
-  off_several v o = let own = good_value home g.n i q v (fits.members i q there) o.may in subst (λ (k : ℕ). 2 ≤ k) (sym own.1.n) fits.several
-
   -- what the script of an opening is
   pub record StartsWell (v : SuperValue) : Type 0 where
     pub value : IsGood v
@@ -202,12 +204,10 @@ module _ {home : ℕ} (w : World Lying) (g : Group) (i : ℕ) (m : world.Host Ly
       let r = recovered v d in
       let is = fits.members i q there in
       let own = good_value home g.n i q v is o.may in
-      let file : d.version ≡ is.edition = o.file ∙ own.1.version in
-      let value : IsFitValue home g.n i d.version v = subst (λ (k : ℕ). IsFitValue home g.n i k v) (sym file) own in
-      let step = start_is home g.n i d.version v d fits.several value (lies_fit.reads d o.calm.face) in
-      let several = off_several v o in
-      let f = openings_find d q v g.made several o made in
-      let h = is_mended_of v d q several o in
+      let value : IsGood v × IsOwnValue home g.n i d.version v = subst (λ (k : ℕ). IsGood v × IsOwnValue home g.n i k v) (sym o.file) own in
+      let step = start_is home g.n i d.version v d value (lies_fit.reads d o.calm.face) in
+      let f = openings_find d q v g.made o made in
+      let h = is_mended_of v d q o in
       let of = recovered_saved v d in
       let chain = c_resuming.each lying r mid in
       let known = known_right home g.n i d.version xs ys step.known in
@@ -228,11 +228,12 @@ module _ {home : ℕ} (w : World Lying) (g : Group) (i : ℕ) (m : world.Host Ly
       let leaves = (b_resuming {P = IsBytes} {Q = IsBytes}).each g.n i d.version (recovered v d) (after_all lying d (mended v d).script) h.here known in
       start_acts v m.fuse run o h.finds h.well leaves (mending_blocks IsBytes IsBytes v d) (λ u e. tells_in (opening_script v d) d v u.calls u.code o.calm.face h.go (works.names u e))
 
+  opens_as : (v : SuperValue) → IsOff m.disk q v → lying.opens m.disk ≡ Some v
+  opens_as v o = ap (option_and_then (of_version m.disk.version)) o.value ∙ rw (eq-eqb v.fields.version m.disk.version (sym o.file)) refl
+
   pub opened_as : (v : SuperValue) → IsOff m.disk q v → opened lying m.disk ≡ Some (whole v m.disk)
   unfolding opened
-  opened_as v o =
-      let is : lying.opens m.disk ≡ Some v = ap (option_and_then (of_version m.disk.version)) o.value ∙ (rw (eq-eqb v.fields.version m.disk.version (sym o.file), le-leb 2 v.fields.n (off_several v o)) refl) in
-      ap (option_map (λ (v : SuperValue). opening v lying (blank v) m.disk)) is ∙ ap Some (opening_is v m.disk)
+  opened_as v o = ap (option_map (λ (v : SuperValue). opening v lying (blank v) m.disk)) (opens_as v o) ∙ ap Some (opening_is v m.disk)
 
   start_line : (r : Option Replica) → m.replica ≡ r → ((v : SuperValue) → r ≡ None → opens m.disk.face ≡ Some v → AreMade g.made v (lying.after m.disk (Mend v))) → ((k : Work) → starting_by m r ≡ Some k → WorksWell k)
       → IsMatchedBy home (begun_of (starting_by m r)) (read_of (starting_by m r)) g (with_member w i (world.started_by hazards i m r))
@@ -242,9 +243,20 @@ module _ {home : ℕ} (w : World Lying) (g : Group) (i : ℕ) (m : world.Host Ly
       let y = s.stopped run in
       let v = y.0 in
       let o = y.1 in
-      let opens_as = opened_as v o in
-      subst (λ (x : Option Step). IsMatchedBy home (begun_of (option_map (opening_as m) x)) (read_of (option_map (opening_as m) x)) g (with_member w i (option_map_or (acts hazards i m) x (stays m)))) (sym opens_as)
-      (start_by v run o (made v refl o.value) (works (opening_as m (whole v m.disk)) (ap (option_map (opening_as m)) opens_as)))
+      let found = opened_as v o in
+      subst (λ (x : Option Step). IsMatchedBy home (begun_of (option_map (opening_as m) x)) (read_of (option_map (opening_as m) x)) g (with_member w i (option_map_or (acts hazards i m) x (stays m)))) (sym found)
+      (start_by v run o (made v refl o.value) (works (opening_as m (whole v m.disk)) (ap (option_map (opening_as m)) found)))
+
+  movable_so : (v : SuperValue) → m.replica ≡ None → IsOff m.disk q v → v.fields.version ≡ 1 → Movable g i q v
+  movable_so v run o first = record { member = there; stopped = s.replica ∙ run; value = o.may; first = first }
+
+  -- the group stays fit, so the new value makes a good copy
+  new_good : (v : SuperValue) → m.replica ≡ None → IsOff m.disk q v → v.fields.version ≡ 1 → IsGood (migrated v)
+  unfolding carried_out
+  new_good v run o first =
+      let p : group.Member = record (carried_out (migration v) q) { replica = None } in
+      let fit = groups_fit.each home g (Move.Migrates i v) (moved_over g i q v) fits tt (Moves.migrates i v q (movable_so v run o first)) in
+      (fit.members i p (own_place g.members i q p there)).last.0
 
   -- ---- a fault
 
@@ -270,6 +282,70 @@ module _ {home : ℕ} (w : World Lying) (g : Group) (i : ℕ) (m : world.Host Ly
   lie_line : (x : Fault) → IsFault x → NoCollision (IsHashedAfter m.disk x) → IsMatchedBy home [] [] g (with_member w i (lied m (unless_kept_out m.disk x)))
   unfolding unless_kept_out
   lie_line x within never = lie_by x (keeps_premise m.disk (faulted m.disk.face x)) refl within never
+
+  -- ---- a migration
+
+  migrate_goes : (v : SuperValue) (fuse : Option Fuse) → m.replica ≡ None → IsOff m.disk q v → v.fields.version ≡ 1 → IsMatchedBy home (migration v) [] g (with_member w i (migrated_with hazards i m v fuse))
+  unfolding messages
+  migrate_goes v fuse run o first =
+      let a = migrated_with hazards i m v fuse in
+      let p : group.Member = record (carried_out (migration v) q) { replica = None } in
+      let off = migrates v m.disk q o first (new_good v run o first) in
+      let stands : Stands a.member p = record {
+        replica = refl;
+        running = λ r e. absurd (let bad : None ≡ Some r = e in cc);
+        stopped = λ e. (migrated v, off_stopped a.member.disk (carried_out (migration v) q) None (migrated v) off);
+      } in
+      one_move (migration v) [] g (with_member w i a) (Move.Migrates i v) (moved_over g i q v) fits tt tt tt (stock_moves g i q p (migration v) [] stock there none_runs (none_sent IsBytes)) (Moves.migrates i v q (movable_so v run o first))
+      (placed w g i m q p a (migration v) [] b at there stands refl) (aside (output.Migrated i) [] [] tt none) refl refl (inl refl)
+
+  migrate_halts : (v : SuperValue) (u : Fuse) → m.replica ≡ None → IsOff m.disk q v → v.fields.version ≡ 1 → u.calls < length (migration_calls v m.disk.face) → NoCollision (IsHashedMigrating v m.disk u.calls u.code)
+      → IsMatchedBy home (moved_by (Some u) (record { host = m; value = v })) [] g (with_member w i (migration_halted hazards i m v u))
+  unfolding messages
+  migrate_halts v u run o first l never =
+      let a = migration_halted hazards i m v u in
+      let good = new_good v run o first in
+      let c = migration_cut v m.disk q o first good u.calls u.code l (tells_migrating v m.disk q o first good u.calls u.code never) in
+      let k = cut_after c.effects (migration v) q in
+      let p : group.Member = record k { replica = None } in
+      let begun = take (c.effects + 1) (migration v) in
+      let stands : Stands a.member p = record {
+        replica = refl;
+        running = λ r e. absurd (let bad : None ≡ Some r = e in cc);
+        stopped = λ e. (c.value, off_stopped a.member.disk k None c.value c.off);
+      } in
+      one_move (moved_by (Some u) (record { host = m; value = v })) [] g (with_member w i a) (Move.MigratesCut i v c.effects) (move_cut g i q v c.effects) fits tt tt tt (stock_moves g i q p begun [] stock there none_runs (none_sent IsBytes)) (Moves.migrates_cut i v c.effects q (movable_so v run o first))
+      (placed w g i m q p a begun [] b at there stands refl) (aside (output.Halted i) [] [] tt none) (ap (λ (es : List Effect). g.made ++ made_in es) (sym c.begun)) (sym c.begun) (inl refl)
+
+  migrate_by : (v : SuperValue) (fuse : Option Fuse) → m.replica ≡ None → IsOff m.disk q v → v.fields.version ≡ 1 → ((u : Fuse) → fuse ≡ Some u → NoCollision (IsHashedMigrating v m.disk u.calls u.code))
+      → IsMatchedBy home (moved_by fuse (record { host = m; value = v })) [] g (with_member w i (migrated_or_halted hazards i m v fuse))
+  migrate_by v None run o first never = migrate_goes v None run o first
+  migrate_by v (Some u) run o first never =
+      let made = length (migration_calls v m.disk.face) in
+      let rest : Fuse = record { calls = u.calls - made; code = u.code } in
+      let es = moved_by (Some u) (record { host = m; value = v }) in
+      elim (nat_le made u.calls) as (λ t. nat_le made u.calls ≡ t → IsMatchedBy home es [] g (with_member w i (cond t (migrated_with hazards i m v (Some rest)) (migration_halted hazards i m v u)))) [
+        | true ↦ λ t. subst (λ (es : List Effect). IsMatchedBy home es [] g (with_member w i (migrated_with hazards i m v (Some rest)))) (sym (begun_whole v m.disk q o first (new_good v run o first) u.calls (leb-true made u.calls t))) (migrate_goes v (Some rest) run o first)
+        | false ↦ λ t. migrate_halts v u run o first (leb-false made u.calls t) (never u refl)
+      ] refl
+
+  migrate_line : (r : Option Replica) → m.replica ≡ r → ((k : Migration) → option_map (moving m) (movable_by hazards m r) ≡ Some k → NoCollision (IsHashedMoving k))
+      → IsMatchedBy home (moved_of (option_map (moving m) (movable_by hazards m r))) [] g (with_member w i (option_map_or (λ v. migrated_or_halted hazards i m v m.fuse) (movable_by hazards m r) (stays m)))
+  unfolding messages
+  migrate_line (Some r) run never = no_move [] g (with_member w i (stays m)) fits stock (stayed w g i m q (stays m) b at there s refl) none
+  migrate_line None run never =
+      let y = s.stopped run in
+      let v = y.0 in
+      let o = y.1 in
+      let is : movable_by hazards m None ≡ if_first v = ap (option_and_then if_first) (opens_as v o) in
+      let whole : Option SuperValue → Type 0 = λ (x : Option SuperValue).
+      ((k : Migration) → option_map (moving m) x ≡ Some k → NoCollision (IsHashedMoving k))
+      → IsMatchedBy home (moved_of (option_map (moving m) x)) [] g (with_member w i (option_map_or (λ v. migrated_or_halted hazards i m v m.fuse) x (stays m))) in
+      let by : (t : Bool) → (v.fields.version == 1) ≡ t → whole (cond t (Some v) None) = elim [
+        | true ↦ λ t never. migrate_by v m.fuse run o (eqb-true v.fields.version 1 t) (λ u e a c p r same. never (moving m v) refl a c (u, e, p) (u, e, r) same)
+        | false ↦ λ t never. no_move [] g (with_member w i (stays m)) fits stock (stayed w g i m q (stays m) b at there s refl) none
+      ] in
+      subst whole (sym is) (by (v.fields.version == 1) refl) never
 
 -- ---- at a member, where there is one
 
@@ -305,12 +381,22 @@ works_of w x never k e = record { names = λ u f a c p r same. never a c (k, e, 
 pub lines_are_moves : LinesAreMoves
 lines_are_moves home w g (Begins kind n) b f k may = absurd may.line
 lines_are_moves home w g (Asks i r) b f k may = event_line w g i (Asked r) (event.Request r) b f k (may.line.0, refl) may.line.1 tt (works_of w (Asks i r) may.names)
+lines_are_moves home w g (AsksInVersion i x) b f k may =
+    at_line w g i (world.asks hazards x) (λ (o : Option (world.Host Lying)). begun_of (option_and_then (asking x) o)) (λ (o : Option (world.Host Lying)). read_of (option_and_then (asking x) o)) b f k refl
+    (λ m q at there y. ask w g i m q b f k at there y x m.replica refl may.line.0 may.line.1 (λ k h. works_of w (AsksInVersion i x) may.names k (ap (option_and_then (asking x)) at ∙ h)))
 lines_are_moves home w g (Arrives x) b f k may = arrive w g (x % length w.sent) (slice_get w.sent (x % length w.sent)) b f k refl (works_of w (Arrives x) may.names)
 lines_are_moves home w g (Ticks i) b f k may = event_line w g i Time event.Tick b f k refl tt tt (works_of w (Ticks i) may.names)
 lines_are_moves home w g (Stops i) b f k may = at_line w g i world.stops (λ (o : Option (world.Host Lying)). []) (λ (o : Option (world.Host Lying)). []) b f k refl (λ m q at there y. stop w g i m q b f k at there y)
 lines_are_moves home w g (Starts i) b f k may =
     at_line w g i (world.starts hazards) (λ (o : Option (world.Host Lying)). begun_of (option_and_then starting o)) (λ (o : Option (world.Host Lying)). read_of (option_and_then starting o)) b f k refl
     (λ m q at there y. start_line w g i m q b f k at there y m.replica refl (λ v n e. may.unforged m v at n e) (λ k h. works_of w (Starts i) may.names k (ap (option_and_then starting) at ∙ h)))
+lines_are_moves home w g (Migrates i) b f k may =
+    at_line w g i (world.migrates hazards) (λ (o : Option (world.Host Lying)). moved_of (option_and_then (λ (m : world.Host Lying). option_map (moving m) (world.movable hazards m)) o)) (λ (o : Option (world.Host Lying)). []) b f k refl
+    (λ m q at there y.
+    migrate_line w g i m q b f k at there y m.replica refl
+    (λ k h a c p r same.
+    let e : migrating w i ≡ Some k = ap (option_and_then (λ (m : world.Host Lying). option_map (moving m) (world.movable hazards m))) at ∙ h in
+    may.names a c (k, e, p) (k, e, r) same))
 lines_are_moves home w g (Fuses i c code) b f k may = at_line w g i (world.fused c code) (λ (o : Option (world.Host Lying)). []) (λ (o : Option (world.Host Lying)). []) b f k refl (λ m q at there y. fuse w g i m q b f k at there y c code)
 lines_are_moves home w g (Lies i x) b f k may =
     at_line w g i (world.lies hazards x) (λ (o : Option (world.Host Lying)). []) (λ (o : Option (world.Host Lying)). []) b f k refl

@@ -281,9 +281,9 @@ once_mended_on v d m w h =
     subst (λ (s : ℕ). HoldsEntry x.version v.fields.cluster g (held_at x.held s)) slot (h.stood.holds k g (omega arith) high of))
 
 pub openings_find : OpeningsFind
-openings_find d m v made several o are =
+openings_find d m v made o are =
     let good = ((opens_on d.face o.calm.face).value v o.value).1 in
-    let w = value_is v good several in
+    let w = value_is v good in
     let h = is_mended v d m w good o in
     let one = stood_first v d m good o in
     record {
@@ -292,5 +292,5 @@ openings_find d m v made several o are =
       sound = sound v (behind v d) (recovered v d) (ends (Mend v) (begins (Mend v) m)) made w o.file h.final one.on.calm one.on.held are refl;
     }
 
-pub is_mended_of : (v : SuperValue) (d : Lying) (m : Member) → 2 ≤ v.fields.n → IsOff d m v → IsMended v d m
-is_mended_of v d m several o = let good = ((opens_on d.face o.calm.face).value v o.value).1 in is_mended v d m (value_is v good several) good o
+pub is_mended_of : (v : SuperValue) (d : Lying) (m : Member) → IsOff d m v → IsMended v d m
+is_mended_of v d m o = let good = ((opens_on d.face o.calm.face).value v o.value).1 in is_mended v d m (value_is v good) good o

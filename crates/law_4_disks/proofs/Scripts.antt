@@ -64,7 +64,7 @@ same_off d x m v s o = record {
   group = o.group;
 }
 
-cut_first : (cs ds : List Call) (d : Lying) (j code : ℕ) → j < length cs → Same (cut_calls j code d cs) (cut_calls j code d (cs ++ ds))
+pub cut_first : (cs ds : List Call) (d : Lying) (j code : ℕ) → j < length cs → Same (cut_calls j code d cs) (cut_calls j code d (cs ++ ds))
 cut_first cs ds d j code l = record {
   face = (cuts_both cs ds d.face j code).first l;
   held = λ slot b. at_slot (λ slot. held_cut d.version j code d.face (cs ++ ds) slot (held_at d.held slot)) slot b
@@ -72,7 +72,7 @@ cut_first cs ds d j code l = record {
   version = refl;
 }
 
-cut_later : (cs ds : List Call) (d : Lying) (j code : ℕ) → length cs ≤ j → Same (cut_calls (j - length cs) code (after_calls d cs) ds) (cut_calls j code d (cs ++ ds))
+pub cut_later : (cs ds : List Call) (d : Lying) (j code : ℕ) → length cs ≤ j → Same (cut_calls (j - length cs) code (after_calls d cs) ds) (cut_calls j code d (cs ++ ds))
 cut_later cs ds d j code l =
     let k = j - length cs in
     let g = disk.after_all d.face cs in

@@ -48,7 +48,7 @@ left a d = let x = after_all lying d a in record { face = x.face; held = x.held;
 left_is : (a : List Effect) (d : Lying) → after_all lying d a ≡ left a d
 left_is a d = let x = after_all lying d a in ap (λ (n : ℕ). let y : Lying = record { face = x.face; held = x.held; version = n } in y) (same_version a d)
 
-held_all_both : (ver : ℕ) (cs ds : List Call) (f : Face) (slot : ℕ) (held : Option (List ℕ)) → held_after_all ver f (cs ++ ds) slot held ≡ held_after_all ver (disk.after_all f cs) ds slot (held_after_all ver f cs slot held)
+pub held_all_both : (ver : ℕ) (cs ds : List Call) (f : Face) (slot : ℕ) (held : Option (List ℕ)) → held_after_all ver f (cs ++ ds) slot held ≡ held_after_all ver (disk.after_all f cs) ds slot (held_after_all ver f cs slot held)
 unfolding held_after_all
 held_all_both ver [] ds f slot held = refl
 held_all_both ver (c ∷ cs) ds f slot held = held_all_both ver cs ds (disk.after f c) slot (held_after ver f c slot held)

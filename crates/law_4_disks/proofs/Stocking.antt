@@ -312,7 +312,7 @@ module _ {P Q : List ℕ → Type 0} {home : ℕ} where
 
   pub b_ask : Stocking P Q home ask
   unfolding ask
-  b_ask = b_by _ (λ r. b_asks r.missing _ r.worn)
+  b_ask = b_by _ (λ r. b_when _ _ (b_asks r.missing _ r.worn))
 
   pub b_advance : Stocking P Q home advance
   unfolding advance advanced
@@ -341,7 +341,7 @@ module _ {P Q : List ℕ → Type 0} {home : ℕ} where
   b_begin : (ss : List Statement) (l : Log) → Stocking P Q home (begin_view ss l)
   unfolding begin_view
   b_begin ss l =
-      b_then _ _ (b_says _ (λ r. (tt, tt))) (b_then _ _ (b_take l) (b_then _ _ (b_says _ (λ r. all_given P start_view r tt)) (b_then _ _ (b_by _ (λ r. b_each prepare_again _ b_again)) b_apply)))
+      b_then _ _ (b_says _ (λ r. (tt, tt))) (b_then _ _ (b_take l) (b_then _ _ (b_says _ (λ r. all_given P start_view r tt)) (b_then _ _ (b_by _ (λ r. b_each prepare_again _ b_again)) (b_by _ (λ r. b_if _ _ _ b_advance b_apply)))))
 
   b_try_log : (ss : List Statement) (l : Log) → Stocking P Q home (try_log ss l)
   unfolding try_log

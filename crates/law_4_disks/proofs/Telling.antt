@@ -86,7 +86,7 @@ values_tell g v never copy bytes l reads names = never (drop 16 bytes) (named_by
 
 -- ---- where a script is cut
 
-fewer : (P Q : List ℕ → Type 0) → ((b : List ℕ) → Q b → P b) → NoCollision P → NoCollision Q
+pub fewer : (P Q : List ℕ → Type 0) → ((b : List ℕ) → Q b → P b) → NoCollision P → NoCollision Q
 fewer P Q f never a b x y e = never a b (f a x) (f b y) e
 
 front_are : (n : ℕ) (cs : List Call) → AllByRecursion IsCall cs → AllByRecursion IsCall (take n cs)
@@ -123,7 +123,7 @@ module _ (e : Effect) (d : Lying) (j code : ℕ) (f : IsFace d.face) (a : AllByR
       ] in
       names_tell d.version g slot x (met_face e d j code g f a m) l w (fewer (IsHashedBy e d j code) (IsNear d.version g x) in_play never)
 
-  met_apart : (g : Face) → IsMet e d j code g → (v : SuperValue) → IsInPlay e v → TellsApart g v
+  pub met_apart : (g : Face) → IsMet e d j code g → (v : SuperValue) → IsInPlay e v → TellsApart g v
   met_apart g m v i =
       let Q : List ℕ → Type 0 = λ b. IsCopyText g b ⊎ (b ≡ named_bytes v) in
       let in_play : (b : List ℕ) → Q b → IsHashedBy e d j code b = λ b. elim [
@@ -132,7 +132,7 @@ module _ (e : Effect) (d : Lying) (j code : ℕ) (f : IsFace d.face) (a : AllByR
       ] in
       values_tell g v (fewer (IsHashedBy e d j code) Q in_play never)
 
-tells_one : (e : Effect) (d : Lying) (v : SuperValue) (j code : ℕ) → IsFace d.face → MayCome e d v → NoCollision (IsHashedBy e d j code) → Tells e d j code
+pub tells_one : (e : Effect) (d : Lying) (v : SuperValue) (j code : ℕ) → IsFace d.face → MayCome e d v → NoCollision (IsHashedBy e d j code) → Tells e d j code
 tells_one e d v j code f c never = record {
   front = λ slot x l w held k b. met_tells e d j code f c.calls never (after_all d.face (take (suc k) (calls_by d.version e d.face))) (IsMet.after k b) slot x l w held;
   cut = λ slot x l w held. met_tells e d j code f c.calls never (cut j code d.face (calls_by d.version e d.face)) IsMet.left slot x l w held;

@@ -44,7 +44,7 @@ OpeningsCut =
     (es : List Effect) (d : Lying) (m : Member) (v : SuperValue) (j code : ℕ) → IsOff d m v → MayGo (Mend v ∷ es) d v → j < length (script_calls d.version (Mend v ∷ es) d.face) → TellsIn (Mend v ∷ es) d j code
     → IsCutAt (Mend v ∷ es) d.face j (cut_calls j code d (script_calls d.version (Mend v ∷ es) d.face)) m
 
--- ---- what an opening finds, from a stopped member of a group of at least two
+-- ---- what an opening finds, from a stopped member of a group
 
 abbrev pub OpeningsFind : Type 0
 OpeningsFind =
@@ -55,7 +55,7 @@ OpeningsFind =
 abbrev pub LinesAreMoves : Type 0
 LinesAreMoves = (cluster : ℕ) (w : World Lying) (g : Group) (x : Happening) → AreBeside w g → IsFitGroup cluster g → IsStockedGroup g → MayHappen w g.made x → IsMatchedBy cluster (begun_in w x) (read_in w x) g (happens hazards w x)
 
--- ---- from the beginning: a group of 2 to 6 replicas, of any number, each on a file of a kind of its own
+-- ---- from the beginning: a group of 1 to 6 replicas, of any number, each on a file of a kind of its own
 
 pub record Begin (kinds : ℕ → Kind) (cluster n : ℕ) : Type 0 where
   pub beside : AreBeside (first_world kinds cluster n) (fresh_group kinds cluster n)

@@ -38,7 +38,7 @@ pub fn openings_cut()
     ensures { OpeningsCut }
 {}
 
-/// What an opening finds, in a group of at least two, is sound, and its slots hold what was found stored.
+/// What an opening finds is sound, and its slots hold what was found stored.
 pub fn openings_find()
     ensures { OpeningsFind }
 {}
@@ -48,7 +48,7 @@ pub fn lines_are_moves()
     ensures { LinesAreMoves }
 {}
 
-/// A group of 2 to 6 replicas, whatever its number, on files of either version, begins beside the world that begins.
+/// A group of 1 to 6 replicas, whatever its number, of 2 at least where one is on a file of version 1, begins beside the world that begins.
 pub fn worlds_begin()
     ensures { WorldsBegin }
 {}

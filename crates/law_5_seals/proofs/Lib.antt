@@ -1,6 +1,7 @@
 pub mod Contents
 pub mod Turning
 pub mod Sectors
+pub mod Moving
 pub mod Laws
 pub mod Marks
 pub mod Keys

@@ -37,7 +37,7 @@ use Rattle.law_5_seals.proofs.Turning.{headed_sealed, plain_sealed}
 -- ---- bytes of texts
 
 -- a byte of a text, or behind its end
-abbrev IsPlain : ℕ → Type 0
+abbrev pub IsPlain : ℕ → Type 0
 IsPlain x = (x ≡ 0) ⊎ ((33 ≤ x) × (x ≤ 126))
 
 abbrev ArePlain : List ℕ → Type 0
@@ -96,7 +96,7 @@ prepare_plain e w i l =
 
 -- ---- sectors, one by one
 
-piece_content : (k : ℕ) (b : List ℕ) → IsBytes b → k + 512 ≤ length b → IsContent (piece k 512 b)
+pub piece_content : (k : ℕ) (b : List ℕ) → IsBytes b → k + 512 ≤ length b → IsContent (piece k 512 b)
 piece_content k b are l = record { size = length-piece k 512 b l; each = IsBytes-piece k 512 b are }
 
 take_less : (n m : ℕ) (b : List ℕ) → n ≤ m → take n (take m b) ≡ take n b
@@ -107,7 +107,7 @@ take_less (suc n) (suc m) (x ∷ b) l = ap (λ ys. x ∷ ys) (take_less n m b (o
 
 module _ (made : List Header) where
   -- what stands at a place of a sector
-  at_piece : (k : ℕ) (b : List ℕ) → IsContent (piece k 512 b) → IsPlain (get_or b (k + 110) 0) → IsSealed made (piece k 512 b)
+  pub at_piece : (k : ℕ) (b : List ℕ) → IsContent (piece k 512 b) → IsPlain (get_or b (k + 110) 0) → IsSealed made (piece k 512 b)
   at_piece k b c p =
       let e = get_or-piece k 512 110 b (omega arith) in
       elim p [

@@ -69,6 +69,10 @@ module _ (made : List Header) where
   plain_sealed b c (inl none) = record { content = c; front = λ h f. (let v = front_version b h f in absurd (omega (arith, none, v))); turned = λ h f. (let v = turned_version b h c f in absurd (omega (arith, none, v))) }
   plain_sealed b c (inr other) = record { content = c; front = λ h f. (let v = front_version b h f in absurd (omega (arith, other, v))); turned = λ h f. (let v = turned_version b h c f in absurd (omega (arith, other, v))) }
 
+  -- 255 is none either, and turned it is 0
+  pub ones_sealed : (b : List ℕ) → IsContent b → get_or b 110 0 ≡ 255 → IsSealed made b
+  ones_sealed b c e = record { content = c; front = λ h f. (let v = front_version b h f in absurd (omega (arith, e, v))); turned = λ h f. (let v = turned_version b h c f in absurd (omega (arith, e, v))) }
+
   same_read : (a b : Header) (r : Result Header HeaderFault) → r ≡ Ok a → r ≡ Ok b → a ≡ b
   same_read a b r e f = cc
 

@@ -20,6 +20,7 @@ use Rattle.law_1_machine.specs.Basics.{In}
 use Rattle.vr_lie.specs.Copies.{IsGood, SuperValue, copy_bytes}
 use Rattle.vr_lie.specs.Calls.{write_calls}
 use Rattle.vr_rings.specs.Calls.{again_calls, header_calls, new_calls}
+use Rattle.vr_rings.specs.Moving.{move_calls, relocated}
 use Rattle.vr_lie.specs.Slots.{IsWhole, prepare_bytes, sector_of}
 use Rattle.vr_ckpt.specs.Sessions as sess
 use Rattle.vr_ckpt.specs.Sessions.{Map}
@@ -53,6 +54,10 @@ abbrev pub ValuesAreSealed : Type 0
 ValuesAreSealed =
     (made : List Header) (old new : SuperValue) (f : Face) → IsGood old → IsGood new → IsBytes (copy_bytes old) → IsBytes (copy_bytes new) → AllByRecursion (λ h. In h made) old.headers
     → AllByRecursion (λ h. In h made) new.headers → AllByRecursion (Puts (IsSealed made)) (write_calls old new f)
+
+-- and the prepares of a sealed disk, at their new places
+abbrev pub MovesAreSealed : Type 0
+MovesAreSealed = (made : List Header) (f : Face) → HasSectors (IsSealed made) f → AllByRecursion (Puts (IsSealed made)) (move_calls (relocated f))
 
 -- the name of a payload's block
 pub record HasPlace (p : Payload) : Type 0 where

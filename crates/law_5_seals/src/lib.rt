@@ -2,7 +2,7 @@
 //! so. Such ops are those below 2^61 in group 0, and below 2^48 in any other. Each function is a law: its contract is the statement, and it does nothing.
 #![tactic(auto)]
 
-ghost use Rattle.law_5_seals.specs.Laws.{CheckpointsAreHeadless, SealsLast, SessionsAreHeadless, SlotsAreSealed, ValuesAreSealed};
+ghost use Rattle.law_5_seals.specs.Laws.{CheckpointsAreHeadless, MovesAreSealed, SealsLast, SessionsAreHeadless, SlotsAreSealed, ValuesAreSealed};
 
 /// Where all sectors of a disk are sealed, they are so after calls that write sealed sectors, in each cut of them, and after a fault.
 pub fn seals_last()
@@ -17,6 +17,11 @@ pub fn slots_are_sealed()
 /// So is a value of the superblock that names what was made.
 pub fn values_are_sealed()
     ensures { ValuesAreSealed }
+{}
+
+/// So are the prepares of a sealed disk of version 1, as a migration writes them at their new places.
+pub fn moves_are_sealed()
+    ensures { MovesAreSealed }
 {}
 
 /// No sector of a checkpoint begins with the header of an entry, as it is or with its bits turned, if those of its sessions don't.

@@ -39,7 +39,7 @@ use Rattle.law_5_seals.specs.Seals.{HasCell, HasSectors, Puts}
 use Rattle.law_5_seals.proofs.Contents.{has_after_all, has_at}
 use Rattle.law_5_seals.proofs.Turning.{no_fault}
 use Rattle.law_6_one_log.proofs.Disks.{named_bytes_at}
-use Rattle.law_6_one_log.proofs.Readings.{behind_parts}
+use Rattle.law_5_seals.proofs.Moving.{behind_parts}
 
 -- ---- zeros
 

@@ -30,7 +30,7 @@ use Rattle.law_4_disks.specs.Worlds.{AreBeside, IsHashedCut, Work, begun_in, beg
 use Rattle.law_4_disks.proofs.Fresh.{fresh_beside, schedules_begin}
 use Rattle.law_6_one_log.specs.Schedules.{IsHashed}
 use Rattle.law_6_one_log.proofs.Blank.{reads_nothing}
-use Rattle.law_3_outputs.proofs.Sets.{contains_in}
+use Rattle.law_3_outputs.proofs.StoredLists.{contains_in}
 use Rattle.law_6_one_log.specs.ScheduleLaws.{SomeEntryMay, registers}
 
 -- the replica of a group of two that is asked
@@ -98,7 +98,7 @@ unfolding fresh_world
 first_there = refl
 
 beside : AreBeside start (fresh_group (λ i. strict) 0 2)
-beside = subst (λ (w : World Lying). AreBeside w (fresh_group (λ i. strict) 0 2)) (sym (schedules_begin strict 2)) (fresh_beside (λ i. strict) 0 2 (λ i l. (omega arith, omega arith)) (omega arith) (omega arith) (omega arith))
+beside = subst (λ (w : World Lying). AreBeside w (fresh_group (λ i. strict) 0 2)) (sym (schedules_begin strict 2)) (fresh_beside (λ i. strict) 0 2 (λ i l. ((omega arith, omega arith), omega arith)) (omega arith) (omega arith))
 
 face_is : IsFace disk.face
 face_is =
@@ -107,13 +107,13 @@ face_is =
 
 read_is : (d : Lying) → Contains (read_in start (Asks 0 registers)) d → d ≡ disk
 read_is d c =
-    let i = contains_in (disk ∷ []) d (subst (λ (o : Option Work). Contains (read_of o) d) work_is c) in
+    let i = contains_in d (disk ∷ []) (subst (λ (o : Option Work). Contains (read_of o) d) work_is c) in
     elim i [ inl same ↦ same | inr none ↦ absurd none ]
 
 hashed_text : (b : List ℕ) → IsHashed start (Asks 0 registers ∷ []) b → IsText b
 hashed_text b (inl (inl h)) = absurd (none_cut b (subst (λ (k : Work). IsHashedCut k b) (sym (same_work (stepping (event.Request registers) (fresh_host hazards strict 2 0) first) h.0 (sym work_is ∙ h.1))) h.2))
 hashed_text b (inl (inr (inl u))) = absurd (reads_nothing strict 2 0 face_is b (subst (λ (d : Lying). IsRead d b) (read_is u.0 u.1) u.2))
-hashed_text b (inl (inr (inr u))) = written_text u.0 b (all_of (begun_in start (Asks 0 registers)) u.0 asked_begun (contains_in (begun_in start (Asks 0 registers)) u.0 u.1)) u.2
+hashed_text b (inl (inr (inr u))) = written_text u.0 b (all_of (begun_in start (Asks 0 registers)) u.0 asked_begun (contains_in u.0 (begun_in start (Asks 0 registers)) u.1)) u.2
 hashed_text b (inr e) = subst IsText (sym e) root
 
 -- ---- their names, computed

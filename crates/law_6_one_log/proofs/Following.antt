@@ -34,7 +34,8 @@ use Rattle.law_3_outputs.proofs.Fitting.{file_at, fit_at, move_of}
 use Rattle.law_3_outputs.proofs.Grounds.{rests_on}
 use Rattle.law_3_outputs.proofs.Machine.{number_is}
 use Rattle.law_3_outputs.proofs.Placing.{placed_at}
-use Rattle.law_3_outputs.proofs.Sets.{contains_in, every_at, get_in, in_contains, in_left, in_right}
+use Rattle.law_3_outputs.proofs.StoredLists.{contains_in, in_contains}
+use Rattle.law_3_outputs.proofs.Sets.{every_at, get_in, in_left, in_right}
 use Rattle.law_3_outputs.proofs.Stored.{own_in, own_more, own_of, until_all}
 use Rattle.law_3_outputs.proofs.Then.{backed_more, then_more, true_by_more, true_free}
 use Rattle.law_3_outputs.proofs.Traces.{in_either}
@@ -78,7 +79,7 @@ so_then u a b sent o (inr f) t = true_by_more u a b f sent o t
 -- a vouch of the chain for what counts as stored
 own_counts : (u : Setup) (g : group.Group) (es : List Effect) (m : Message Header) → IsOwnVouch u g es m → In m (own_vouches u (stored_from g es))
 own_counts u g es m y =
-    subst (λ (z : Message Header). In z (own_vouches u (stored_from g es))) (sym y.is) (own_in u (stored_from g es) y.stored y.alone (contains_in (stored_from g es) y.stored y.counts))
+    subst (λ (z : Message Header). In z (own_vouches u (stored_from g es))) (sym y.is) (own_in u (stored_from g es) y.stored y.alone (contains_in y.stored (stored_from g es) y.counts))
 
 serves_more : (u : Setup) (a b : List (Message Header)) → ((m : Message Header) → In m a → In m b) → (g : group.Group) (move : group.Move) → ServesWell u g move a → ServesWell u g move b
 serves_more u a b f g (group.Steps at arrival e d) h = λ m r runs. backed_more u a b f (group.stepped e r d).replica.log_view (group.stepped e r d).replica.commit (h m r runs)
@@ -107,6 +108,7 @@ so cluster u run before after p reached later from lines choices (output.Reply a
 so cluster u run before after p reached later from lines choices (output.Wait w) j t = tt
 so cluster u run before after p reached later from lines choices (output.Start s) j t = tt
 so cluster u run before after p reached later from lines choices (output.Halted n) j t = tt
+so cluster u run before after p reached later from lines choices (output.Migrated n) j t = tt
 so cluster u run before after p reached later from lines choices output.Done j t = tt
 so cluster u run before after p reached later from lines choices output.KeptOut j t = tt
 
@@ -126,7 +128,7 @@ module _ (cluster n : ℕ) (run : List Played) (fit : IsFitRun cluster n run) (u
       let f = fit_at cluster n run fit t p is in
       let placed = placed_at cluster n run fit t p is in
       let moves = move_of (fresh_group fit.kinds cluster n) run fit.of_run t p is in
-      let there : Contains run p = in_contains run p (get_in run t p is) in
+      let there : Contains run p = in_contains p run (get_in run t p is) in
       let size : u.quorums.n ≡ p.before.n = sym (bridged t p is).size in
       let mine : IsFitGroup u.cluster p.before = subst (λ c. IsFitGroup c p.before) (sym of_group) f.0.0 in
       let counts : (number : ℕ) (o : Output) → slice_get p.moved.outputs number ≡ Some o → AsksNothing o ⊎ ((m : Message Header) → In m x.ground.sent → In m (by_then u (at t) p number)) =
@@ -138,7 +140,7 @@ module _ (cluster n : ℕ) (run : List Played) (fit : IsFitRun cluster n run) (u
         ])
       ] in
       let vouched : (m : Message Header) → In m (own_vouches u (stored_of p)) → In m (at (suc t)).sent =
-      λ m h. let y = own_of u (stored_of p) m h in subst (λ (z : Message Header). In z (at (suc t)).sent) (sym y.is) (x.counted y.alone y.of (in_contains (stored_of p) y.of y.among)) in
+      λ m h. let y = own_of u (stored_of p) m h in subst (λ (z : Message Header). In z (at (suc t)).sent) (sym y.is) (x.counted y.alone y.of (in_contains y.of (stored_of p) y.among)) in
       let still : (number : ℕ) (m : Message Header) → In m (by_then u (at t) p number) → In m (at (suc t)).sent =
       λ number m h. elim (in_either (at t).sent (own_vouches u (stored_until p number)) m h) [
         | inl old ↦ x.sent m old
@@ -188,7 +190,7 @@ module _ (cluster n : ℕ) (run : List Played) (fit : IsFitRun cluster n run) (u
 pub follows_it : (cluster n : ℕ) (run : List Played) → IsFitRun cluster n run → FollowsIt cluster n run
 unfolding followed
 follows_it cluster n run fit =
-    let y : FollowsFresh fit.kinds cluster n run = fresh_runs_so fit.kinds cluster n run fit.are_kinds fit.number fit.few fit.many fit.moves fit.of_run in
+    let y : FollowsFresh fit.kinds cluster n run = fresh_runs_so fit.kinds cluster n run fit.are_kinds fit.number fit.some fit.many fit.moves fit.of_run in
     record {
       setup = y.setup;
       followed = followed cluster n run fit y.setup y.cluster_is y.first y.bridges y.follows y.size_is y.hash_is y.fits y.none_sent y.none_made;

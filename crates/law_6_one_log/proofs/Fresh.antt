@@ -1,4 +1,6 @@
 -- A group that begins: on its disks nothing reads as the header of an entry.
+use Rattle.vr_base.proofs.Members.{least_of}
+use Rattle.vr_base.specs.Groups.{least_members}
 use Rattle.vr_base.specs.declared.kind.Kind.{Kind}
 use Rattle.std.proofs.Common.{ℕ, zero, suc, ◌+◌, ◌*◌, ◌^◌, ◌≤◌, ◌<◌, ◌≡◌, ◌⊎◌, inl, inr, arith, refl, sym, ap, ◌∙◌, subst, true, false, List, [], ◌∷◌, ◌++◌, length, map, get_or, Some}
 use Rattle.std.specs.List.{range_with_len}
@@ -75,7 +77,7 @@ reserved_sealed ver home (suc n) i k room l =
     let is = reserved_is ver home i k room (omega (arith, l)) in
     ((omega (arith, l), header_sealed [] (reserved_header ver home i) is (sector_content (reserved_header ver home i) is) (λ e _. reserved_none ver home i e)), reserved_sealed ver home n (i + 1) k room (omega (arith, l)))
 
-format_sealed : (kind : Kind) (home n i : ℕ) → IsKind kind → home < 2 ^ 64 → 2 ≤ n → n ≤ 6 → i < n → AreSealed [] (format_calls kind home n i)
+format_sealed : (kind : Kind) (home n i : ℕ) → IsKind kind → home < 2 ^ 64 → least_members kind.version ≤ n → n ≤ 6 → i < n → AreSealed [] (format_calls kind home n i)
 format_sealed kind home n i k room a b l =
     let v = first_value kind home n i in
     let ver = kind.version in
@@ -87,27 +89,27 @@ format_sealed kind home n i k room a b l =
 
 -- ---- the world
 
-fresh_sealed : (kinds : ℕ → Kind) (home n : ℕ) → AreKinds kinds n → home < 2 ^ 64 → 2 ≤ n → n ≤ 6 → IsSealedWorld (first_world kinds home n) []
+fresh_sealed : (kinds : ℕ → Kind) (home n : ℕ) → AreKinds kinds n → home < 2 ^ 64 → n ≤ 6 → IsSealedWorld (first_world kinds home n) []
 unfolding first_world
-fresh_sealed kinds home n k room a b = record {
+fresh_sealed kinds home n k room b = record {
   disks = λ i m e.
       let f : ℕ → world.Host Lying = first_host kinds home n in
       let size = length-map-range_with_len f 0 n in
       let within = slice_get_within (map f (range_with_len 0 n)) i m e in
       let l : i < n = omega (arith, size, within) in
       let is : m ≡ f i = some_world m (f i) (sym e ∙ (slice_get-get_or (map f (range_with_len 0 n)) i m within ∙ ap Some (get_or-map-range_with_len f 0 n i i m l (omega arith)))) in
-      subst (λ (m : world.Host Lying). HasSectors (IsSealed []) m.disk.face) (sym is) (has_after_all (IsSealed []) (format_calls (kinds i) home n i) zero_face zero_face_sealed (format_sealed (kinds i) home n i (k i l) room a b l));
+      subst (λ (m : world.Host Lying). HasSectors (IsSealed []) m.disk.face) (sym is) (has_after_all (IsSealed []) (format_calls (kinds i) home n i) zero_face zero_face_sealed (format_sealed (kinds i) home n i (k i l).0 room (k i l).1 b l));
   sent = λ number s e. absurd cc;
 }
 
 -- a group that was just made: no move led there, and nothing was made in the machine
-fresh_led : (kinds : ℕ → Kind) (home n : ℕ) → AreKinds kinds n → home < 2 ^ 64 → 2 ≤ n → n ≤ 6 → IsLed home (fresh_group kinds home n)
+fresh_led : (kinds : ℕ → Kind) (home n : ℕ) → AreKinds kinds n → home < 2 ^ 64 → 1 ≤ n → n ≤ 6 → IsLed home (fresh_group kinds home n)
 fresh_led kinds home n k room a b = record {
   n = n;
   run = [];
   fit = record {
     number = room;
-    few = a;
+    some = a;
     many = b;
     moves = All-nil (λ (p : Played). IsFitMove p.move);
     files = All-nil (λ (p : Played). IsOfFile p.before p.move);
@@ -124,11 +126,11 @@ worlds_begin_unforged kinds home n k room a b =
     let c = bridged_fresh kinds home n k room a b in
     let none = c.1 in (
       record {
-        beside = fresh_beside kinds home n k room a b;
+        beside = fresh_beside kinds home n k room b;
         fit = fresh_group_fits kinds home n k room a b;
         stock = group_stocked kinds home n;
         bridged = c.0;
-        sealed = subst (IsSealedWorld (first_world kinds home n)) (sym (none_made kinds home n)) (fresh_sealed kinds home n k room a b);
+        sealed = subst (IsSealedWorld (first_world kinds home n)) (sym (none_made kinds home n)) (fresh_sealed kinds home n k room b);
         past = fresh_led kinds home n k room a b;
         few = omega (arith, none);
       },
@@ -149,9 +151,10 @@ worlds_are_runs kinds home n xs k number a b few lines never =
 
 pub schedules_are_runs : SchedulesAreRuns
 unfolding happen
-schedules_are_runs kind n xs k a b few may =
+schedules_are_runs kind n xs k least b few may =
     let first : Group = fresh_group (λ i. kind) 0 n in
     let all : World Lying → Type 0 = λ w. (m : IsMatched first (happen hazards w xs)) × NoCollision (λ bytes. safe.IsHashed m.run (root_header 0) bytes) in
     let is = schedules_begin kind n in
-    let m = worlds_are_runs (λ i. kind) 0 n xs (λ i l. k) (omega arith) a b few may.lines (subst (λ (w : World Lying). NoCollision (IsHashedOf 0 w xs)) is may.names) in
+    let some = (least_of kind.version).0 in
+    let m = worlds_are_runs (λ i. kind) 0 n xs (λ i l. (k, least)) (omega arith) (omega (arith, some, least)) b few may.lines (subst (λ (w : World Lying). NoCollision (IsHashedOf 0 w xs)) is may.names) in
     subst all (sym is) (m.0, m.1)

@@ -83,6 +83,7 @@ module _ (cluster n : ℕ) (u : Setup) (run : List Played) (x : IsFollowed clust
     output_may done rest are m (output.Wait w) order facts = tt
     output_may done rest are m (output.Start s) order facts = tt
     output_may done rest are m (output.Halted r) order facts = tt
+    output_may done rest are m (output.Migrated r) order facts = tt
     output_may done rest are m output.Done order facts = tt
     output_may done rest are m output.KeptOut order facts = tt
 

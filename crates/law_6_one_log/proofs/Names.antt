@@ -13,12 +13,12 @@ use Rattle.law_3_outputs.specs.Safe.{disks_of, given, read, wrote}
 use Rattle.law_3_outputs.specs.Steps.{Effect}
 use Rattle.law_3_outputs.specs.World.{Happening, World, happens}
 use Rattle.law_4_disks.specs.Worlds.{IsOneMove, begun_in, moved_once, read_in, unmoved}
-use Rattle.law_3_outputs.proofs.Sets.{contains_in, in_contains}
+use Rattle.law_3_outputs.proofs.StoredLists.{contains_in, in_contains}
 use Rattle.law_3_outputs.proofs.Traces.{in_either}
 use Rattle.law_6_one_log.specs.Schedules.{IsHashedOf, IsUsedAt}
 
 pub contains_none : {X : Type 0} (x : X) → Contains [] x → ⊥
-contains_none x h = contains_in [] x h
+contains_none x h = contains_in x [] h
 
 -- ---- of one move
 
@@ -31,8 +31,8 @@ effects_in es p q e is same c = subst (λ (xs : List Effect). Contains xs e) is 
 
 played : (past : List Played) (p q : Played) → Contains (past ++ p ∷ []) q → Contains past q ⊎ (q ≡ p)
 played past p q c =
-    elim (in_either past (p ∷ []) q (contains_in (past ++ p ∷ []) q c)) [
-      | inl old ↦ inl (in_contains past q old)
+    elim (in_either past (p ∷ []) q (contains_in q (past ++ p ∷ []) c)) [
+      | inl old ↦ inl (in_contains q past old)
       | inr new ↦ elim new [ inl same ↦ inr same | inr none ↦ absurd none ]
     ]
 
@@ -55,14 +55,14 @@ module _ (w : World Lying) (x : Happening) where
 
 pub hashed_both : (a b : List Played) (c : Header) (bytes : List ℕ) → safe.IsHashed (a ++ b) c bytes → safe.IsHashed a c bytes ⊎ safe.IsHashed b c bytes
 hashed_both a b c bytes (read q d _ i j r) =
-    elim (in_either a b q (contains_in (a ++ b) q i)) [
-      | inl first ↦ inl (read q d bytes (in_contains a q first) j r)
-      | inr later ↦ inr (read q d bytes (in_contains b q later) j r)
+    elim (in_either a b q (contains_in q (a ++ b) i)) [
+      | inl first ↦ inl (read q d bytes (in_contains q a first) j r)
+      | inr later ↦ inr (read q d bytes (in_contains q b later) j r)
     ]
 hashed_both a b c bytes (wrote q e _ i j r) =
-    elim (in_either a b q (contains_in (a ++ b) q i)) [
-      | inl first ↦ inl (wrote q e bytes (in_contains a q first) j r)
-      | inr later ↦ inr (wrote q e bytes (in_contains b q later) j r)
+    elim (in_either a b q (contains_in q (a ++ b) i)) [
+      | inl first ↦ inl (wrote q e bytes (in_contains q a first) j r)
+      | inr later ↦ inr (wrote q e bytes (in_contains q b later) j r)
     ]
 hashed_both a b c _ given = inl given
 

@@ -218,6 +218,7 @@ module _ (H : List ℕ → Type 0) (never : NoCollision H) (cluster : ℕ) (log 
   calm_said m d (output.Wait w) h = tt
   calm_said m d (output.Start s) h = tt
   calm_said m d (output.Halted r) h = tt
+  calm_said m d (output.Migrated r) h = tt
   calm_said m d output.Done h = tt
   calm_said m d output.KeptOut h = tt
 

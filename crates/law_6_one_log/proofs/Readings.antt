@@ -32,6 +32,7 @@ use Rattle.law_4_disks.proofs.Found.{read_header, read_whole}
 use Rattle.law_4_disks.proofs.Loading.{block_are}
 use Rattle.law_5_seals.specs.Seals.{HasSectors, IsSealed, spelled_from}
 use Rattle.law_5_seals.proofs.Contents.{has_at}
+use Rattle.law_5_seals.proofs.Moving.{padded_parts, together_sealed}
 use Rattle.law_6_one_log.specs.Bridged.{IsSealedBlock}
 
 pub contains_of : (made : List Header) (h : Header) → In h made → Contains made h
@@ -39,42 +40,12 @@ contains_of [] h i = absurd i
 contains_of (y ∷ ys) h (inl e) = (0, omega arith, sym e)
 contains_of (y ∷ ys) h (inr i) = let c = contains_of ys h i in let l = c.1 in (suc c.0, omega (arith, l), c.2)
 
--- ---- several sectors together
-
-pub behind_parts : (a r : Option (List ℕ)) (b : List ℕ) → behind a r ≡ Some b → (x : List ℕ) × (y : List ℕ) × (a ≡ Some x) × (r ≡ Some y) × (b ≡ x ++ y)
-behind_parts None r b e = absurd cc
-behind_parts (Some x) None b e = absurd cc
-behind_parts (Some x) (Some y) b e = let same : x ++ y ≡ b = cc in (x, y, refl, refl, sym same)
-
--- a prepare is its sectors, in front of zeros
-padded_parts : (ver : ℕ) (o : Option (List ℕ)) (b : List ℕ) → option_map (padded ver) o ≡ Some b → (x : List ℕ) × (o ≡ Some x) × (b ≡ padded ver x)
-padded_parts ver None b e = absurd cc
-padded_parts ver (Some x) b e = let same : padded ver x ≡ b = cc in (x, refl, sym same)
-
 module _ (made : List Header) (f : Face) (s : HasSectors (IsSealed made) f) where
-  -- each of them is sealed
-  pub together_sealed : (n i : ℕ) (b : List ℕ) → i + n ≤ sectors → together i n f ≡ Some b → (j : ℕ) → j < n → IsSealed made (piece (0 + 512 * j) 512 b)
-  unfolding piece
-  together_sealed zero i b l e j p = absurd (omega (arith, p))
-  together_sealed (suc n) i b l e zero p =
-      let x = behind_parts (reads f i) (together (i + 1) n f) b (sym (together_cons n i f) ∙ e) in
-      let one = (has_at (IsSealed made) f i s (omega (arith, l))).reads x.0 x.2 in
-      let same : x.0 ≡ take 512 b = sym (take_at x.0 x.1 512 one.content.size) ∙ ap (take 512) (sym x.4) in
-      subst (IsSealed made) same one
-  together_sealed (suc n) i b l e (suc j) p =
-      let x = behind_parts (reads f i) (together (i + 1) n f) b (sym (together_cons n i f) ∙ e) in
-      let one = (has_at (IsSealed made) f i s (omega (arith, l))).reads x.0 x.2 in
-      let rest = together_sealed n (i + 1) x.1 (omega (arith, l)) x.3 j (omega (arith, p)) in
-      let place : 512 + (0 + 512 * j) ≡ 0 + 512 * suc j = omega arith in
-      let same : drop (0 + 512 * j) x.1 ≡ drop (0 + 512 * suc j) b =
-      ap (drop (0 + 512 * j)) (sym (drop_at x.0 x.1 512 one.content.size) ∙ ap (drop 512) (sym x.4)) ∙ (drop_both 512 (0 + 512 * j) b ∙ ap (λ (k : ℕ). drop k b) place) in
-      subst (λ (y : List ℕ). IsSealed made (take 512 y)) same rest
-
   -- ---- a block
 
   reading_sealed : (address : ℕ) (b : List ℕ) → address < grid_size → IsBytes b → block_reading f address ≡ Some b → IsSealedBlock made b
   unfolding block_reading
-  reading_sealed address b l are e = record { bytes = are; sectors = together_sealed 8 (block_place address) b (block_inside address l) e }
+  reading_sealed address b l are e = record { bytes = are; sectors = together_sealed made f s 8 (block_place address) b (block_inside address l) e }
 
   pub block_sealed : (name : Name) (b : List ℕ) → IsFace f → block_in f name ≡ Some b → IsSealedBlock made b
   unfolding named_at

@@ -15,7 +15,7 @@ use Rattle.vr_msg.specs.declared.output.Committed.{Committed}
 use Rattle.vr_msg.specs.declared.output.Output.{Output}
 use Rattle.vr_msg.specs.declared.output.Output.TheVariants as output
 use Rattle.vr_msg.specs.declared.output.Sent.{Sent}
-use Rattle.vr_lie.specs.Copies.{SuperValue}
+use Rattle.vr_lie.specs.Copies.{IsGood, SuperValue}
 use Rattle.law_3_outputs.specs.Commitment.{is_line_of}
 use Rattle.law_3_outputs.specs.Fit.{ReadsWell}
 use Rattle.law_3_outputs.specs.Group as group
@@ -42,11 +42,12 @@ use Rattle.law_3_outputs.specs.Answering.{one_if}
 use Rattle.law_3_outputs.specs.Followed.{IsFollowed}
 use Rattle.law_3_outputs.specs.Ordered.{AreInOrder}
 use Rattle.law_3_outputs.specs.Replied.{IsLogOf}
-use Rattle.law_3_outputs.proofs.Fitting.{IsOpening, arrives, file_at, fit_at, move_of, opening_of}
+use Rattle.law_3_outputs.proofs.Fitting.{arrives, file_at, fit_at, move_of, opening_of}
 use Rattle.law_3_outputs.proofs.Ordering.{come_in_order}
 use Rattle.law_3_outputs.proofs.Reading.{opening_reads, reads_good}
 use Rattle.law_3_outputs.proofs.Resuming.{on_disk, resumed_order, said_right}
-use Rattle.law_3_outputs.proofs.Sets.{every_at, get_in, in_contains, in_left, in_right}
+use Rattle.law_3_outputs.proofs.StoredLists.{in_contains}
+use Rattle.law_3_outputs.proofs.Sets.{every_at, get_in, in_left, in_right}
 use Rattle.law_3_outputs.proofs.SlotCalls.{IsTaken, member_taken, read_or_written}
 use Rattle.law_6_one_log.specs.Hashed.{ReadsHashed}
 use Rattle.law_6_one_log.proofs.Disks.{Begun}
@@ -156,6 +157,7 @@ module _ (H : List ℕ → Type 0) (cluster : ℕ) (log : List Whole) where
   output_told (output.Wait w) h = tt
   output_told (output.Start s) h = tt
   output_told (output.Halted r) h = tt
+  output_told (output.Migrated r) h = tt
   output_told output.Done h = tt
   output_told output.KeptOut h = tt
 
@@ -220,10 +222,10 @@ module _ (cluster n : ℕ) (u : Setup) (run : List Played) (x : IsFollowed clust
 
   module _ (t : ℕ) (p : Played) (is : slice_get run t ≡ Some p) where
     here : Contains run p
-    here = in_contains run p (get_in run t p is)
+    here = in_contains p run (get_in run t p is)
 
     pub begun_in : (e : Effect) → In e p.moved.script → Begun H e
-    begun_in e i bytes w = wrote p e bytes here (in_contains p.moved.script e i) w
+    begun_in e i bytes w = wrote p e bytes here (in_contains e p.moved.script i) w
 
     pub reads_in : (d : Lying) → Contains (disks_of p.move) d → ReadsHashed H d.face
     reads_in d face name c e = record { payload = read p d c.payload here face (safe.IsRead.payload name c e); header = read p d _ here face (safe.IsRead.block name c e) }
@@ -330,7 +332,7 @@ module _ (cluster n : ℕ) (u : Setup) (run : List Played) (x : IsFollowed clust
       value : IsFitValue cluster p.before.n at waking.edition v
       value = good_value cluster p.before.n at m v waking wakes.value
 
-      good : IsOpening v
+      good : IsGood v
       good = opening_of cluster p.before at m v fit_group wakes.member wakes.value
 
       pub value_rooted : IsRooted H cluster log v
@@ -349,13 +351,13 @@ module _ (cluster n : ℕ) (u : Setup) (run : List Played) (x : IsFollowed clust
       mends_borne = borne_all H cluster log (blank v).index (blank v).applied d xs mends.bears mends_may
 
       script_taken : All (IsTaken d.version) (xs ++ ys)
-      script_taken = member_taken cluster p.before.n at waking.edition v d (xs ++ ys) value file (start_is cluster p.before.n at waking.edition v d fit_group.several value fit).known
+      script_taken = member_taken cluster p.before.n at waking.edition v d (xs ++ ys) value file (start_is cluster p.before.n at waking.edition v d value fit).known
 
       rest_may : ((z : Effect) → In z xs → In z p.moved.script) → (fs gs : List Effect) → fs ++ gs ≡ ys → ((z : Effect) → In z fs → In z p.moved.script) → AllMay H cluster log (recovered v d).index (recovered v d).applied (on_disk v d) fs
       rest_may first fs gs are has =
           let q : Replica = recovered v d in
           let said : outputs ys ≡ outputs fs ++ outputs gs = ap outputs (sym are) ∙ outputs_append fs gs in
-          let order = (resumed_order v d good.0 good.1 fit).ordered in
+          let order = (resumed_order v d good fit).ordered in
           let ver = (on_disk v d).version in
           let taken : All (IsTaken ver) ys = subst (λ (k : ℕ). All (IsTaken k) ys) (sym (same_version xs d)) (all_back (IsTaken d.version) xs ys script_taken) in
           lines_may cluster n u run x never log is_log (suc t) later q.index q.applied (on_disk v d) fs (all_front (IsTaken ver) fs gs (subst (All (IsTaken ver)) (sym are) taken)) (ordered_front q.index q.applied (outputs fs) (outputs gs) (subst (AreInOrder q.index q.applied) said order))

@@ -41,7 +41,8 @@ use Rattle.law_3_outputs.proofs.Orders.{IsOther}
 use Rattle.law_3_outputs.proofs.Picking.{chosen_by}
 use Rattle.law_3_outputs.proofs.Placing.{ArePlaced, opening_present, step_present}
 use Rattle.law_3_outputs.proofs.Resuming.{quiet_mending, resumed_order}
-use Rattle.law_3_outputs.proofs.Sets.{in_contains, in_left}
+use Rattle.law_3_outputs.proofs.StoredLists.{in_contains}
+use Rattle.law_3_outputs.proofs.Sets.{in_left}
 use Rattle.law_3_outputs.proofs.SlotCalls.{IsTaken, member_taken, read_or_written}
 use Rattle.law_3_outputs.proofs.Traces.{every_in, in_either}
 use Rattle.law_6_one_log.proofs.Lines.{taken_front}
@@ -51,7 +52,7 @@ use Rattle.law_6_one_log.proofs.Silence.{chooses_nothing}
 
 sent_from : (MayAsk : ℕ → ℕ → Type 0) (old : Replica) (x : Step) (s : Sent) → IsPresent MayAsk old x → In (output.Send s) (outputs x.script) → IsFrom s.from s.message
 sent_from MayAsk old x s present i =
-    let h = All-contains (IsPresentOutput MayAsk old x.replica) (outputs x.script) (output.Send s) present.each (in_contains (outputs x.script) (output.Send s) i) in
+    let h = All-contains (IsPresentOutput MayAsk old x.replica) (outputs x.script) (output.Send s) present.each (in_contains (output.Send s) (outputs x.script) i) in
     from_is (MayAsk s.to) old x.replica s.from s.message h.from h.message
 
 pub from_so : (c : ℕ) (g : Group) (move : Move) (moved : Moved) → IsFitGroup c g → ArePlaced g → Moves g move moved → (s : Sent) → In (output.Send s) moved.outputs → IsFrom s.from s.message
@@ -65,7 +66,7 @@ from_so c g _ _ fit placed (group.recovers_cut at v d k m o) s j = absurd j
 -- ---- commit lines
 
 one_disk : (d : Lying) → Contains (d ∷ []) d
-one_disk d = in_contains (d ∷ []) d (inl refl)
+one_disk d = in_contains d (d ∷ []) (inl refl)
 
 module _ (run : List Played) (c : ℕ) (p : Played) (there : Contains run p) where
   -- an entry that reads after the first effects of a move was read by it, or written in it
@@ -76,7 +77,7 @@ module _ (run : List Played) (c : ℕ) (p : Played) (there : Contains run p) whe
         | inl old ↦ safe.read p d (operation_bytes e.operation) there face (safe.IsRead.operation slot e old)
         | inr new ↦
             let among : In (Write new.0 e) p.moved.script = subst (In (Write new.0 e)) are (in_left first rest (Write new.0 e) new.1) in
-            safe.wrote p (Write new.0 e) (operation_bytes e.operation) there (in_contains p.moved.script (Write new.0 e) among) (safe.IsWritten.operation new.0 e)
+            safe.wrote p (Write new.0 e) (operation_bytes e.operation) there (in_contains (Write new.0 e) p.moved.script among) (safe.IsWritten.operation new.0 e)
       ]
 
 pub line_hashed : (run : List Played) (c : ℕ) (g : Group) (move : Move) (moved : Moved) → Contains run (record { before = g; move = move; moved = moved }) → IsFitGroup c g → IsFitMove move → IsOfFile g move → Moves g move moved
@@ -97,11 +98,11 @@ line_hashed run c g _ _ there fit h file (group.recovers at v d m o) l j =
     let is = fit.members at m o.member in
     let value = good_value c g.n at m v is o.value in
     let opens = opening_of c g at m v fit o.member o.value in
-    let taken = member_taken c g.n at is.edition v d (opening_script v d) value file (start_is c g.n at is.edition v d fit.several value h).known in
+    let taken = member_taken c g.n at is.edition v d (opening_script v d) value file (start_is c g.n at is.edition v d value h).known in
     elim (in_either (outputs xs) (outputs ys) (output.Commit l) (subst (λ (os : List Output). In (output.Commit l) os) (outputs_append xs ys) j)) [
       | inl a ↦ absurd (every_in IsOther (outputs xs) (output.Commit l) a ((quiet_mending v).every lying (blank v) d).said)
       | inr b ↦
-          let q = (resumed_order v d opens.0 opens.1 h).read l b in
+          let q = (resumed_order v d opens h).read l b in
           let parts : (xs ++ q.first) ++ q.rest ≡ opening_script v d = append_assoc xs q.first q.rest ∙ ap (λ (zs : List Effect). xs ++ zs) q.are in
           read_hashed run c (record { before = g; move = group.Recovers at v d; moved = group.started g at m v d }) there d (xs ++ q.first) q.rest q.slot l.entry (one_disk d) parts
           (taken_front d.version (xs ++ q.first) q.rest (subst (All (IsTaken d.version)) (sym parts) taken)) q.within (ap (λ (z : Lying). lying.entry z q.slot) (after_append lying d xs q.first) ∙ q.reads)
@@ -120,11 +121,11 @@ pub choice_so : (u : Setup) (chosen : List (Choice Header)) (g : Group) (move : 
 choice_so u chosen g _ _ size fit h (group.steps at a e d m r runs i) well l j =
     let f = (fit.members at m runs.member).running r runs.running in
     let x = stepped e r d in
-    let among = in_contains (outputs x.script) (output.Choose l) j in
+    let among = in_contains (output.Choose l) (outputs x.script) j in
     let by = chosen_by lying r d f.0.sound e l among in
     choice_line u chosen (record { before = g; move = group.Steps at a e d; moved = group.finished g at m x }) e r l (acts g (group.Steps at a e d) (group.finished g at m x) at l.replica m r runs (by.place ∙ f.1.index)) refl (f.1.n ∙ sym size) f.1.cluster
     (arrives u.cluster g at a e fit h.0 i) by (well m r runs l among)
 choice_so u chosen g _ _ size fit h (group.cuts at a e d k m r runs i) well l j = absurd j
 choice_so u chosen g _ _ size fit h (group.crashes at m there) well l j = absurd j
-choice_so u chosen g _ _ size fit h (group.recovers at v d m o) well l j = absurd (chooses_nothing v d l (in_contains (outputs (opening_script v d)) (output.Choose l) j))
+choice_so u chosen g _ _ size fit h (group.recovers at v d m o) well l j = absurd (chooses_nothing v d l (in_contains (output.Choose l) (outputs (opening_script v d)) j))
 choice_so u chosen g _ _ size fit h (group.recovers_cut at v d k m o) well l j = absurd j

@@ -27,7 +27,7 @@ use Rattle.law_3_outputs.proofs.FitLies.{lies_fit}
 use Rattle.law_3_outputs.proofs.Placing.{placed_at, step_present}
 use Rattle.law_3_outputs.proofs.Reacting.{steps_stay_sound}
 use Rattle.law_3_outputs.proofs.Rising.{steps_rise}
-use Rattle.law_3_outputs.proofs.Sets.{in_contains}
+use Rattle.law_3_outputs.proofs.StoredLists.{in_contains}
 
 module _ (u : Setup) (fits : Fits u) (hash : u.hash ≡ lying.hash) (g : group.Group) (s : Group Header) (fit : IsFitGroup u.cluster g) (bridge : Bridges u g s) where
   served_now : (at : ℕ) (m : Member) (r : Replica) → Runs g at m r → IsServed u s.sent r
@@ -53,7 +53,7 @@ module _ (u : Setup) (fits : Fits u) (hash : u.hash ≡ lying.hash) (g : group.G
         views = order.views;
         rises = (steps_rise lying d r e own event).log_view;
         present = λ reply j.
-            let q = All-contains (IsPresentOutput (Answers e) r (stepped e r d).replica) (outputs (stepped e r d).script) (output.Reply reply) p.each (in_contains (outputs (stepped e r d).script) (output.Reply reply) j) in
+            let q = All-contains (IsPresentOutput (Answers e) r (stepped e r d).replica) (outputs (stepped e r d).script) (output.Reply reply) p.each (in_contains (output.Reply reply) (outputs (stepped e r d).script) j) in
             (q.0.replica ∙ p.index, q.1);
       }
 

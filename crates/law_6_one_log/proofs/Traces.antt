@@ -1,4 +1,6 @@
 -- What a run that is safe says of outputs that are its own but for some lines aside.
+use Rattle.vr_base.proofs.Members.{least_of}
+use Rattle.vr_base.specs.Groups.{least_members}
 use Rattle.vr_base.specs.declared.kind.Kind.{Kind}
 use Rattle.std.proofs.Common.{ℕ, ◌-◌, ◌^◌, ◌<◌, ◌≤◌, ◌≡◌, ◌∙◌, inl, inr, arith, sym, ap, subst, List, Some}
 use Rattle.std.specs.Prelude.{slice_get, take}
@@ -27,7 +29,8 @@ use Rattle.law_1_machine.specs.Basics.{In}
 use Rattle.law_4_disks.specs.Worlds.{IsAside, IsMatched, Said}
 use Rattle.law_4_disks.specs.Worlds as worlds
 use Rattle.law_3_outputs.specs.Followed.{IsFitRun}
-use Rattle.law_3_outputs.proofs.Sets.{contains_in, get_in, in_get, in_left, in_right}
+use Rattle.law_3_outputs.proofs.StoredLists.{contains_in}
+use Rattle.law_3_outputs.proofs.Sets.{get_in, in_get, in_left, in_right}
 use Rattle.law_3_outputs.proofs.Traces.{in_either, output_of_move}
 use Rattle.law_6_one_log.specs.Laws.{HasOneLog, KeepsLog, KeepsOneLog}
 use Rattle.law_6_one_log.specs.Outputs.{IsCutByNacks, IsOnceInSession, IsPlaced, RestsOn}
@@ -160,6 +163,7 @@ module _ (home n : ℕ) (run : List Played) (safe : Safe home n run) where
   rests never front (output.Wait w) x = tt
   rests never front (output.Start s) x = tt
   rests never front (output.Halted replica) x = tt
+  rests never front (output.Migrated replica) x = tt
   rests never front output.Done x = tt
   rests never front output.KeptOut x = tt
 
@@ -183,6 +187,7 @@ kept_aside view c (output.Reply a) h = tt
 kept_aside view c (output.Wait w) h = tt
 kept_aside view c (output.Start s) h = tt
 kept_aside view c (output.Halted replica) h = tt
+kept_aside view c (output.Migrated replica) h = tt
 kept_aside view c output.Done h = tt
 kept_aside view c output.KeptOut h = tt
 
@@ -194,6 +199,7 @@ rests_aside home n log run front (output.Reply a) h = h (λ a. a)
 rests_aside home n log run front (output.Wait w) h = tt
 rests_aside home n log run front (output.Start s) h = tt
 rests_aside home n log run front (output.Halted replica) h = tt
+rests_aside home n log run front (output.Migrated replica) h = tt
 rests_aside home n log run front output.Done h = tt
 rests_aside home n log run front output.KeptOut h = tt
 
@@ -206,10 +212,10 @@ place_of run ws all number o e not =
 once : (log : List Whole) → IsOnceInSession log
 once log before between later d e is client request first second = each_once before between d e client request first second
 
-pub keeps_log : (kinds : ℕ → Kind) (home n : ℕ) → AreKinds kinds n → home < 2 ^ 64 → 2 ≤ n → n ≤ 6 → ((run : List Played) → IsFitRun home n run → HasOneLog home n run) → (h : Happened Lying) (m : IsMatched (fresh_group kinds home n) h) → NoCollision (IsHashed m.run (root_header home))
+pub keeps_log : (kinds : ℕ → Kind) (home n : ℕ) → AreKinds kinds n → home < 2 ^ 64 → 1 ≤ n → n ≤ 6 → ((run : List Played) → IsFitRun home n run → HasOneLog home n run) → (h : Happened Lying) (m : IsMatched (fresh_group kinds home n) h) → NoCollision (IsHashed m.run (root_header home))
     → KeepsLog kinds home n h
-keeps_log kinds home n k number few many one h m never =
-    let fit : IsFitRun home n m.run = record { number = number; few = few; many = many; moves = m.reads; files = m.files; kinds = kinds; are_kinds = k; of_run = m.is } in
+keeps_log kinds home n k number some many one h m never =
+    let fit : IsFitRun home n m.run = record { number = number; some = some; many = many; moves = m.reads; files = m.files; kinds = kinds; are_kinds = k; of_run = m.is } in
     let o = one m.run fit in
     let s = o.safe in
     let gs = run_outputs m.run in
@@ -220,16 +226,16 @@ keeps_log kinds home n k number few many one h m never =
       names = never;
       folds = λ t p is. (o.folds never t p is).1;
       rests = λ number o e. rests_aside home n s.log m.run (take number h.outputs) o (λ not. rests home n m.run s never (take number h.outputs) o (place_of m.run h.outputs m.said number o e not));
-      lines = λ c d i j same. one_line home n m.run s never c d (said_in h.outputs gs m.said (output.Commit c) (λ a. a) (contains_in h.outputs (output.Commit c) i))
-          (said_in h.outputs gs m.said (output.Commit d) (λ a. a) (contains_in h.outputs (output.Commit d) j)) same;
+      lines = λ c d i j same. one_line home n m.run s never c d (said_in h.outputs gs m.said (output.Commit c) (λ a. a) (contains_in (output.Commit c) h.outputs i))
+          (said_in h.outputs gs m.said (output.Commit d) (λ a. a) (contains_in (output.Commit d) h.outputs j)) same;
       logged = λ v c fc nc above kc. s.one v c fc nc above (committed_said (run_stored m.run) h.outputs gs all home n v c kc);
       one = λ v w c d fc fd nc nd above same kc kd. one_entry home n m.run s v w c d fc fd nc nd above same (committed_said (run_stored m.run) h.outputs gs all home n v c kc) (committed_said (run_stored m.run) h.outputs gs all home n w d kd);
-      kept = λ v c fc nc above kc o i. kept_aside v c o (λ not. kept_in home n m.run s v c fc nc above (committed_said (run_stored m.run) h.outputs gs all home n v c kc) o (said_in h.outputs gs m.said o not (contains_in h.outputs o i)));
+      kept = λ v c fc nc above kc o i. kept_aside v c o (λ not. kept_in home n m.run s v c fc nc above (committed_said (run_stored m.run) h.outputs gs all home n v c kc) o (said_in h.outputs gs m.said o not (contains_in o h.outputs i)));
       cut = λ number l e. cut_in home n m.run s never (take number h.outputs) h.outputs all l (place_of m.run h.outputs m.said number (output.Choose l) e (λ a. a));
       once = once s.log;
     }
 
 -- of the group that a schedule begins
-pub keeps : (kind : Kind) (n : ℕ) → IsKind kind → 2 ≤ n → n ≤ 6 → ((run : List Played) → IsFitRun 0 n run → HasOneLog 0 n run) → (h : Happened Lying) (m : IsMatched (fresh_group (λ i. kind) 0 n) h) → NoCollision (IsHashed m.run (root_header 0))
+pub keeps : (kind : Kind) (n : ℕ) → IsKind kind → least_members kind.version ≤ n → n ≤ 6 → ((run : List Played) → IsFitRun 0 n run → HasOneLog 0 n run) → (h : Happened Lying) (m : IsMatched (fresh_group (λ i. kind) 0 n) h) → NoCollision (IsHashed m.run (root_header 0))
     → KeepsOneLog kind n h
-keeps kind n k few many one h m never = keeps_log (λ i. kind) 0 n (λ i l. k) (omega arith) few many one h m never
+keeps kind n k least many one h m never = let some = (least_of kind.version).0 in keeps_log (λ i. kind) 0 n (λ i l. (k, least)) (omega arith) (omega (arith, some, least)) many one h m never

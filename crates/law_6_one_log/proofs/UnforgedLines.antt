@@ -40,7 +40,7 @@ use Rattle.law_4_disks.specs.Stocks.{IsGiven, IsGivenEvent, IsStockedGroup, Writ
 use Rattle.law_4_disks.specs.Worlds.{AreBeside, IsLine, IsUnforged, Stands, begun_by, begun_in, begun_of, handling, opening_as, starting, starting_by, stepping}
 use Rattle.law_4_disks.proofs.Calls.{mend_are}
 use Rattle.law_4_disks.proofs.Lines.{get_both, other_place, outputs_given, own_place, some_member, step_well}
-use Rattle.law_4_disks.proofs.Matched.{blocks_both, mending_blocks, off_several, opened_as, opens_group, start_well, whole}
+use Rattle.law_4_disks.proofs.Matched.{blocks_both, mending_blocks, opened_as, opens_group, start_well, whole}
 use Rattle.law_4_disks.proofs.Starts.{begun_all}
 use Rattle.law_4_disks.proofs.StockingRules.{ReadsOn, b_resuming, gives_read}
 use Rattle.law_5_seals.specs.Seals.{HasSectors, IsSealed, spelled_from}
@@ -203,9 +203,9 @@ module _ (w : World Lying) (made : List Header) (s : IsSealedWorld w made) (i : 
           | false ↦ λ t. halted_sealed u bs refl seals
         ] refl
 
--- the checkpoint of a good value, of a group of at least two, is no greater than its head
-checkpoint_low : (v : SuperValue) → IsGood v → 2 ≤ v.fields.n → v.fields.checkpoint ≤ v.fields.head
-checkpoint_low v g several = let x = value_is v g several in let a = x.commit in let b = x.head in omega (arith, a, b)
+-- the checkpoint of a good value is no greater than its head
+checkpoint_low : (v : SuperValue) → IsGood v → v.fields.checkpoint ≤ v.fields.head
+checkpoint_low v g = let x = value_is v g in let a = x.commit in let b = x.head in omega (arith, a, b)
 
 -- so long a log has no op that sessions could spell
 within_room : (home op made : ℕ) → op ≤ made → made < room home → op + 64 < spelled_from home
@@ -263,7 +263,7 @@ module _ {home : ℕ} (w : World Lying) (g : Group) (b : AreBeside w g) (fits : 
       let calls = mend_are v m.disk.face x.0.0 in
       let one = effect_sealed g.made (Mend v) m.disk v (record { fit = refl; calls = calls }) tt x.0 face disk_sealed in
       let top = may_open_short g bridged i q there v o.may in
-      let window = checkpoint_low v x.0.0 (off_several w g i m q b fits stock at there stands v o) in
+      let window = checkpoint_low v x.0.0 in
       found_made g.made _ (has_after_all (IsSealed g.made) cs m.disk.face disk_sealed one) v (lying.after m.disk (Mend v)).held m.disk.version (face_after_all cs m.disk.face face calls)
       (subst (λ (n : ℕ). v.fields.checkpoint + 64 < spelled_from n) (sym x.1) (within_room home v.fields.checkpoint (length bridged.machine.made) (omega (arith, top, window)) low))
 

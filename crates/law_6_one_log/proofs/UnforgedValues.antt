@@ -44,7 +44,7 @@ moved_made g x y (Moves.crashes i m at) = refl
 moved_made g x y (Moves.recovers i v d m opens) = refl
 moved_made g x y (Moves.recovers_cut i v d n m opens) = refl
 
-pub bridged_fresh : (kinds : ℕ → Kind) (home n : ℕ) → AreKinds kinds n → home < 2 ^ 64 → 2 ≤ n → n ≤ 6 → (b : IsBridged home (fresh_group kinds home n)) × (length b.machine.made ≡ 0)
+pub bridged_fresh : (kinds : ℕ → Kind) (home n : ℕ) → AreKinds kinds n → home < 2 ^ 64 → 1 ≤ n → n ≤ 6 → (b : IsBridged home (fresh_group kinds home n)) × (length b.machine.made ≡ 0)
 bridged_fresh kinds home n k room a b =
     let f = fresh_runs_so kinds home n [] k room a b (All-nil (λ (p : Played). IsFitMove p.move)) (Run.ended (fresh_group kinds home n)) in (
       record { setup = f.setup; fits = f.fits; hash_is = f.hash_is; cluster_is = f.cluster_is; machine = f.first; bridges = f.bridges; made = λ x i. absurd (subst (In x) f.none_made i) },

@@ -75,6 +75,7 @@ other_lines i (output.Choose c) h = refl
 other_lines i (output.Wait w) h = refl
 other_lines i (output.Start s) h = refl
 other_lines i (output.Halted r) h = refl
+other_lines i (output.Migrated r) h = refl
 other_lines i output.Done h = refl
 other_lines i output.KeptOut h = refl
 
@@ -118,6 +119,7 @@ module _ (H : List ℕ → Type 0) (cluster : ℕ) (log : List Whole) where
   other_true (output.Wait w) h = tt
   other_true (output.Start s) h = tt
   other_true (output.Halted r) h = tt
+  other_true (output.Migrated r) h = tt
   other_true output.Done h = tt
   other_true output.KeptOut h = tt
 

@@ -1,4 +1,5 @@
 -- A schedule of which all holds that is asked.
+use Rattle.vr_base.proofs.Members.{least_of}
 use Rattle.vr_base.specs.declared.kind.Kind.{Kind}
 use Rattle.std.proofs.Common.{ℕ, ◌≡◌, ◌⊎◌, arith, inl, inr, refl, sym, ◌∙◌, subst, List, [], ◌∷◌, Option, Some, None}
 use Rattle.std.specs.Prelude.{Contains, slice_get, ⊤}
@@ -25,7 +26,7 @@ use Rattle.law_4_disks.proofs.Fresh.{fresh_beside, schedules_begin}
 use Rattle.law_6_one_log.specs.ScheduleLaws.{SomeScheduleMay}
 use Rattle.law_6_one_log.specs.Schedules.{IsHashed, IsUsedAt, MayAll}
 use Rattle.law_6_one_log.proofs.Blank.{reads_nothing}
-use Rattle.law_3_outputs.proofs.Sets.{contains_in}
+use Rattle.law_3_outputs.proofs.StoredLists.{contains_in}
 use Rattle.law_6_one_log.proofs.Names.{contains_none}
 
 module _ (kind : Kind) (is : IsKind kind) where
@@ -87,7 +88,7 @@ module _ (kind : Kind) (is : IsKind kind) where
   first_there = refl
 
   beside : AreBeside start (fresh_group (λ i. kind) 0 2)
-  beside = subst (λ (w : World Lying). AreBeside w (fresh_group (λ i. kind) 0 2)) (sym (schedules_begin kind 2)) (fresh_beside (λ i. kind) 0 2 (λ i l. is) (omega arith) (omega arith) (omega arith))
+  beside = subst (λ (w : World Lying). AreBeside w (fresh_group (λ i. kind) 0 2)) (sym (schedules_begin kind 2)) (fresh_beside (λ i. kind) 0 2 (λ i l. (is, (least_of kind.version).1)) (omega arith) (omega arith))
 
   face_is : IsFace disk.face
   face_is =
@@ -96,13 +97,13 @@ module _ (kind : Kind) (is : IsKind kind) where
 
   read_is : (d : Lying) → Contains (read_in start (Ticks 0)) d → d ≡ disk
   read_is d c =
-      let i = contains_in (disk ∷ []) d (subst (λ (o : Option Work). Contains (read_of o) d) work_is c) in
+      let i = contains_in d (disk ∷ []) (subst (λ (o : Option Work). Contains (read_of o) d) work_is c) in
       elim i [ inl same ↦ same | inr none ↦ absurd none ]
 
   tick_hashes : (b : List ℕ) → IsHashedAt start (Ticks 0) b ⊎ IsUsedAt start (Ticks 0) b → ⊥
   tick_hashes b (inl h) = none_cut b (subst (λ (k : Work). IsHashedCut k b) (sym (work_same h.0 h.1)) h.2)
   tick_hashes b (inr (inl u)) = reads_nothing kind 2 0 face_is b (subst (λ (d : Lying). IsRead d b) (read_is u.0 u.1) u.2)
-  tick_hashes b (inr (inr u)) = says_nothing u.0 b (all_of (begun_in start (Ticks 0)) u.0 tick_begun (contains_in (begun_in start (Ticks 0)) u.0 u.1)) u.2
+  tick_hashes b (inr (inr u)) = says_nothing u.0 b (all_of (begun_in start (Ticks 0)) u.0 tick_begun (contains_in u.0 (begun_in start (Ticks 0)) u.1)) u.2
 
   only_root : (b : List ℕ) → IsHashed start (Ticks 0 ∷ Stops 1 ∷ Fuses 0 5 7 ∷ []) b → b ≡ named_bytes (root_header 0)
   only_root b (inl h) = absurd (tick_hashes b h)

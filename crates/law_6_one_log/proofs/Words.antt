@@ -330,7 +330,7 @@ module _ (H : List ℕ → Type 0) (never : NoCollision H) (cluster : ℕ) (log 
 
   go_begin : (ss : List Statement) (l : Log) → Keeps (begin_view ss l)
   unfolding begin_view
-  go_begin ss l = go_then _ _ (go_says _ (λ r. (tt, tt))) (go_then _ _ (go_take l) (go_then _ _ (go_all _ (λ r. tt)) (go_then _ _ (go_by _ (λ r. go_each prepare_again _ go_again)) go_apply)))
+  go_begin ss l = go_then _ _ (go_says _ (λ r. (tt, tt))) (go_then _ _ (go_take l) (go_then _ _ (go_all _ (λ r. tt)) (go_then _ _ (go_by _ (λ r. go_each prepare_again _ go_again)) (go_by _ (λ r. go_if _ _ _ go_advance go_apply)))))
 
   go_try_log : (ss : List Statement) (l : Log) → Keeps (try_log ss l)
   unfolding try_log
@@ -361,7 +361,7 @@ module _ (H : List ℕ → Type 0) (never : NoCollision H) (cluster : ℕ) (log 
 
   go_ask : Keeps ask
   unfolding ask
-  go_ask = go_by _ (λ r. go_asks r.missing _ r.worn)
+  go_ask = go_by _ (λ r. go_when _ _ (go_asks r.missing _ r.worn))
 
   -- ---- a visit
 

@@ -50,7 +50,7 @@ HappeningsAreRuns =
     (cluster : ℕ) (xs : List Happening) (w : World Lying) (g : Group) (u : IsUnforgedBeside cluster w g) → MayFollow cluster u.past.run w xs
     → (m : IsMatched g (happen hazards w xs)) × IsHashedBy cluster w xs m.run × LeavesUnforged cluster (happen hazards w xs).world g u.past.run m.run × (length m.run ≤ length xs)
 
--- so is a world that begins, of 2 to 6 replicas of a group of any number, to which no move led
+-- so is a world that begins, of 1 to 6 replicas of a group of any number, to which no move led
 abbrev pub WorldsBeginUnforged : Type 0
 WorldsBeginUnforged =
     (kinds : ℕ → Kind) (cluster n : ℕ) → AreKinds kinds n → cluster < 2 ^ 64 → 1 ≤ n → n ≤ 6 → (u : IsUnforgedBeside cluster (first_world kinds cluster n) (fresh_group kinds cluster n)) × (u.past.run ≡ [])

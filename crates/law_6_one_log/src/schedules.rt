@@ -8,7 +8,7 @@
 //! it be fewer than 2^47 lines: there sessions could spell headers from op 2^48 on.
 ghost use Rattle.law_6_one_log.specs.ScheduleLaws.{HappeningsAreRuns, LinesStayUnforged, SchedulesAreRuns, SomeEntryMay, SomeScheduleMay, WorldsAreRuns, WorldsBeginUnforged};
 
-/// A group of 2 to 6 replicas, on files of either version, begins with disks on which nothing is forged.
+/// A group of 1 to 6 replicas, of 2 at least where one is on a file of version 1, begins with disks on which nothing is forged.
 pub fn worlds_begin_unforged()
     ensures { WorldsBeginUnforged }
 {}
@@ -23,12 +23,12 @@ pub fn happenings_are_runs()
     ensures { HappeningsAreRuns }
 {}
 
-/// What happens to a group of 2 to 6 replicas, whatever its number, is a run of the group.
+/// What happens to a group of 1 to 6 replicas, whatever its number, is a run of the group.
 pub fn worlds_are_runs()
     ensures { WorldsAreRuns }
 {}
 
-/// Every schedule of a group of 2 to 6 replicas is a run of the group.
+/// Every schedule of a group of 1 to 6 replicas, of 2 at least on files of version 1, is a run of the group.
 pub fn schedules_are_runs()
     ensures { SchedulesAreRuns }
 {}

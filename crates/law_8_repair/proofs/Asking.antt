@@ -29,7 +29,7 @@ use Rattle.vr_header.specs.declared.part.Part.TheVariants.{Here, Lost, Wanted, U
 use Rattle.vr_msg.specs.declared.frame.Frame.{Frame}
 use Rattle.vr_msg.specs.Logs.{header_of}
 use Rattle.vr_world.specs.Outputs.{get_block, get_prepare, send_to}
-use Rattle.vr_world.specs.Replica.{Replica, is_absent, part_at, parts_from}
+use Rattle.vr_world.specs.Replica.{Replica, is_absent, is_alone, part_at, parts_from}
 use Rattle.vr_world.specs.Sound.{IsSound}
 use Rattle.vr_world.specs.Steps.{Say, Setting, ◌⨾◌, by, change, naming, outputs, says}
 use Rattle.vr_world.specs.Words.{ask, ask_for, ask_peer, least_absent, peer}
@@ -119,15 +119,16 @@ module _ {F : Type 0} (s : Setting F) (r : Replica) (f : F) where
     | inr rest ↦ elim rest [ inl h ↦ (let none : None ≡ Some h.0 = h.1 in cc) | inr w ↦ w refl ]
   ])
 
+-- it does so where it isn't alone
 pub short_replicas_ask : {F : Type 0} → ShortReplicasAsk F
 unfolding ask by
-short_replicas_ask s r f sound short =
+short_replicas_ask s r f sound other short =
     let kinds : (r.missing ≢ []) ⊎ (((h : Header) × (least_absent r ≡ Some h)) ⊎ (r.worn ≢ [])) =
     elim short [ inl n ↦ inl n | inr rest ↦ inr (elim rest [ inl l ↦ inl (least_there r sound l) | inr w ↦ inr w ]) ] in
     let b = asks_by s r f r.missing (least_absent r) r.worn kinds in
     record {
       message = b.message;
-      sent = b.sent;
+      sent = ap (λ b. outputs (when (not b) (ask_for r.missing (least_absent r) r.worn) s r f).script) other ∙ b.sent;
       what = elim b.what [
         | inl block ↦ inl block
         | inr rest ↦ inr (elim rest [ inl entry ↦ inl (record { header = entry.0; least = entry.1.0; is = entry.1.1 }) | inr block ↦ inr block ])
@@ -154,8 +155,14 @@ module _ {F : Type 0} (s : Setting F) (r : Replica) (f : F) where
   for_turns [] None [] = record { turn = r.turn; is = refl }
 
   ask_turns : Turns (ask s r f)
-  unfolding ask by
-  ask_turns = let t = for_turns r.missing (least_absent r) r.worn in record { turn = t.turn; is = t.is }
+  unfolding ask by quiet
+  ask_turns =
+      let each : (b : Bool) → Turns (when (not b) (ask_for r.missing (least_absent r) r.worn) s r f) = elim [
+        | true ↦ record { turn = r.turn; is = refl }
+        | false ↦ for_turns r.missing (least_absent r) r.worn
+      ] in
+      let t = each (is_alone r) in
+      record { turn = t.turn; is = t.is }
 
 -- so what is missing is as before
 short_turned : (t : ℕ) (r : Replica) → IsShort (record r { turn = t }) → IsShort r
@@ -172,15 +179,16 @@ module _ {F : Type 0} (s : Setting F) where
   entry_turned t r m a = record { header = a.header; least = a.least; is = a.is }
 
   -- words that end by asking
-  ends_asking : (v : Word F) → Keeps v → (r : Replica) (f : F) → IsSound r → let x = (v ⨾ ask) s r f in IsShort x.replica → AsksLast s x
+  ends_asking : (v : Word F) → Keeps v → (r : Replica) (f : F) → IsSound r → let x = (v ⨾ ask) s r f in is_alone x.replica ≡ false → IsShort x.replica → AsksLast s x
   unfolding ◌⨾◌
-  ends_asking v keeps r f sound short =
+  ends_asking v keeps r f sound other short =
       let a = v s r f in
       let d : F = after_all s f a.script in
       let b = ask s a.replica d in
       let t = ask_turns s a.replica d in
       let was = short_turned t.turn a.replica (subst IsShort t.is short) in
-      let asked = short_replicas_ask s a.replica d (keeps.every s r f sound).kept.sound was in
+      let several : is_alone a.replica ≡ false = sym (ap is_alone t.is) ∙ other in
+      let asked = short_replicas_ask s a.replica d (keeps.every s r f sound).kept.sound several was in
       let turned : Replica = record a.replica { turn = t.turn } in
       let what : AsksBlock turned turned.missing asked.message ⊎ (AsksEntry s turned asked.message ⊎ AsksBlock turned turned.worn asked.message) = elim asked.what [
         | inl block ↦ inl (block_turned t.turn a.replica a.replica.missing asked.message block)
@@ -199,10 +207,10 @@ module _ {F : Type 0} (s : Setting F) where
       }
 
   abbrev Asked : Word F → Replica → F → Type 0
-  Asked w r f = IsShort (w s r f).replica → AsksLast s (w s r f)
+  Asked w r f = is_alone (w s r f).replica ≡ false → IsShort (w s r f).replica → AsksLast s (w s r f)
 
   by_group : (v w : Word F) (r : Replica) (f : F) → v s r f ≡ w s r f → Asked v r f → Asked w r f
-  by_group v w r f e = subst (λ (x : Step). IsShort x.replica → AsksLast s x) e
+  by_group v w r f e = subst (λ (x : Step). is_alone x.replica ≡ false → IsShort x.replica → AsksLast s x) e
 
   primary_asks : (r : Replica) (f : F) → IsSound r → Asked primary_ticks r f
   primary_asks r f sound =

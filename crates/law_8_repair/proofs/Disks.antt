@@ -1,5 +1,5 @@
 -- What the effects of a step leave of the entries on a disk.
-use Rattle.std.proofs.Common.{arith, ◌≡◌, ◌≢◌, ◌+◌, ◌-◌, ◌*◌, ◌<◌, ◌≤◌, ◌%◌, refl, ap, ◌∙◌, ℕ, Bool, true, false, cond, eqb, List, [], ◌∷◌, ◌++◌, length, take, replicate, Some}
+use Rattle.std.proofs.Common.{arith, ◌≡◌, ◌≢◌, ◌-◌, ◌*◌, ◌<◌, ◌≤◌, ◌%◌, refl, ap, ◌∙◌, ℕ, Bool, true, false, cond, eqb, List, [], ◌∷◌, ◌++◌, length, take, replicate, Some}
 use Rattle.std.specs.Option.{option_and_then, option_map}
 use Rattle.vr_disk.specs.DiskState as disk
 use Rattle.vr_disk.specs.DiskState.{Call, Face, Sync}

@@ -42,7 +42,7 @@ use Rattle.vr_ckpt.specs.Folds as applying
 use Rattle.vr_world.specs.Deciding.{Hash, commit_table, do_view_change_table, first_of, get_block_table, get_prepare_table, get_sync_table, get_view_table, give_block_table, give_prepare_table, is_wanted, log_of, prepare_ok_table, prepare_table, request_table, session_answer, start_view_change_table, start_view_table, sync_view_table, tick_table}
 use Rattle.vr_world.specs.Opening.{Slot, announce, entry_header, going_on, leave_view, mend_slot, old_headers, opening, recover_old, recover_op, recover_parts, rewrite}
 use Rattle.vr_world.specs.Outputs as told
-use Rattle.vr_world.specs.Replica.{Replica, head, header_at, is_here, is_frozen, is_spent, is_started, leads, part_at}
+use Rattle.vr_world.specs.Replica.{Replica, head, header_at, is_alone, is_here, is_frozen, is_spent, is_started, leads, part_at}
 use Rattle.vr_world.specs.Rules as rules
 use Rattle.vr_world.specs.Steps.{Effect, Write, Rewrite, Save, Mend, Checkpoint, PutBlock, Say, Setting, Word, ◌⨾◌, after_all, by, change, does, each, naming, quiet, reading, says, times, when}
 use Rattle.vr_world.specs.Words as words
@@ -209,7 +209,7 @@ module _ {F : Type 0} {G : List ℕ → Type 0} where
   unfolding words.begin_view
   mute_begin ss l =
       mute_then _ _ (mute_says (words.choose_line ss l) (λ r. (tt, tt)))
-      (mute_then _ _ (mute_take l) (mute_then _ _ (mute_tells told.start_view (λ r. tt)) (mute_then _ _ (mute_by _ (λ r. mute_each words.prepare_again _ mute_again)) mute_apply)))
+      (mute_then _ _ (mute_take l) (mute_then _ _ (mute_tells told.start_view (λ r. tt)) (mute_then _ _ (mute_by _ (λ r. mute_each words.prepare_again _ mute_again)) (mute_by _ (λ r. mute_if (is_alone r) words.advance words.apply mute_advance mute_apply)))))
 
   mute_choice : (ss : List Statement) (c : Choice) → Mute {F = F} G (words.obey_choice ss c)
   unfolding words.try_log
@@ -242,7 +242,7 @@ module _ {F : Type 0} {G : List ℕ → Type 0} where
 
   mute_ask : Mute {F = F} G words.ask
   unfolding words.ask
-  mute_ask = mute_by _ (λ r. mute_ask_for r.missing (words.least_absent r) r.worn)
+  mute_ask = mute_by _ (λ r. mute_when (not (is_alone r)) _ (mute_ask_for r.missing (words.least_absent r) r.worn))
 
   -- ---- a visit
 

@@ -1,5 +1,5 @@
 -- Each move of a group leaves its running replicas caught up.
-use Rattle.std.proofs.Common.{◌≡◌, ◌≤◌, ◌+◌, ◌⊎◌, ◌∙◌, inl, inr, ap, subst, sym, ℕ, zero, suc, List, [], ◌∷◌, Some, None}
+use Rattle.std.proofs.Common.{◌≡◌, ◌+◌, ◌⊎◌, ◌∙◌, inl, inr, ap, subst, ℕ, zero, suc, List, [], ◌∷◌, Some, None}
 use Rattle.std.specs.Prelude.{All, slice_get, slice_set}
 use Rattle.std.proofs.lemmas.List.Elements.{All-nil, All-cons, All-head, All-tail}
 use Rattle.vr_base.specs.declared.kind.Kind.{Kind}
@@ -49,7 +49,7 @@ moves_up c g _ _ h u k (group.cuts at arrival e d j m r runs i) = one_up g at _ 
 moves_up c g _ _ h u k (group.crashes at m there) = one_up g at _ u (λ q same. stopped_up q same)
 moves_up c g _ _ h u k (group.recovers at v d m o) =
     let good = good_value c g.n at m v (h.members at m o.member) o.value in
-    let up : KeepsUp (opening v lying (blank v) d).replica = openings_keep_up lying d v (headers_of lying d k) good.0 (subst (λ (k : ℕ). 2 ≤ k) (sym good.1.n) h.several) in
+    let up : KeepsUp (opening v lying (blank v) d).replica = openings_keep_up lying d v (headers_of lying d k) good.0 in
     one_up g at _ u (λ q same. runs_up (resumed v d).replica q (subst (λ (x : Step). KeepsUp x.replica) (opening_in_two v d) up) same)
 moves_up c g _ _ h u k (group.recovers_cut at v d j m o) = one_up g at _ u (λ q same. stopped_up q same)
 

@@ -139,7 +139,7 @@ moves_placed c g _ _ h u w k b (group.cuts at arrival e d j m r runs i) = one_pl
 moves_placed c g _ _ h u w k b (group.crashes at m there) = one_placed g at _ u (λ q same. stopped_placed q same)
 moves_placed c g _ _ h u w k b (group.recovers at v d m o) =
     let good = good_value c g.n at m v (h.members at m o.member) o.value in
-    let placed : StaysInPlace (opening v lying (blank v) d).replica = lying_places.openings d v b good.0 (subst (λ (k : ℕ). 2 ≤ k) (sym good.1.n) h.several) in
+    let placed : StaysInPlace (opening v lying (blank v) d).replica = lying_places.openings d v b good.0 in
     one_placed g at _ u (λ q same. runs_placed (resumed v d).replica q (subst (λ (x : Step). StaysInPlace x.replica) (opening_in_two v d) placed) same)
 moves_placed c g _ _ h u w k b (group.recovers_cut at v d j m o) = one_placed g at _ u (λ q same. stopped_placed q same)
 

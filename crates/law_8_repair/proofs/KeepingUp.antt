@@ -79,9 +79,9 @@ module _ {F : Type 0} where
 
 pub openings_keep_up : {F : Type 0} → OpeningsKeepUp F
 unfolding opening ◌⨾◌ does after_all by
-openings_keep_up = λ s f v k g two.
+openings_keep_up = λ s f v k g.
     let d = s.after f (Mend v) in
-    let found = recovered v s d (value_is v g two) (reads_after s f (Mend v) g k) in
+    let found = recovered v s d (value_is v g) (reads_after s f (Mend v) g k) in
     up_rest (is_spent (recover_parts v s (blank v) d).replica) s (recover_parts v s (blank v) d).replica _ refl (placed_of _ found.sound)
 
 -- nothing is committed yet

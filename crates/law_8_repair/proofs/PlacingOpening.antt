@@ -222,12 +222,12 @@ unfolding blank
 blank_order v = omega arith
 
 module _ {F : Type 0} (s : Setting F) (face : F → Face) (loads : Loads s face) (program : IsProgram s) (roots : SavesRoots s) where
-  pub opened_in_place : (f : F) (v : SuperValue) → IsFace (face f) → IsGood v → 2 ≤ v.fields.n → StaysInPlace (opening v s (blank v) f).replica
+  pub opened_in_place : (f : F) (v : SuperValue) → IsFace (face f) → IsGood v → StaysInPlace (opening v s (blank v) f).replica
   unfolding opening ◌⨾◌ does after_all by
-  opened_in_place f v whole g two =
+  opened_in_place f v whole g =
       let d : F = s.after f (Mend v) in
       let reads = loads.reads f whole in
-      let all = (openings_fit s f v program roots reads g two).each in
+      let all = (openings_fit s f v program roots reads g).each in
       let a = recover_parts v s (blank v) d in
       let e : F = after_all s d a.script in
       let low : Low {F = F} (recover_parts v) = low_recover v in

@@ -1,5 +1,5 @@
 -- Words that write no prepare, and after which no entry is here that wasn't before.
-use Rattle.std.proofs.Common.{arith, ℕ, zero, suc, ◌+◌, ◌-◌, ◌≡◌, ◌∙◌, inl, inr, refl, sym, ap, Bool, true, false, cond, List, [], ◌∷◌, ◌++◌, map, length, get_or, replicate, max, Option, Some, None}
+use Rattle.std.proofs.Common.{arith, ℕ, zero, suc, ◌+◌, ◌-◌, ◌≡◌, ◌∙◌, inl, inr, refl, sym, ap, Bool, true, false, not, cond, List, [], ◌∷◌, ◌++◌, map, length, get_or, replicate, max, Option, Some, None}
 use Rattle.std.specs.Prelude.{All, nat_le, nat_lt}
 use Rattle.std.specs.List.{range_with_len}
 use Rattle.std.specs.Option.{option_map_or}
@@ -26,7 +26,7 @@ use Rattle.vr_msg.specs.declared.frame.Frame.{Frame}
 use Rattle.vr_msg.specs.declared.frame.SyncView.{SyncView}
 use Rattle.vr_msg.specs.declared.output.Output.{Output}
 use Rattle.vr_msg.specs.declared.statement.Statement.{Statement}
-use Rattle.vr_world.specs.Replica.{Replica, forgetting, part_at, version, with_part}
+use Rattle.vr_world.specs.Replica.{Replica, forgetting, is_alone, part_at, version, with_part}
 use Rattle.vr_world.specs.Steps.{Effect, Write, Say, Setting, Word, ◌⨾◌, after_all, by, change, does, each, naming, quiet, reading, says, times, when}
 use Rattle.vr_world.specs.Words as words
 use Rattle.vr_world.specs.Words.{usable}
@@ -320,7 +320,8 @@ module _ {F : Type 0} where
   sheds_begin : (ss : List Statement) (l : words.Log) → Sheds {F = F} (words.begin_view ss l)
   unfolding words.begin_view
   sheds_begin ss l =
-      sheds_then _ _ (sheds_says (words.choose_line ss l)) (sheds_then _ _ (sheds_take l) (sheds_then _ _ (sheds_says _) (sheds_then _ _ (sheds_by _ (λ r. sheds_each words.prepare_again _ sheds_again)) sheds_apply)))
+      sheds_then _ _ (sheds_says (words.choose_line ss l))
+      (sheds_then _ _ (sheds_take l) (sheds_then _ _ (sheds_says _) (sheds_then _ _ (sheds_by _ (λ r. sheds_each words.prepare_again _ sheds_again)) (sheds_by _ (λ r. sheds_if (is_alone r) words.advance words.apply sheds_advance sheds_apply)))))
 
   sheds_choice : (ss : List Statement) (c : Choice) → Sheds {F = F} (words.obey_choice ss c)
   unfolding words.try_log
@@ -353,7 +354,7 @@ module _ {F : Type 0} where
 
   pub sheds_ask : Sheds {F = F} words.ask
   unfolding words.ask
-  sheds_ask = sheds_by _ (λ r. sheds_ask_for r.missing (words.least_absent r) r.worn)
+  sheds_ask = sheds_by _ (λ r. sheds_when (not (is_alone r)) _ (sheds_ask_for r.missing (words.least_absent r) r.worn))
 
   pub sheds_load : Sheds {F = F} words.load
   unfolding words.load

@@ -25,7 +25,7 @@ use Rattle.vr_msg.specs.declared.frame.Frame.{Frame}
 use Rattle.vr_msg.specs.declared.output.Output.{Output}
 use Rattle.vr_msg.specs.declared.statement.Statement.{Statement}
 use Rattle.vr_super.specs.Copies.{SuperValue}
-use Rattle.vr_world.specs.Replica.{Replica, forgetting, is_here, part_at, with_part}
+use Rattle.vr_world.specs.Replica.{Replica, forgetting, is_alone, is_here, part_at, with_part}
 use Rattle.vr_world.specs.Steps.{Effect, Write, Rewrite, Save, Mend, Checkpoint, PutBlock, Say, Setting, Step, Word, ◌⨾◌, after_all, by, change, does, each, naming, quiet, reading, says, times, when}
 use Rattle.vr_world.specs.Words as words
 use Rattle.vr_world.specs.Fit.{IsFit, ReadsWell}
@@ -489,7 +489,7 @@ module _ {F : Type 0} where
   unfolding words.begin_view
   standing_begin ss l =
       standing_then _ _ (standing_says (words.choose_line ss l))
-      (standing_then _ _ (standing_take l) (standing_then _ _ (standing_says _) (standing_then _ _ (standing_by _ (λ r. standing_each words.prepare_again _ standing_again)) standing_apply)))
+      (standing_then _ _ (standing_take l) (standing_then _ _ (standing_says _) (standing_then _ _ (standing_by _ (λ r. standing_each words.prepare_again _ standing_again)) (standing_by _ (λ r. standing_if (is_alone r) words.advance words.apply standing_advance standing_apply)))))
 
   standing_choice : (ss : List Statement) (c : Choice) → Standing {F = F} (words.obey_choice ss c)
   unfolding words.try_log
@@ -522,7 +522,7 @@ module _ {F : Type 0} where
 
   pub standing_ask : Standing {F = F} words.ask
   unfolding words.ask
-  standing_ask = standing_by _ (λ r. standing_ask_for r.missing (words.least_absent r) r.worn)
+  standing_ask = standing_by _ (λ r. standing_when (not (is_alone r)) _ (standing_ask_for r.missing (words.least_absent r) r.worn))
 
 -- ---- the blocks that have gone bad are the checkpoint's, and while one is missing none is known as bad
 

@@ -14,7 +14,7 @@ use Rattle.vr_ckpt.specs.State.{State}
 use Rattle.vr_ckpt.specs.StateTexts.{state_decoded}
 use Rattle.vr_msg.specs.declared.frame.Frame.{Frame}
 use Rattle.vr_msg.specs.declared.output.Output.{Output}
-use Rattle.vr_world.specs.Replica.{Replica, is_here, part_at, version}
+use Rattle.vr_world.specs.Replica.{Replica, is_alone, is_here, part_at, version}
 use Rattle.vr_world.specs.Sound.{IsCaughtUp, IsSound}
 use Rattle.vr_world.specs.Steps.{Effect, Mend, Say, Setting, Word, ◌⨾◌, after_all, by, change, does, each, naming, quiet, reading, says, when}
 use Rattle.vr_world.specs.Words.{advance, advanced, apply, ask, ask_for, ask_peer, enter, entered, entry_of, learn, learned, load, loaded_state, loads, or_lost, prepare_again, resend, rested, save, value_of, with_entry, with_entry_at, with_state, blocks_of, is_loaded, mend_header, op_of_slot, place_now, visit, visit_block, visit_place, visit_read, visit_slot, with_cursor, with_worn, usable}
@@ -127,7 +127,7 @@ module _ {F : Type 0} where
 
   pub calm_ask : Calm {F = F} ask
   unfolding ask
-  calm_ask = calm_by _ (λ r. calm_asks r.missing _ r.worn)
+  calm_ask = calm_by _ (λ r. calm_when (not (is_alone r)) _ (calm_asks r.missing _ r.worn))
 
   -- of a visit all but a slot whose entry doesn't read
   calm_mend_header : (h : Header) (o : Option Header) → Calm {F = F} (mend_header h o)
@@ -220,6 +220,14 @@ module _ {F : Type 0} where
   pub settles_advance : Settles {F = F} advance
   unfolding advance advanced part_at
   settles_advance = settles_then _ _ (sorts_change _ (λ r k. refl)) settles_apply
+
+  pub settles_by : (w : Replica → Word F) → ((r : Replica) → Settles (w r)) → Settles (by w)
+  unfolding by
+  settles_by w h = record { every = λ s r f p. (h r).every s r f p }
+
+  pub settles_if : (b : Bool) (v w : Word F) → Settles v → Settles w → Settles (cond b v w)
+  settles_if true v w h k = h
+  settles_if false v w h k = k
 
   pub settles_learn : (commit : ℕ) → Settles {F = F} (learn commit)
   unfolding learn part_at

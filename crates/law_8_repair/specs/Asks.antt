@@ -1,4 +1,4 @@
--- While something is known to be missing, each ask sends for it.
+-- While something is known to be missing, each ask sends for it, where there is another replica.
 use Rattle.std.specs.Prelude.{ℕ, ◌<◌, ◌≡◌, ◌≢◌, ◌⊎◌, ◌||◌, Bool, Contains, true, false, List, [], ◌++◌, Some, nat_lt, if◌then◌else◌}
 use Rattle.vr_ckpt.specs.declared.name.Name.{Name}
 use Rattle.vr_header.specs.declared.header.Header.{Header}
@@ -6,7 +6,7 @@ use Rattle.vr_msg.specs.declared.event.Event.TheVariants.{Tick}
 use Rattle.vr_msg.specs.declared.frame.Frame.{Frame}
 use Rattle.vr_msg.specs.declared.output.Output.{Output}
 use Rattle.vr_world.specs.Outputs.{get_block, get_prepare, send_to}
-use Rattle.vr_world.specs.Replica.{Replica, is_absent, is_frozen, is_started, leads, part_at}
+use Rattle.vr_world.specs.Replica.{Replica, is_absent, is_alone, is_frozen, is_started, leads, part_at}
 use Rattle.vr_world.specs.Rules.{react}
 use Rattle.vr_world.specs.Sound.{IsSound}
 use Rattle.vr_world.specs.Steps.{Setting, Step, outputs}
@@ -40,8 +40,9 @@ pub record Asks {F : Type 0} (s : Setting F) (r : Replica) (f : F) : Type 0 wher
   pub sent : outputs (ask s r f).script ≡ send_to (peer r) message r
   pub what : AsksBlock r r.missing message ⊎ (AsksEntry s r message ⊎ AsksBlock r r.worn message)
 
+-- a replica that is alone in its group has nobody to ask
 abbrev pub ShortReplicasAsk : Type 0 → Type 0
-ShortReplicasAsk F = (s : Setting F) (r : Replica) (f : F) → IsSound r → IsShort r → Asks s r f
+ShortReplicasAsk F = (s : Setting F) (r : Replica) (f : F) → IsSound r → is_alone r ≡ false → IsShort r → Asks s r f
 
 -- ---- ticks
 
@@ -57,9 +58,9 @@ pub record AsksLast {F : Type 0} (s : Setting F) (x : Step) : Type 0 where
   pub sent : outputs x.script ≡ before ++ send_to to message x.replica
   pub what : AsksBlock x.replica x.replica.missing message ⊎ (AsksEntry s x.replica message ⊎ AsksBlock x.replica x.replica.worn message)
 
--- such a tick, after which something is known to be missing, has asked for it
+-- such a tick of one that isn't alone, after which something is known to be missing, has asked for it
 abbrev pub TicksAsk : Type 0 → Type 0
 TicksAsk F =
     (s : Setting F) (r : Replica) (f : F) → IsSound r → is_frozen r ≡ false → stays_on r ≡ true
     → let x = react Tick s r f in
-    IsShort x.replica → AsksLast s x
+    is_alone x.replica ≡ false → IsShort x.replica → AsksLast s x

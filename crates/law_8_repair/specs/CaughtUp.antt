@@ -1,5 +1,5 @@
 -- A running replica never waits at an op whose entry is here.
-use Rattle.std.specs.Prelude.{ℕ, ◌≤◌, ◌≡◌, false}
+use Rattle.std.specs.Prelude.{ℕ, ◌≡◌, false}
 use Rattle.vr_base.specs.declared.kind.Kind.{Kind}
 use Rattle.vr_msg.specs.declared.event.Event.{Event}
 use Rattle.vr_super.specs.Copies.{IsGood, SuperValue}
@@ -19,7 +19,7 @@ KeepsUp r = is_spent r ≡ false → IsCaughtUp r
 abbrev pub FreshKeepUp : Type 0
 FreshKeepUp = (kind : Kind) (cluster n index : ℕ) → KeepsUp (fresh kind cluster n index)
 
--- from every value that makes a good copy, of a group of at least two, whatever headers read
+-- from every value that makes a good copy, whatever headers read
 abbrev pub OpeningsKeepUp : Type 0 → Type 0
 OpeningsKeepUp F = (s : Setting F) (f : F) (v : SuperValue) → ReadsHeaders s f → IsGood v → KeepsUp (opening v s (blank v) f).replica
 

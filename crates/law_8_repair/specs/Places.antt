@@ -54,7 +54,7 @@ pub record IsInPlace (r : Replica) : Type 0 where
 abbrev pub StaysInPlace : Replica → Type 0
 StaysInPlace r = is_spent r ≡ false → IsInPlace r
 
--- So a replica of a group of at least two begins, and so it goes on, whatever comes: where its disk, and a block that comes, consist of bytes.
+-- So a replica begins, and so it goes on, whatever comes: where its disk, and a block that comes, consist of bytes.
 -- And then its blocks are laid out.
 pub record PlacesStay {F : Type 0} (s : Setting F) (face : F → Face) : Type 0 where
   pub fresh : (kind : Kind) (cluster n index : ℕ) → IsInPlace (fresh kind cluster n index)

@@ -31,7 +31,7 @@ pub fn fresh_replicas_keep_up()
     ensures { FreshKeepUp }
 {}
 
-/// So in every run of a group of 2 to 6 replicas that was just made each running replica has applied all that it can, before and after
+/// So in every run of a group of 1 to 6 replicas that was just made each running replica has applied all that it can, before and after
 /// each move.
 pub fn groups_keep_up()
     ensures { GroupsKeepUp }
@@ -60,13 +60,13 @@ pub fn visits_find()
 {}
 
 /// While a sound replica misses a block, lacks an entry above its checkpoint whose header it knows, or knows a block that has gone bad, each
-/// ask sends for one of these, and for nothing else.
+/// ask sends for one of these, and for nothing else, where its group has another replica.
 pub fn short_replicas_ask<F>()
     ensures { ShortReplicasAsk F }
 {}
 
 /// A tick that gives up no view asks last of all: where after it a block is missing, an entry above the checkpoint whose header is known is lost or
-/// wanted, or a block is known as bad, the last message that it sends asks for one of these.
+/// wanted, or a block is known as bad, the last message that it sends asks for one of these, where there is another replica.
 pub fn ticks_ask<F>()
     ensures { TicksAsk F }
 {}
@@ -103,7 +103,7 @@ pub fn places_stay()
 {}
 
 /// So what `visits_cover` says holds of each running replica, from any sectors of bytes that may lie, before and after each move of every run
-/// of a group of 2 to 6 replicas that was just made. Nothing is asked of the replica; of the run, that its moves read what the program has,
+/// of a group of 1 to 6 replicas that was just made. Nothing is asked of the replica; of the run, that its moves read what the program has,
 /// from disks of bytes; and of the sectors, that their file takes entries of the replica's version.
 pub fn groups_cover()
     ensures { GroupsCover }

@@ -35,7 +35,8 @@ use Rattle.vr_world.specs.Safe.{IsTrueReply, applied_then, run_outputs}
 use Rattle.vr_world.proofs.FitMessages.{asked_may_come}
 use Rattle.law_1_machine.specs.Basics.{In}
 use Rattle.law_3_outputs.specs.Followed.{IsFitRun}
-use Rattle.law_3_outputs.proofs.Sets.{in_contains, in_get, in_left, in_right}
+use Rattle.law_3_outputs.proofs.StoredLists.{in_contains}
+use Rattle.law_3_outputs.proofs.Sets.{in_get, in_left, in_right}
 use Rattle.law_3_outputs.proofs.Traces.{in_either}
 use Rattle.law_4_disks.specs.Worlds as worlds
 use Rattle.law_4_disks.specs.Worlds.{IsAside, Said as Lines}
@@ -153,8 +154,8 @@ module _ (kinds : ℕ → Kind) (cluster n : ℕ) (first : ℕ → Host Lying) (
   reply_met : (q : RequestFields) → IsAsked q → q.cluster < 2 ^ 64 → In q own → (r : ReplyFields) → r.request_name ≡ header_name (header_of q) → ComesFrom xs r → IsMet xs log q r
   reply_met q asked range mine r name (coming.of_request at did p i p_asked p_range to) =
       let names : header_name (header_of p) ≡ header_name (header_of q) = sym to.name ∙ name in
-      let there = in_contains xs (act_by at (Handles (Asked p) did)) i in
-      let same : header_of p ≡ header_of q = one_header (IsNamed xs own) never (header_of p) (header_of q) (request_is_header p p_asked p_range) (request_is_header q asked range) (named.IsNamed.reached at did p there) (named.IsNamed.asked q (in_contains own q mine)) names in
+      let there = in_contains (act_by at (Handles (Asked p) did)) xs i in
+      let same : header_of p ≡ header_of q = one_header (IsNamed xs own) never (header_of p) (header_of q) (request_is_header p p_asked p_range) (request_is_header q asked range) (named.IsNamed.reached at did p there) (named.IsNamed.asked q (in_contains q own mine)) names in
       record { client = to.client ∙ ap (λ (h : Header). h.client) same; number = to.request ∙ ap (λ (h : Header). h.request) same; reached = itself at did p there same }
   reply_met q asked range mine r name (coming.of_line c i to) =
       let a = line_asked c i in
@@ -162,7 +163,7 @@ module _ (kinds : ℕ → Kind) (cluster n : ℕ) (first : ℕ → Host Lying) (
       let line = rests_at g.0 (output.Commit c) g.1 in
       let names : header_name (asked_by c.entry.header) ≡ header_name (header_of q) = sym a.0 ∙ (sym to.name ∙ name) in
       let q_is = request_is_header q asked range in
-      let same : asked_by c.entry.header ≡ header_of q = one_header (IsNamed xs own) never (asked_by c.entry.header) (header_of q) (entry_is_header c.entry.header q a.1 q_is) q_is (named.IsNamed.entered c (in_contains (all_said xs) (output.Commit c) i)) (named.IsNamed.asked q (in_contains own q mine)) names in
+      let same : asked_by c.entry.header ≡ header_of q = one_header (IsNamed xs own) never (asked_by c.entry.header) (header_of q) (entry_is_header c.entry.header q a.1 q_is) q_is (named.IsNamed.entered c (in_contains (output.Commit c) (all_said xs) i)) (named.IsNamed.asked q (in_contains q own mine)) names in
       record { client = to.client ∙ ap (λ (h : Header). h.client) same; number = to.request ∙ ap (λ (h : Header). h.request) same; reached = as_entry (c.entry.header.op - 1) c.entry line.so.at same }
 
   nobody : (s : Sent) → In s (world_of first n).sent → ⊥

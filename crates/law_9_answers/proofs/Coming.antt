@@ -81,6 +81,7 @@ sent_in (output.Choose c ∷ os) s i = inr (sent_in os s i)
 sent_in (output.Wait w ∷ os) s i = inr (sent_in os s i)
 sent_in (output.Start x ∷ os) s i = inr (sent_in os s i)
 sent_in (output.Halted r ∷ os) s i = inr (sent_in os s i)
+sent_in (output.Migrated r ∷ os) s i = inr (sent_in os s i)
 sent_in (output.Done ∷ os) s i = inr (sent_in os s i)
 sent_in (output.KeptOut ∷ os) s i = inr (sent_in os s i)
 

@@ -23,7 +23,7 @@ use Rattle.vr_msg.specs.declared.reply.ReplyFields.{ReplyFields}
 use Rattle.vr_msg.specs.declared.reply.ReplyKind.{ReplyKind}
 use Rattle.vr_msg.specs.declared.reply.ReplyKind.TheVariants as reply
 use Rattle.law_1_machine.specs.Basics.{In}
-use Rattle.law_3_outputs.proofs.Sets.{contains_in}
+use Rattle.law_3_outputs.proofs.StoredLists.{contains_in}
 use Rattle.law_7_members.specs.Files.{ActBy}
 use Rattle.law_7_members.specs.Whole.{all_said}
 use Rattle.law_9_answers.specs.Heard.{IsPutOut, header_of, kind_of, heard}
@@ -82,7 +82,7 @@ arrival_given xs version cluster n name a Nothing (Some l) put brings e = absurd
 arrival_given xs version cluster n name a (Came d) (Some l) put brings e =
     let h = message_heeded n name l.message a e in
     let of_group : IsOfGroup version cluster d.bytes (frame.Reply h.fields) = subst (IsOfGroup version cluster d.bytes) h.is brings.1 in
-    record { fields = h.fields; put_out = contains_in (all_said xs) (output.Reply h.fields) (put h.fields of_group); name_is = h.name_is; kind = h.kind }
+    record { fields = h.fields; put_out = contains_in (output.Reply h.fields) (all_said xs) (put h.fields of_group); name_is = h.name_is; kind = h.kind }
 
 all_right : {X : Type 0} (P : X → Type 0) (xs : List X) (x : X) → AllByRecursion P (xs ++ (x ∷ [])) → P x
 all_right P [] x h = h.0

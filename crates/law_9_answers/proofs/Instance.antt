@@ -17,7 +17,7 @@ use Rattle.vr_node.specs.declared.node.Node.{Node}
 use Rattle.vr_serve.specs.Runs.{Did}
 use Rattle.vr_world.specs.Group.{Asked}
 use Rattle.law_1_machine.specs.Basics.{In}
-use Rattle.law_3_outputs.proofs.Sets.{contains_in, in_contains}
+use Rattle.law_3_outputs.proofs.StoredLists.{contains_in, in_contains}
 use Rattle.law_7_members.specs.Files.{ActBy, Handles, act_by}
 use Rattle.law_7_members.specs.Whole.{all_said}
 use Rattle.law_9_answers.specs.Heard.{IsNamed, asked_by, header_of}
@@ -36,12 +36,12 @@ module _ (q : RequestFields) (at : ℕ) (did : Did Node) (line : Committed) (a :
   reply_said version cluster d spelled b of_group =
       let one : frame.Reply b ≡ frame.Reply a = same_message (frame.Reply b) (frame.Reply a) d.bytes of_group.spelled spelled in
       let same : b ≡ a = cc in
-      in_contains (all_said xs) (output.Reply b) (subst (λ (os : List Output). In (output.Reply b) os) (sym said_are) (inr (inl (ap output.Reply same))))
+      in_contains (output.Reply b) (all_said xs) (subst (λ (os : List Output). In (output.Reply b) os) (sym said_are) (inr (inl (ap output.Reply same))))
 
   -- all names are of one text
   one_text : asked_by line.entry.header ≡ header_of q → (bytes : List ℕ) → IsNamed xs (q ∷ []) bytes → bytes ≡ named_bytes (header_of q)
   one_text is _ (named.IsNamed.reached i other p there) =
-      elim (contains_in xs (act_by i (Handles (Asked p) other)) there) [
+      elim (contains_in (act_by i (Handles (Asked p) other)) xs there) [
         | inl e ↦
             let one : Handles (Asked p) other ≡ Handles (Asked q) did = ap (λ (x : ActBy). x.act) e in
             let same : p ≡ q = cc in
@@ -49,12 +49,12 @@ module _ (q : RequestFields) (at : ℕ) (did : Did Node) (line : Committed) (a :
         | inr none ↦ absurd none
       ]
   one_text is _ (named.IsNamed.entered c there) =
-      elim (subst (λ (os : List Output). In (output.Commit c) os) said_are (contains_in (all_said xs) (output.Commit c) there)) [
+      elim (subst (λ (os : List Output). In (output.Commit c) os) said_are (contains_in (output.Commit c) (all_said xs) there)) [
         | inl e ↦ let same : c ≡ line = cc in ap (λ (x : Committed). named_bytes (asked_by x.entry.header)) same ∙ ap (λ (h : Header). named_bytes h) is
         | inr later ↦ elim later [ inl e ↦ absurd cc | inr none ↦ absurd none ]
       ]
   one_text is _ (named.IsNamed.asked p there) =
-      elim (contains_in (q ∷ []) p there) [ inl e ↦ ap (λ (r : RequestFields). named_bytes (header_of r)) e | inr none ↦ absurd none ]
+      elim (contains_in p (q ∷ []) there) [ inl e ↦ ap (λ (r : RequestFields). named_bytes (header_of r)) e | inr none ↦ absurd none ]
 
 pub some_may : SomeAnswerMay
 some_may c q at did line a d answer are is spelled = record {

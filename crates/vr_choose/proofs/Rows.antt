@@ -74,41 +74,49 @@ newer_log_wins : chosen 3 (stated 0 0 3 1 (Here (h 1) ∷ Here (h 2) ∷ Here (h
 unfolding choice named_by row_end log_headers same_header
 newer_log_wins = refl
 
--- groups of two to six
+-- groups of two to six, and of one too
+abbrev several : List ℕ
+several = 2 ∷ 3 ∷ 4 ∷ 5 ∷ 6 ∷ []
+
 abbrev sizes : List ℕ
-sizes = 2 ∷ 3 ∷ 4 ∷ 5 ∷ 6 ∷ []
+sizes = 1 ∷ several
 
 abbrev view_change : ℕ → ℕ
 view_change n = (unwrap_or (quorums_of n) no_quorums).view_change
 
 -- all of a view-change quorum have op 1
-not_cut : map (λ n. chosen n (replicate (view_change n) (stated 0 0 1 1 (Here (h 1) ∷ [])))) sizes ≡ replicate 5 (Ends (h 1 ∷ []))
+not_cut : map (λ n. chosen n (replicate (view_change n) (stated 0 0 1 1 (Here (h 1) ∷ [])))) sizes ≡ replicate 6 (Ends (h 1 ∷ []))
 unfolding choice named_by row_end log_headers same_header
 not_cut = refl
 
 -- one has ops 1 and 2 of an older view: it denies op 2 by what it has there, since the newer log names none
-cut_older : map (λ n. chosen n (stated 0 0 2 1 (Here (h 1) ∷ Here (h 2) ∷ []) ∷ replicate (view_change n - 1) (stated 1 0 1 1 (Here (h 1) ∷ [])))) sizes
+cut_older : map (λ n. chosen n (stated 0 0 2 1 (Here (h 1) ∷ Here (h 2) ∷ []) ∷ replicate (view_change n - 1) (stated 1 0 1 1 (Here (h 1) ∷ [])))) several
     ≡ replicate 5 (Ends (h 1 ∷ []))
 unfolding choice named_by row_end log_headers same_header
 cut_older = refl
 
 -- the newer log names op 2, and who has an older one denies it by silence
-cut_silent : map (λ n. chosen n (stated 0 0 1 1 (Here (h 1) ∷ []) ∷ replicate (view_change n - 1) (stated 1 0 2 1 (Here (h 1) ∷ Wanted (g 2) ∷ [])))) sizes
+cut_silent : map (λ n. chosen n (stated 0 0 1 1 (Here (h 1) ∷ []) ∷ replicate (view_change n - 1) (stated 1 0 2 1 (Here (h 1) ∷ Wanted (g 2) ∷ [])))) several
     ≡ replicate 5 (Ends (h 1 ∷ []))
 unfolding choice named_by row_end log_headers same_header
 cut_silent = refl
 
+-- a replica alone keeps all that it has
+kept_alone : chosen 1 (stated 0 0 2 1 (Here (h 1) ∷ Here (h 2) ∷ []) ∷ []) ≡ Ends (h 1 ∷ h 2 ∷ [])
+unfolding choice named_by row_end log_headers same_header
+kept_alone = refl
+
 -- none that has lost op 1 denies it
-waits : map (λ n. chosen n (replicate (view_change n) (stated 0 0 1 1 (Lost (h 1) ∷ [])))) sizes ≡ replicate 5 (WaitsAt 1)
+waits : map (λ n. chosen n (replicate (view_change n) (stated 0 0 1 1 (Lost (h 1) ∷ [])))) sizes ≡ replicate 6 (WaitsAt 1)
 unfolding choice named_by row_end log_headers same_header
 waits = refl
 
 -- nor does one that doesn't know what it had, as long as its log is of the greatest log view
-waits_unknown : map (λ n. chosen n (replicate (view_change n) (stated 0 0 0 1 (Unknown ∷ [])))) sizes ≡ replicate 5 (WaitsAt 1)
+waits_unknown : map (λ n. chosen n (replicate (view_change n) (stated 0 0 0 1 (Unknown ∷ [])))) sizes ≡ replicate 6 (WaitsAt 1)
 unfolding choice named_by row_end log_headers same_header
 waits_unknown = refl
 
-too_few : map (λ n. chosen n (replicate (view_change n - 1) (stated 0 0 1 1 (Here (h 1) ∷ [])))) sizes ≡ replicate 5 TooFew
+too_few : map (λ n. chosen n (replicate (view_change n - 1) (stated 0 0 1 1 (Here (h 1) ∷ [])))) sizes ≡ replicate 6 TooFew
 unfolding choice named_by row_end log_headers same_header
 too_few = refl
 

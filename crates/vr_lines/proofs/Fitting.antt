@@ -1,13 +1,15 @@
 -- Each line that is read speaks of the group.
 use Rattle.std.proofs.Common.{◌≡◌, ◌<◌, ◌≤◌, ◌^◌, ℕ, List, [], ◌∷◌, eqb, refl, arith, Option, Some, None}
-use Rattle.std.specs.Prelude.{nat_le, nat_lt, codes, length}
+use Rattle.std.specs.Prelude.{nat_lt, codes, length}
 use Rattle.std.specs.Option.{IfSome, option_map}
 use Rattle.std.specs.Str.{bytes_eq}
 use Rattle.std.proofs.lemmas.Bool.{lt-ltb}
 use Rattle.std.proofs.lemmas.Bool.Decides.{nat_tests}
+use Rattle.vr_base.specs.Groups.{is_size, least_members}
 use Rattle.vr_base.specs.declared.kind.Kind.{Kind}
 use Rattle.vr_base.specs.declared.mode.Mode.{Mode}
 use Rattle.vr_base.specs.declared.mode.Mode.TheVariants.{Strict, Careful}
+use Rattle.vr_base.proofs.Members.{sized}
 use Rattle.vr_base.proofs.Versions.{between}
 use Rattle.vr_header.specs.declared.operation.Operation.{Operation}
 use Rattle.vr_lines.specs.declared.line.Line.{Line}
@@ -24,13 +26,12 @@ use Rattle.vr_lines.proofs.Answers.{either, through, mapped, it_is, below}
 
 -- ---- the line that makes a group
 
-abbrev IsSize : ℕ → Type 0
-IsSize n = (2 ≤ n) × (n ≤ 6)
+abbrev IsSize : ℕ → ℕ → Type 0
+IsSize version n = (least_members version ≤ n) × (n ≤ 6)
 
-size_fits : (word : List ℕ) → IfSome (size_of word) IsSize
-size_fits word =
-    through IsSize (number_below 7 word) _ (λ n e.
-    either IsSize (nat_le 2 n) (Some n) None (λ t. let most = below 7 word n e in (grind (arith, nat_tests), omega (arith, most))) (λ t. tt))
+size_fits : (version : ℕ) (word : List ℕ) → IfSome (size_of version word) (IsSize version)
+size_fits version word =
+    through (IsSize version) (number_below 256 word) _ (λ n e. either (IsSize version) (is_size version n) (Some n) None (λ t. sized version n t) (λ t. tt))
 
 abbrev IsVersion : ℕ → Type 0
 IsVersion version = (1 ≤ version) × (version ≤ 2)
@@ -56,7 +57,9 @@ cluster_fits version [] = tt
 cluster_fits version (size ∷ words) =
     through (IsLineOf version 0) (kind_words words) _ (λ kind e.
     let files = it_is IsKind (kind_words words) kind (kinds_fit words) e in
-    mapped (IsLineOf version 0) (size_of size) (λ n. Cluster n kind) (λ n h. let is = it_is IsSize (size_of size) n (size_fits size) h in (refl, is.0, is.1, files.0, files.1)))
+    mapped (IsLineOf version 0) (size_of kind.version size) (λ n. Cluster n kind) (λ n h.
+    let is = it_is (IsSize kind.version) (size_of kind.version size) n (size_fits kind.version size) h in
+    (refl, is.0, is.1, files.0, files.1)))
 
 -- ---- lines of clients and the network
 

@@ -24,9 +24,9 @@ asks = asks_of 1
 cluster_lines : (parse 1 0 (codes "cluster 2") ≡ Some (Cluster 2 strict)) × (parse 1 0 (codes "cluster 6") ≡ Some (Cluster 6 strict))
     × (parse 1 0 (codes "cluster 1") ≡ None) × (parse 1 0 (codes "cluster 7") ≡ None) × (parse 1 3 (codes "cluster 3") ≡ None)
     × (parse 1 0 (codes "cluster 03") ≡ None) × (parse 1 0 (codes "cluster 3 ") ≡ None) × (parse 1 0 (codes "cluster") ≡ None)
-    × (parse 1 0 (codes "cluster  3") ≡ None) × (parse 1 0 (codes "deliver 0") ≡ None)
+    × (parse 1 0 (codes "cluster  3") ≡ None) × (parse 1 0 (codes "deliver 0") ≡ None) × (parse 1 0 (codes "cluster 258") ≡ None)
 unfolding parse line_words operation_words words_of number_of digits_on asked_by is_text
-cluster_lines = (refl, refl, refl, refl, refl, refl, refl, refl, refl, refl)
+cluster_lines = (refl, refl, refl, refl, refl, refl, refl, refl, refl, refl, refl)
 
 deliver_lines : (parse 1 2 (codes "deliver 0") ≡ Some (Deliver 0))
     × (parse 1 2 (codes "deliver 18446744073709551615") ≡ Some (Deliver (2 ^ 64 - 1)))
@@ -98,18 +98,20 @@ careful_lines : (parse 1 0 (codes "cluster 2 careful") ≡ Some (Cluster 2 (of_m
 unfolding parse line_words words_of number_of digits_on
 careful_lines = (refl, refl, refl, refl, refl, refl, refl, refl, refl, refl, refl, refl, refl)
 
--- a group of version 2
+-- a group of version 2, which may have one member
 abbrev of_version_2 : Mode → Kind
 of_version_2 mode = record { mode = mode; version = 2 }
 
 version_2_lines : (parse 1 0 (codes "cluster 2 v2") ≡ Some (Cluster 2 (of_version_2 Strict))) × (parse 1 0 (codes "cluster 6 v2") ≡ Some (Cluster 6 (of_version_2 Strict)))
     × (parse 1 0 (codes "cluster 3 careful v2") ≡ Some (Cluster 3 (of_version_2 Careful))) × (parse 2 0 (codes "cluster 3 v2") ≡ Some (Cluster 3 (of_version_2 Strict)))
-    × (parse 1 0 (codes "cluster 1 v2") ≡ None) × (parse 1 0 (codes "cluster 7 v2") ≡ None) × (parse 2 3 (codes "cluster 3 v2") ≡ None)
+    × (parse 1 0 (codes "cluster 1 v2") ≡ Some (Cluster 1 (of_version_2 Strict))) × (parse 1 0 (codes "cluster 1 careful v2") ≡ Some (Cluster 1 (of_version_2 Careful)))
+    × (parse 1 0 (codes "cluster 0 v2") ≡ None) × (parse 1 0 (codes "cluster 257 v2") ≡ None)
+    × (parse 1 0 (codes "cluster 7 v2") ≡ None) × (parse 2 3 (codes "cluster 3 v2") ≡ None)
     × (parse 1 0 (codes "cluster 3 v2 careful") ≡ None) × (parse 1 0 (codes "cluster 3 v2 v2") ≡ None) × (parse 1 0 (codes "cluster 3 careful v2 ") ≡ None)
     × (parse 1 0 (codes "cluster 3 careful  v2") ≡ None) × (parse 1 0 (codes "cluster 3 careful careful v2") ≡ None) × (parse 1 0 (codes "cluster v2") ≡ None)
     × (parse 1 0 (codes "cluster 3 V2") ≡ None) × (parse 1 0 (codes "cluster 3 v1") ≡ None) × (parse 1 0 (codes "cluster 3 v3") ≡ None)
 unfolding parse line_words words_of number_of digits_on
-version_2_lines = (refl, refl, refl, refl, refl, refl, refl, refl, refl, refl, refl, refl, refl, refl, refl, refl)
+version_2_lines = (refl, refl, refl, refl, refl, refl, refl, refl, refl, refl, refl, refl, refl, refl, refl, refl, refl, refl, refl)
 
 -- a tick, a stop, a start
 member_lines : (parse 1 3 (codes "tick 2") ≡ Some (Tick 2)) × (parse 1 3 (codes "stop 0") ≡ Some (Stop 0)) × (parse 1 3 (codes "start 1") ≡ Some (Start 1))

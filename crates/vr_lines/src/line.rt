@@ -6,7 +6,7 @@ use vr_msg::Request;
 /// What happens to a group. Replicas are those of the group, and sectors those of a disk.
 #[derive(Debug, Drop, PartialEq, Eq)]
 pub enum Line {
-    /// A group of so many replicas, 1 to 6, begins, each on a new file of this kind.
+    /// A group of so many replicas begins, 2 to 6 on files of version 1 and 1 to 6 on files of version 2, each on a new file of this kind.
     Cluster {
         n: u8,
         kind: Kind,

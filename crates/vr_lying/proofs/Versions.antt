@@ -1,8 +1,7 @@
 -- A value that a file opens as is of the file's version, and what a disk tells of its slots tells the version too.
-use Rattle.std.proofs.Common.{ℕ, ◌≡◌, ◌≤◌, ◌∙◌, ◌∷◌, [], arith, refl, sym, ap, cond, inl, inr, true, false, List, Option, Some, None, subst}
-use Rattle.std.specs.Prelude.{◌==◌, nat_le}
+use Rattle.std.proofs.Common.{ℕ, ◌≡◌, ◌≤◌, ◌∙◌, ◌∷◌, [], arith, refl, sym, ap, cond, inl, inr, true, false, eqb, List, Option, Some, None}
 use Rattle.std.specs.Option.{option_and_then}
-use Rattle.std.proofs.lemmas.Bool.{and_parts, cases_lt, eqb-true, leb-true}
+use Rattle.std.proofs.lemmas.Bool.{cases_lt, eqb-true}
 use Rattle.vr_disk.specs.DiskState.{Call, CallVerdict, Face, Goes, Write}
 use Rattle.vr_disk.specs.Regions.{prepare_place}
 use Rattle.vr_disk.specs.Sectors.{together}
@@ -13,35 +12,24 @@ use Rattle.vr_lie.specs.Opens.{opens}
 use Rattle.vr_lie.specs.Told.{version_by}
 use Rattle.vr_world.specs.Opening.{blank}
 use Rattle.vr_world.specs.Replica.{version}
-use Rattle.vr_world.specs.Sectors.{is_run, of_version, sectors_by}
+use Rattle.vr_world.specs.Sectors.{of_version, sectors_by}
 use Rattle.vr_lying.specs.Disks.{lying_of, told_by}
 use Rattle.vr_lying.specs.Told.{IsTold, lying_in, next_held}
 use Rattle.vr_lying.specs.declared.disk.HostDisk.{HostDisk}
 
 -- ---- values
 
--- a value that replicas run on, in a file of a version
-record IsRun (n : ℕ) (v : SuperValue) : Type 0 where
-  version : v.fields.version ≡ n
-  several : 2 ≤ v.fields.n
-
-runs_by : (n : ℕ) (o : Option SuperValue) (v : SuperValue) → option_and_then (of_version n) o ≡ Some v → IsRun n v
+runs_by : (n : ℕ) (o : Option SuperValue) (v : SuperValue) → option_and_then (of_version n) o ≡ Some v → v.fields.version ≡ n
 runs_by n None v e = absurd cc
 runs_by n (Some w) v e =
-    elim (is_run n w) as (λ t. is_run n w ≡ t → cond t (Some w) None ≡ Some v → IsRun n v) [
-      | true ↦ λ t e.
-          let same : w ≡ v = cc in
-          let parts = and_parts (w.fields.version == n) (nat_le 2 w.fields.n) t in
-          subst (IsRun n) same (record { version = eqb-true w.fields.version n parts.0; several = leb-true 2 w.fields.n parts.1 })
+    elim (eqb w.fields.version n) as (λ t. eqb w.fields.version n ≡ t → cond t (Some w) None ≡ Some v → v.fields.version ≡ n) [
+      | true ↦ λ t e. let same : w ≡ v = cc in ap (λ (u : SuperValue). u.fields.version) (sym same) ∙ eqb-true w.fields.version n t
       | false ↦ λ t e. absurd cc
     ] refl e
 
 -- the value that a file of a version opens as
 pub opens_by : (n : ℕ) (f : Face) (v : SuperValue) → (sectors_by n).opens f ≡ Some v → v.fields.version ≡ n
-opens_by n f v e = (runs_by n (opens f) v e).version
-
-pub opens_several : (n : ℕ) (f : Face) (v : SuperValue) → (sectors_by n).opens f ≡ Some v → 2 ≤ v.fields.n
-opens_several n f v e = (runs_by n (opens f) v e).several
+opens_by n f v e = runs_by n (opens f) v e
 
 -- and the replica that is recovered from it
 pub blank_by : (n : ℕ) (v : SuperValue) → v.fields.version ≡ n → version (blank v) ≡ n

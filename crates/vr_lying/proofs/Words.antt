@@ -16,7 +16,7 @@ use Rattle.vr_msg.specs.declared.output.Output.{Output}
 use Rattle.vr_msg.specs.declared.statement.Statement.{Statement}
 use Rattle.vr_lie.specs.Copies.{SuperValue}
 use Rattle.vr_ckpt.specs.declared.name.Name.{Name}
-use Rattle.vr_world.specs.Replica.{Replica, forgetting, part_at, with_part, last_view}
+use Rattle.vr_world.specs.Replica.{Replica, forgetting, is_alone, part_at, with_part, last_view}
 use Rattle.vr_world.specs.Steps.{Effect, Rewrite, Mend, Setting, Step, Word, ◌⨾◌, quiet, change, does, says, by, naming, reading, when, times, each, after_all}
 use Rattle.vr_world.specs.Outputs.{applied_reply, commit_line, send_to_all, start_line, start_view_change, wait_line, to_primary, do_view_change}
 use Rattle.vr_world.specs.Words.{Log, accept, advance, advanced, apply, apply_entry, apply_next, applied, ask, ask_for, ask_peer, begin_view, checkpoints, chosen_log, choose_line, decided, enter, entered, learn, learned, load, loads, lost, make_checkpoint, obey_choice, or_lost, prepare_again, resend, rested, save, saves, speak, stated, stored, take, taken, try, try_log, turned, with_checkpoint, with_entry, with_entry_at, with_saved, write, writes, blocks_of, is_loaded, jump, jumped, least_absent, mend_header, op_of_slot, place_now, visit, visit_block, visit_place, visit_read, visit_slot, with_cursor, with_worn}
@@ -156,7 +156,7 @@ a_prepare_again op = a_with_at op (λ e. a_says _)
 
 pub a_begin_view : (ss : List Statement) (l : Log) → Alike (begin_view ss l) (begin_view ss l)
 unfolding begin_view
-a_begin_view ss l = a_then (a_says (choose_line ss l)) (a_then (a_take l) (a_then (a_says _) (a_then (a_by (λ r. a_each _ a_prepare_again)) a_apply)))
+a_begin_view ss l = a_then (a_says (choose_line ss l)) (a_then (a_take l) (a_then (a_says _) (a_then (a_by (λ r. a_each _ a_prepare_again)) (a_by (λ r. a_if (is_alone r) a_advance a_apply)))))
 
 pub a_try_log : (ss : List Statement) (l : Log) → Alike (try_log ss l) (try_log ss l)
 unfolding try_log
@@ -191,7 +191,7 @@ a_ask_for [] None [] = a_quiet
 
 pub a_ask : Alike ask ask
 unfolding ask
-a_ask = a_by (λ r. a_ask_for r.missing (least_absent r) r.worn)
+a_ask = a_by (λ r. a_when (not (is_alone r)) (a_ask_for r.missing (least_absent r) r.worn))
 
 pub a_jump : (v : SyncView) → Alike (jump v) (jump v)
 unfolding jump

@@ -22,7 +22,7 @@ use Rattle.law_4_disks.specs.Worlds.{AreBeside, IsHashedAt, IsHashedCut, Work, b
 use Rattle.law_4_disks.proofs.Fresh.{fresh_beside, schedules_begin}
 use Rattle.law_6_one_log.specs.Schedules.{IsHashedOf, IsUsedAt}
 use Rattle.law_6_one_log.proofs.Blank.{reads_nothing}
-use Rattle.law_3_outputs.proofs.Sets.{contains_in}
+use Rattle.law_3_outputs.proofs.StoredLists.{contains_in}
 use Rattle.vr_name_rows.proofs.Disks.{IsOf, Plain}
 
 -- ---- a disk that was just formatted
@@ -92,10 +92,10 @@ HashesAt w x b = ((k : Work) × (work_of w x ≡ Some k) × IsHashedCut k b) ⊎
 -- of what it reads, and of what it begins
 pub used_text : (entries : List Whole) (w : World Lying) (x : Happening) (m : Host Lying) (es : List Effect) → read_in w x ≡ m.disk ∷ [] → begun_in w x ≡ es → Plain entries m.disk → AllByRecursion (IsOf entries) es → (b : List ℕ) → IsUsedAt w x b → IsText entries b
 used_text entries w x m es reads begins p a b (inl u) =
-    let i = contains_in (m.disk ∷ []) u.0 (subst (λ (ds : List Lying). Contains ds u.0) reads u.1) in
+    let i = contains_in u.0 (m.disk ∷ []) (subst (λ (ds : List Lying). Contains ds u.0) reads u.1) in
     elim i [ inl same ↦ read_text entries m.disk p b (subst (λ (d : Lying). IsRead d b) same u.2) | inr none ↦ absurd none ]
 used_text entries w x m es reads begins p a b (inr u) =
-    let i = contains_in es u.0 (subst (λ (fs : List Effect). Contains fs u.0) begins u.1) in
+    let i = contains_in u.0 es (subst (λ (fs : List Effect). Contains fs u.0) begins u.1) in
     written_text entries u.0 b (all_of entries es u.0 a i) u.2
 
 pub line_text : (entries : List Whole) (w : World Lying) (x : Happening) (m : Host Lying) (script : List Effect) → m.fuse ≡ None → work_of w x ≡ Some (record { host = m; script = script }) → Plain entries m.disk → AllByRecursion (IsOf entries) script

@@ -42,11 +42,11 @@ moves_within new (suc n) slot l =
     within_append low high (writes low count (new slot)) (moves (slot + 1) n new) (writes_within low high count low (new slot) (omega arith) (omega arith))
     (wider (slot + 1) slot (moves (slot + 1) n new) (omega arith) (moves_within new n (slot + 1) (omega arith)))
 
-all_within : (new : ℕ → List ℕ) → AllByRecursion (Within2 0) (move_calls new)
+pub all_within : (new : ℕ → List ℕ) → AllByRecursion (Within2 0) (move_calls new)
 unfolding Within
 all_within new = within_append (prepare_place 2 0) (prepare_place 2 64) (moves 0 64 new) (Sync ∷ []) (moves_within new 64 0 (omega arith)) (tt, tt)
 
-within_apart : (slot : ℕ) (cs : List Call) → slot < 64 → AllByRecursion (Within2 0) cs → AllByRecursion (AllApart 1 slot) cs
+pub within_apart : (slot : ℕ) (cs : List Call) → slot < 64 → AllByRecursion (Within2 0) cs → AllByRecursion (AllApart 1 slot) cs
 unfolding Within
 within_apart slot [] l w = tt
 within_apart slot (Write i b ∷ cs) l w =

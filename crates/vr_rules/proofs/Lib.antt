@@ -53,3 +53,4 @@ pub mod Jumping
 pub mod Visiting
 pub mod SilentVisits
 pub mod Versions
+pub mod Migrating

@@ -77,6 +77,7 @@ output_later old' old a b MayAsk (output.Choose c) l s h = (h.0 ∙ sym s.index,
 output_later old' old a b MayAsk (output.Wait w) l s h = (h.0 ∙ sym s.index, h.1 ∙ sym s.view)
 output_later old' old a b MayAsk (output.Start x) l s h = (h.0 ∙ sym s.index, h.1 ∙ sym s.view, commit_later old' old a b _ l s h.2)
 output_later old' old a b MayAsk (output.Halted r) l s h = h
+output_later old' old a b MayAsk (output.Migrated r) l s h = h
 output_later old' old a b MayAsk output.Done l s h = h
 output_later old' old a b MayAsk output.KeptOut l s h = h
 

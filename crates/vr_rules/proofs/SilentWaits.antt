@@ -42,6 +42,7 @@ plain_waits (output.Commit c) h = tt
 plain_waits (output.Choose c) h = tt
 plain_waits (output.Start s) h = tt
 plain_waits (output.Halted r) h = tt
+plain_waits (output.Migrated r) h = tt
 plain_waits output.Done h = tt
 plain_waits output.KeptOut h = tt
 

@@ -1,5 +1,5 @@
 -- A file of version 1 becomes one of version 2.
-use Rattle.std.specs.Prelude.{ℕ, ◌+◌, ◌-◌, ◌==◌, ◌^◌, min, List, [], ◌++◌, if◌then◌else◌}
+use Rattle.std.specs.Prelude.{◌+◌, ◌-◌, ◌==◌, ◌^◌, min, List, [], ◌++◌, if◌then◌else◌}
 use Rattle.vr_disk.specs.DiskState.{Call, Face, after_all}
 use Rattle.vr_super.specs.Calls.{mend_calls, write_calls}
 use Rattle.vr_super.specs.Copies.{SuperValue}

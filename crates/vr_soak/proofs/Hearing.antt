@@ -51,6 +51,7 @@ message_counts h m k (output.Choose x) before e c = absurd (cc)
 message_counts h m k (output.Wait x) before e c = absurd (cc)
 message_counts h m k (output.Start x) before e c = absurd (cc)
 message_counts h m k (output.Halted x) before e c = absurd (cc)
+message_counts h m k (output.Migrated x) before e c = absurd (cc)
 message_counts h m k output.Done before e c = absurd (cc)
 message_counts h m k output.KeptOut before e c = absurd (cc)
 
@@ -63,6 +64,7 @@ other_is x (output.Choose y) k e = cc
 other_is x (output.Wait y) k e = cc
 other_is x (output.Start y) k e = cc
 other_is x (output.Halted y) k e = cc
+other_is x (output.Migrated y) k e = cc
 other_is x output.Done k e = cc
 other_is x output.KeptOut k e = cc
 

@@ -134,5 +134,6 @@ output_plain m (output.Choose c) h = search (rules, both, number, parts_plain) d
 output_plain m (output.Wait w) h = search (rules, both, number) depth 12
 output_plain m (output.Start s) h = search (rules, both, number) depth 12
 output_plain m (output.Halted replica) h = number (codes "halt ") replica refl
+output_plain m (output.Migrated replica) h = number (codes "migrated ") replica refl
 output_plain m output.Done h = refl
 output_plain m output.KeptOut h = refl

@@ -10,7 +10,7 @@ use Rattle.vr_lie.specs.Copies.{SuperValue, IsGood}
 use Rattle.vr_rules.specs.Replica.{Replica}
 use Rattle.vr_world.specs.Lying.{Lying, lying}
 use Rattle.vr_rules.specs.Sound.{IsSound, IsSavable}
-use Rattle.vr_world.specs.Group.{Member, Group, Arrival, Asked, Message, Time, Move, Steps, Cuts, Crashes, Recovers, RecoversCut, Migrates, MigratesCut, Moved, Moves, Played, Run, fresh_group}
+use Rattle.vr_world.specs.Group.{Member, Group, Arrival, Asked, Message, Time, Move, Steps, Cuts, Crashes, Recovers, RecoversCut, Migrates, MigratesCut, MayOpen, Moved, Moves, Played, Run, fresh_group}
 use Rattle.vr_rules.specs.Own.{IsOwnValue, IsAt}
 use Rattle.vr_rules.specs.Fit.{IsProgram, KnowsBlocks, MayCome, ReadsWell}
 use Rattle.vr_rules.specs.Laws.{HasNames, ReadsHeaders, SavesRoots}
@@ -69,9 +69,9 @@ IsFitMove (MigratesCut at value effects) = ⊤
 abbrev pub IsFitPlayed : ℕ → Played → Type 0
 IsFitPlayed cluster p = IsFitGroup cluster p.before × IsFitGroup cluster p.moved.group
 
--- the file of each member is of the version of its kind, or of a later one
+-- the file of each member, whichever value it may open as, is of the version of its kind or of a later one
 abbrev pub AreOfKinds : (ℕ → Kind) → Group → Type 0
-AreOfKinds kinds g = (at : ℕ) (m : Member) → slice_get g.members at ≡ Some m → (kinds at).version ≤ m.last.fields.version
+AreOfKinds kinds g = (at : ℕ) (m : Member) (v : SuperValue) → slice_get g.members at ≡ Some m → MayOpen m v → (kinds at).version ≤ v.fields.version
 
 -- before and after a move
 abbrev pub IsOfKinds : (ℕ → Kind) → Played → Type 0
