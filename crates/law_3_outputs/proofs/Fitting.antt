@@ -1,17 +1,18 @@
 -- Every move of a run of a group writes good entries.
 use Rattle.std.proofs.Common.{ℕ, zero, suc, ◌≡◌, ◌+◌, subst, List, [], ◌∷◌, Some}
 use Rattle.std.specs.Prelude.{All, slice_get}
-use Rattle.std.proofs.lemmas.List.Elements.{All-nil, All-head, All-tail, All-take, All-contains}
+use Rattle.std.proofs.lemmas.List.Elements.{All-nil, All-cons, All-head, All-tail, All-take, All-contains}
 use Rattle.vr_header.specs.Made.{Whole}
 use Rattle.vr_rings.specs.Slots.{IsWhole}
 use Rattle.vr_msg.specs.declared.event.Event.{Event}
 use Rattle.vr_super.specs.Copies.{IsGood, SuperValue}
 use Rattle.law_2_chains.specs.Replica.{Replica}
-use Rattle.law_2_chains.specs.Steps.{Effect, Write, Step}
+use Rattle.law_2_chains.specs.Migrating.{migrated}
+use Rattle.law_2_chains.specs.Steps.{Effect, Mend, Save, Write, Step}
 use Rattle.law_2_chains.specs.Lying.{Lying, lying}
 use Rattle.law_2_chains.specs.Laws.{IsEvent}
 use Rattle.law_2_chains.specs.Fit.{IsFit, MayCome, ReadsWell}
-use Rattle.law_2_chains.specs.Group.{Member, Group, Arrival, Asked, Message, Time, Move, Moved, Moves, Played, Run, ended, goes, fresh_group, IsArrival, MayOpen, opening_script, stepped}
+use Rattle.law_2_chains.specs.Group.{Member, Group, Arrival, Asked, Message, Time, Move, Moved, Moves, Played, Run, ended, goes, fresh_group, IsArrival, MayOpen, migration, opening_script, stepped}
 use Rattle.law_2_chains.specs.Group as group
 use Rattle.law_2_chains.specs.Files.{IsOfFile}
 use Rattle.law_2_chains.specs.GroupFit.{IsFitReplica, IsFitGroup, IsFitArrival, IsFitMove, IsFitPlayed}
@@ -62,6 +63,9 @@ opening_of c g at m v h there may = (good_value c g.n at m v (h.members at m the
 pub opening_fit : (v : SuperValue) (d : Lying) → IsGood v → ReadsWell lying d → All IsFit (opening_script v d)
 opening_fit v d g k = subst (λ (x : Step). All IsFit x.script) (opening_in_two v d) (openings_fit lying d v lies_fit.program lies_fit.roots k g).each
 
+migration_fit : (v : SuperValue) → IsGood v → All IsFit (migration v)
+migration_fit v g = All-cons IsFit (Mend v) (Save v (migrated v) ∷ []) g (All-cons IsFit (Save v (migrated v)) [] tt (All-nil IsFit))
+
 script_fit : (c : ℕ) (g : Group) (move : Move) (moved : Moved) → IsFitGroup c g → IsFitMove move → Moves g move moved → All IsFit moved.script
 script_fit c g _ _ h k (group.steps at arrival e d m r runs i) = step_fit r e d ((h.members at m runs.member).running r runs.running).0 (arrives c g at arrival e h k.0 i) k.1
 script_fit c g _ _ h k (group.cuts at arrival e d j m r runs i) =
@@ -69,6 +73,8 @@ script_fit c g _ _ h k (group.cuts at arrival e d j m r runs i) =
 script_fit c g _ _ h k (group.crashes at m there) = All-nil IsFit
 script_fit c g _ _ h k (group.recovers at v d m o) = opening_fit v d (opening_of c g at m v h o.member o.value) k
 script_fit c g _ _ h k (group.recovers_cut at v d j m o) = All-take IsFit (j + 1) (opening_script v d) (opening_fit v d (opening_of c g at m v h o.member o.value) k)
+script_fit c g _ _ h k (group.migrates at v m o) = migration_fit v (opening_of c g at m v h o.member o.value)
+script_fit c g _ _ h k (group.migrates_cut at v j m o) = All-take IsFit (j + 1) (migration v) (migration_fit v (opening_of c g at m v h o.member o.value))
 
 -- ---- runs
 

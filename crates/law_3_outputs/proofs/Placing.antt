@@ -56,6 +56,8 @@ move_placed c g _ _ fit h (group.crashes at m there) placed = λ j n q x. set_pl
 move_placed c g _ _ fit h (group.recovers at v d m o) placed = λ j n q x.
     set_placed g at placed _ (λ q2 s. let same : (resumed v d).replica ≡ q2 = cc in subst IsPlaced same (opening_present v d (opening_of c g at m v fit o.member o.value)).placed) j n q x.member x.running
 move_placed c g _ _ fit h (group.recovers_cut at v d k m o) placed = λ j n q x. set_placed g at placed _ (λ q2 s. absurd cc) j n q x.member x.running
+move_placed c g _ _ fit h (group.migrates at v m o) placed = λ j n q x. set_placed g at placed _ (λ q2 s. absurd cc) j n q x.member x.running
+move_placed c g _ _ fit h (group.migrates_cut at v k m o) placed = λ j n q x. set_placed g at placed _ (λ q2 s. absurd cc) j n q x.member x.running
 
 runs_placed : (c : ℕ) (g : Group) (ps : List Played) → Run g ps → IsFitGroup c g → All (λ p. IsFitMove p.move) ps → ArePlaced g → (t : ℕ) (p : Played) → slice_get ps t ≡ Some p → ArePlaced p.before
 runs_placed c g _ (ended _) fit h placed t p e = absurd cc

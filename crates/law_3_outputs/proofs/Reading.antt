@@ -67,6 +67,8 @@ move_reads c g _ _ h k (group.cuts at arrival e d n m r runs i) l j = absurd j
 move_reads c g _ _ h k (group.crashes at m there) l j = absurd j
 move_reads c g _ _ h k (group.recovers at v d m o) l j = opening_reads v d (opening_of c g at m v h o.member o.value) k l j
 move_reads c g _ _ h k (group.recovers_cut at v d n m o) l j = absurd j
+move_reads c g _ _ h k (group.migrates at v m o) l j = absurd j
+move_reads c g _ _ h k (group.migrates_cut at v n m o) l j = absurd j
 
 pub runs_read : (cluster n : ℕ) (run : List Played) → IsFitRun cluster n run → (t : ℕ) (p : Played) → slice_get run t ≡ Some p → (l : Committed) → In (output.Commit l) p.moved.outputs → IsWellRead l.entry
 runs_read cluster n run x t p is l j =

@@ -14,7 +14,7 @@ use Rattle.vr_msg.specs.declared.output.Output.{Output}
 use Rattle.vr_msg.specs.declared.output.Output.TheVariants as output
 use Rattle.vr_msg.specs.declared.output.Committed.{Committed}
 use Rattle.vr_msg.specs.declared.reply.ReplyFields.{ReplyFields}
-use Rattle.law_2_chains.specs.Group.{Arrival, IsArrival, Group, Member, Move, Moved, Moves, Played, Run, Runs, Recovers, Steps, ended, finished, fresh_group, fresh_member, goes, recovers, recovers_cut, steps, crashes, cuts, stepped, started, mended, resumed, once_mended, opening_script, cut_in_two, carried_out, cut_after, found, keeps_all}
+use Rattle.law_2_chains.specs.Group.{Arrival, IsArrival, Group, Member, Move, Moved, Moves, Played, Run, Runs, Recovers, Steps, ended, finished, fresh_group, fresh_member, goes, migrates, migrates_cut, migration, recovers, recovers_cut, steps, crashes, cuts, stepped, started, mended, resumed, once_mended, opening_script, cut_in_two, carried_out, cut_after, found, keeps_all}
 use Rattle.law_2_chains.specs.Replica.{Replica, is_frozen}
 use Rattle.law_2_chains.specs.Opening.{blank, fresh}
 use Rattle.law_2_chains.specs.Rules.{react}
@@ -212,6 +212,8 @@ module _ (cluster n : ℕ) (u : Setup) (run : List Played) (x : IsFollowed clust
       let had = y.loads never log (is_log cluster n u run x) t at p v d is refl free in
       resumed_have log (log_numbered cluster n u run x) v d value fit.1 free had (λ c i. line_at t p is c (said_right (mended v d).script (resumed v d).script (output.Commit c) i))) free)
   moved_have t g _ _ is (recovers_cut at v f k m opens) have = changed_have log g _ at (record (cut_in_two (mended v f).script (resumed v f).script (keeps_all (found v f)) k m) { replica = None }) refl have (λ q e' free. absurd cc)
+  moved_have t g _ _ is (migrates at v m opens) have = changed_have log g _ at (record (carried_out (migration v) m) { replica = None }) refl have (λ q e' free. absurd cc)
+  moved_have t g _ _ is (migrates_cut at v k m opens) have = changed_have log g _ at (record (cut_after k (migration v) m) { replica = None }) refl have (λ q e' free. absurd cc)
 
   -- a group that was just made
   fresh_have : AllHave log (fresh_group x.fit.kinds cluster n)
@@ -305,6 +307,8 @@ module _ (cluster n : ℕ) (u : Setup) (run : List Played) (x : IsFollowed clust
     reply_of_move g _ _ is (crashes at m member) there = absurd cc
     reply_of_move g _ _ is (recovers at v f m opens) there = absurd (opening_silent lying v f a (subst (λ (s : Step). In (output.Reply a) (outputs s.script)) (sym (opening_in_two v f)) (get_in (outputs (opening_script v f)) number (output.Reply a) there)))
     reply_of_move g _ _ is (recovers_cut at v f k m opens) there = absurd cc
+    reply_of_move g _ _ is (migrates at v m opens) there = absurd cc
+    reply_of_move g _ _ is (migrates_cut at v k m opens) there = absurd cc
 
     pub true_reply : (p : Played) → slice_get run t ≡ Some p → slice_get p.moved.outputs number ≡ Some (output.Reply a) → IsTrueReply cluster n log run t number p a
     true_reply p is there = reply_of_move p.before p.move p.moved is (move_of (fresh_group x.fit.kinds cluster n) run x.fit.of_run t p is) there

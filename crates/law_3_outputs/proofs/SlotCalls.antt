@@ -17,14 +17,13 @@ use Rattle.vr_rings.specs.Calls.{header_calls, prepare_calls}
 use Rattle.vr_rings.specs.Slots.{IsWhole, Takes, padded, prepare_reading, slot_of, whole_in, whole_of}
 use Rattle.vr_rings.proofs.Spelling.{padded_is, whole_again}
 use Rattle.vr_super.specs.Calls.{mend_calls, write_calls}
-use Rattle.vr_super.specs.Copies.{SuperValue}
+use Rattle.vr_super.specs.Copies.{IsGood, SuperValue}
 use Rattle.vr_ckpt.specs.Grid.{block_calls, put_calls}
 use Rattle.vr_ckpt.specs.Saves.{blocks_calls, save_calls, written}
 use Rattle.law_2_chains.specs.Steps.{Effect, Write, Rewrite, Save, Mend, Checkpoint, PutBlock, Say, after_all}
 use Rattle.law_2_chains.specs.Sectors.{calls_by, sectors_by}
 use Rattle.law_2_chains.specs.Lying.{Lying, lying}
 use Rattle.law_2_chains.specs.Fit.{IsFit}
-use Rattle.law_2_chains.specs.GroupFit.{IsFitValue}
 use Rattle.law_2_chains.specs.Own.{IsOwn}
 use Rattle.law_2_chains.proofs.FitDisks.{SparesSlots, apart, checkpoint_slots, front_reads, header_spares, mend_slots, prepare_spares, put_slots, same_entry, save_slots, slot_below}
 use Rattle.law_2_chains.proofs.FitGroups.{Known, known_first, known_rest}
@@ -154,11 +153,10 @@ known_taken c n i ed (x ∷ es) most k =
     All-cons (IsTaken ed) x es (one_taken c n i ed x most one.0 one.2) (known_taken c n i ed es most (known_rest c n i ed x es k))
 
 -- of a member with this value, on its file
-pub member_taken : (c n i ed : ℕ) (value : SuperValue) (d : Lying) (es : List Effect) → IsFitValue c n i ed value → d.version ≡ value.fields.version → Known c n i ed es → All (IsTaken d.version) es
-member_taken c n i ed value d es fit file known =
-    let most = fit.0.numbers.version.1 in
-    let own = fit.1.version in
-    subst (λ (v : ℕ). All (IsTaken v) es) (sym (file ∙ own)) (known_taken c n i ed es (omega (arith, most, own)) known)
+pub member_taken : (c n i : ℕ) (value : SuperValue) (d : Lying) (es : List Effect) → IsGood value → d.version ≡ value.fields.version → Known c n i value.fields.version es → All (IsTaken d.version) es
+member_taken c n i value d es good file known =
+    let most = good.numbers.version.1 in
+    subst (λ (v : ℕ). All (IsTaken v) es) (sym file) (known_taken c n i value.fields.version es most known)
 
 -- of the disks of a run, whatever they read as
 pub read_or_written : (es : List Effect) (d : Lying) → All (IsTaken d.version) es → (slot : ℕ) (e : Whole) → slot < 64 → lying.entry (after_all lying d es) slot ≡ Some e

@@ -208,7 +208,7 @@ operation_more v w (Put key value) l few g = (g.0, text_more (value_limit v) (va
 operation_more v w (Get key) l few g = g
 operation_more v w (Delete key) l few g = g
 
-asked_in : (v : ℕ) (x : RequestFields) → v ≤ 2 → IsAsked x → IsAsked (in_version v x)
+pub asked_in : (v : ℕ) (x : RequestFields) → v ≤ 2 → IsAsked x → IsAsked (in_version v x)
 asked_in v x few a =
     let of = a.version in
     record {
@@ -218,7 +218,7 @@ asked_in v x few a =
       version = (omega (arith, of), omega (arith, few, of));
     }
 
-abbrev asking_as : RequestFields → world.Host Lying → Replica → Work
+abbrev pub asking_as : RequestFields → world.Host Lying → Replica → Work
 asking_as x m r = stepping (event.Request (in_version (version r) x)) m r
 
 -- ---- what is known of the work of a line

@@ -65,7 +65,7 @@ use Rattle.law_4_disks.proofs.StockingRules.{b_resuming}
 use Rattle.law_4_disks.proofs.Starts.{begun_all, opening_is, start_cuts}
 use Rattle.law_4_disks.proofs.Telling.{fault_tells, tells_in}
 
-abbrev moving : world.Host Lying → SuperValue → Migration
+abbrev pub moving : world.Host Lying → SuperValue → Migration
 moving m v = record { host = m; value = v }
 
 abbrev pub whole : SuperValue → Lying → Step
@@ -228,7 +228,7 @@ module _ {home : ℕ} (w : World Lying) (g : Group) (i : ℕ) (m : world.Host Ly
       let leaves = (b_resuming {P = IsBytes} {Q = IsBytes}).each g.n i d.version (recovered v d) (after_all lying d (mended v d).script) h.here known in
       start_acts v m.fuse run o h.finds h.well leaves (mending_blocks IsBytes IsBytes v d) (λ u e. tells_in (opening_script v d) d v u.calls u.code o.calm.face h.go (works.names u e))
 
-  opens_as : (v : SuperValue) → IsOff m.disk q v → lying.opens m.disk ≡ Some v
+  pub opens_as : (v : SuperValue) → IsOff m.disk q v → lying.opens m.disk ≡ Some v
   opens_as v o = ap (option_and_then (of_version m.disk.version)) o.value ∙ rw (eq-eqb v.fields.version m.disk.version (sym o.file)) refl
 
   pub opened_as : (v : SuperValue) → IsOff m.disk q v → opened lying m.disk ≡ Some (whole v m.disk)
@@ -251,7 +251,7 @@ module _ {home : ℕ} (w : World Lying) (g : Group) (i : ℕ) (m : world.Host Ly
   movable_so v run o first = record { member = there; stopped = s.replica ∙ run; value = o.may; first = first }
 
   -- the group stays fit, so the new value makes a good copy
-  new_good : (v : SuperValue) → m.replica ≡ None → IsOff m.disk q v → v.fields.version ≡ 1 → IsGood (migrated v)
+  pub new_good : (v : SuperValue) → m.replica ≡ None → IsOff m.disk q v → v.fields.version ≡ 1 → IsGood (migrated v)
   unfolding carried_out
   new_good v run o first =
       let p : group.Member = record (carried_out (migration v) q) { replica = None } in

@@ -13,11 +13,11 @@ use Rattle.vr_base.proofs.Members.{sized}
 use Rattle.vr_base.proofs.Versions.{between}
 use Rattle.vr_header.specs.declared.operation.Operation.{Operation}
 use Rattle.vr_lines.specs.declared.line.Line.{Line}
-use Rattle.vr_lines.specs.declared.line.Line.TheVariants.{Cluster, Request, Deliver, Tick, Stop, Start, Fuse, Misdirect}
+use Rattle.vr_lines.specs.declared.line.Line.TheVariants.{Cluster, Request, Deliver, Tick, Stop, Start, Migrate, Fuse, Misdirect}
 use Rattle.vr_lines.specs.declared.member.Place.{Place}
 use Rattle.vr_lines.specs.declared.request.Asked.{Asked}
 use Rattle.vr_lines.specs.Fits.{IsLineOf, IsSector}
-use Rattle.vr_lines.specs.Grammar.{asked_by, behind_asked, call_of, cluster_line, damage_line, deliver_line, fuse_line, fused, is_fitting, kind_of, line_behind, kind_words, line_words, longest, longest_line, lost_words, member_line, misdirect_line, misdirected, parse, place_of, replica_word, request_for, request_line, sector_of, sector_words, size_of, stale_line, start_line, stop_line, tick_line, unread_line, version_words}
+use Rattle.vr_lines.specs.Grammar.{asked_by, behind_asked, call_of, cluster_line, damage_line, deliver_line, fuse_line, fused, is_fitting, kind_of, line_behind, kind_words, line_words, longest, longest_line, lost_words, member_line, migrate_line, misdirect_line, misdirected, parse, place_of, replica_word, request_for, request_line, sector_of, sector_words, size_of, stale_line, start_line, stop_line, tick_line, unread_line, version_words}
 use Rattle.vr_lines.specs.Numbers.{number_below, number_of}
 use Rattle.vr_lines.specs.Operations.{operation_words}
 use Rattle.vr_lines.specs.Versions.{line_sectors}
@@ -173,7 +173,8 @@ member_fits : (version n : ℕ) (word : List ℕ) (words : List (List ℕ)) → 
 member_fits version n word words =
     either (IsLineOf version n) (bytes_eq word (codes "tick")) (tick_line n words) _ (λ e. replica_fits version n words Tick (λ r h. h))
     (λ e. either (IsLineOf version n) (bytes_eq word (codes "stop")) (stop_line n words) _ (λ e. replica_fits version n words Stop (λ r h. h))
-    (λ e. either (IsLineOf version n) (bytes_eq word (codes "start")) (start_line n words) (lost_words version n word words) (λ e. replica_fits version n words Start (λ r h. h)) (λ e. lost_fits version n word words)))
+    (λ e. either (IsLineOf version n) (bytes_eq word (codes "start")) (start_line n words) _ (λ e. replica_fits version n words Start (λ r h. h))
+    (λ e. either (IsLineOf version n) (bytes_eq word (codes "migrate")) (migrate_line n words) (lost_words version n word words) (λ e. replica_fits version n words Migrate (λ r h. h)) (λ e. lost_fits version n word words))))
 
 -- ---- all lines
 

@@ -8,7 +8,7 @@ use Rattle.vr_header.specs.declared.operation.Operation.{Operation}
 use Rattle.vr_header.specs.declared.operation.Operation.TheVariants.{Register, Put, Get, Delete}
 use Rattle.vr_header.specs.Text.{is_text}
 use Rattle.vr_lines.specs.declared.line.Line.{Line}
-use Rattle.vr_lines.specs.declared.line.Line.TheVariants.{Cluster, Request, Deliver, Tick, Stop, Start, Fuse, Damage, Stale, Unread, Misdirect}
+use Rattle.vr_lines.specs.declared.line.Line.TheVariants.{Cluster, Request, Deliver, Tick, Stop, Start, Migrate, Fuse, Damage, Stale, Unread, Misdirect}
 use Rattle.vr_lines.specs.Grammar.{asked_by, line_words, longest, parse}
 use Rattle.vr_lines.specs.Numbers.{digits_on, number_of}
 use Rattle.vr_lines.specs.Operations.{operation_words}
@@ -113,12 +113,12 @@ version_2_lines : (parse 1 0 (codes "cluster 2 v2") ≡ Some (Cluster 2 (of_vers
 unfolding parse line_words words_of number_of digits_on
 version_2_lines = (refl, refl, refl, refl, refl, refl, refl, refl, refl, refl, refl, refl, refl, refl, refl, refl, refl, refl, refl)
 
--- a tick, a stop, a start
-member_lines : (parse 1 3 (codes "tick 2") ≡ Some (Tick 2)) × (parse 1 3 (codes "stop 0") ≡ Some (Stop 0)) × (parse 1 3 (codes "start 1") ≡ Some (Start 1))
+-- a tick, a stop, a start, a migration
+member_lines : (parse 1 3 (codes "tick 2") ≡ Some (Tick 2)) × (parse 1 3 (codes "stop 0") ≡ Some (Stop 0)) × (parse 1 3 (codes "start 1") ≡ Some (Start 1)) × (parse 1 3 (codes "migrate 1") ≡ Some (Migrate 1))
     × (parse 1 3 (codes "tick 3") ≡ None) × (parse 1 0 (codes "tick 0") ≡ None) × (parse 1 3 (codes "tick") ≡ None) × (parse 1 3 (codes "tick 1 1") ≡ None)
     × (parse 1 3 (codes "tick 01") ≡ None) × (parse 1 3 (codes "tick 1 ") ≡ None) × (parse 1 3 (codes "ticks 1") ≡ None) × (parse 1 3 (codes "") ≡ None)
 unfolding parse line_words words_of number_of digits_on
-member_lines = (refl, refl, refl, refl, refl, refl, refl, refl, refl, refl, refl)
+member_lines = (refl, refl, refl, refl, refl, refl, refl, refl, refl, refl, refl, refl)
 
 -- a fuse: the call is from 1 to 1,000,000, the code below 2 ^ 64
 fuses : (parse 1 3 (codes "fuse 1 6 0") ≡ Some (Fuse 1 6 0)) × (parse 1 3 (codes "fuse 1 1000000 18446744073709551615") ≡ Some (Fuse 1 1000000 (2 ^ 64 - 1)))

@@ -6,12 +6,14 @@ ghost use Rattle.vr_trial.specs.Told.{trial_of};
 
 use crate::plan::Plan;
 use std::alloc::Global;
-use vr_ask::CLIENT_VERSION;
 use vr_base::{NoMemory, Seq, Version};
 use vr_client::ClientCore;
 
 /// The client that asks.
 const CLIENT: u64 = 1;
+
+/// The version of the members' files, in whose frames it asks.
+const VERSION: u8 = 1;
 
 /// A trial on its way.
 #[derive(Debug, Drop)]
@@ -24,6 +26,7 @@ pub struct Course {
 
 impl Course {
     /// Nothing was asked, and no member runs.
+    #[tactic(auto, using(std::proofs::lemmas::Grind::common_steps, vr_base::proofs::Members::is_sized))]
     pub fn new(alloc: Global, plan: &Plan) -> Result<Course, NoMemory>
         requires least { 2 ≤ vec_len plan.now.peers }
         requires most { vec_len plan.now.peers ≤ 6 }
@@ -37,13 +40,7 @@ impl Course {
         running.resize(n, None)?;
         Ok(Course {
             alloc,
-            core: ClientCore::new(
-                alloc,
-                plan.cluster,
-                CLIENT,
-                n as u8,
-                Version::new(CLIENT_VERSION),
-            )?,
+            core: ClientCore::new(alloc, plan.cluster, CLIENT, n as u8, Version::new(VERSION))?,
             running: Seq::from_vec(running),
         })
     }
