@@ -1,5 +1,5 @@
 -- The file of a member becomes one of version 2.
-use Rattle.std.specs.Prelude.{◌≡◌, ◌≢◌, ◌⊎◌, ◌==◌, ◌++◌, true, false, if◌then◌else◌, List, [], Option, Some, IfSome, Unit, Result, Ok, Err, None}
+use Rattle.std.specs.Prelude.{◌≡◌, ◌≢◌, ◌⊎◌, ◌==◌, ◌++◌, true, false, if◌then◌else◌, List, [], Option, Some, IfSome, Result, Ok, Err, None}
 use Rattle.vr_base.specs.declared.table.Config.{Config}
 use Rattle.vr_disk.specs.DiskState.{Call, Disk, Face, RunsFrom, after_all}
 use Rattle.vr_super.specs.Calls.{mend_calls, write_calls}

@@ -30,16 +30,16 @@ fn migrated_fields(old: Fields) -> Fields
 
 // The value that is saved in the end.
 fn migrated(alloc: Global, old: &Super) -> Result<Super, NoMemory>
-    requires { old.now.fields.version ≡ 1 }
     ensures { IfOk result (λ v. v ≡ migrated old.now) }
 {
+    let fields = migrated_fields(old.fields());
     let mut headers = Seq::new(alloc);
     headers.extend(old.headers())?;
-    Super::new(alloc, migrated_fields(old.fields()), headers)
+    Super::new(alloc, fields, headers)
 }
 
 // Writes the prepares at their new places, and saves the value.
-#[tactic(auto, using(vr_disk::proofs::Running::RunsFrom_then, vr_disk::proofs::Running::RunsFrom_stopped))]
+#[tactic(auto, using(crate::proofs::Moves::moved_then, crate::proofs::Moves::moved_stopped))]
 fn move_over<D: SectorDisk>(disk: &mut D, old: &Super, new: &Super) -> Result<(), DiskFault>
     ensures runs { RunsFrom (moving_calls old.now new.now) (D.told disk.old) (D.told disk.new) (is_ok result) }
     ensures cause { HasCause (D.faults disk.old) (D.faults disk.new) result }
@@ -52,6 +52,7 @@ fn move_over<D: SectorDisk>(disk: &mut D, old: &Super, new: &Super) -> Result<()
 }
 
 // The file of a value that is mended. Memory is taken for the new value alone, before a call is made.
+#[tactic(auto, using(crate::proofs::Moves::over_moved, crate::proofs::Moves::over_nothing))]
 fn migrate_mended<D: SectorDisk>(alloc: Global, disk: &mut D, value: &Super) -> Result<(), Halt>
     ensures cause { Caused (D.faults disk.old) (D.faults disk.new) result }
     ensures step { MovesOver value.now (D.told disk.old) (D.told disk.new) result }
@@ -71,6 +72,7 @@ fn migrate_mended<D: SectorDisk>(alloc: Global, disk: &mut D, value: &Super) -> 
 /// The file of a disk becomes one of version 2, if the disk is that of the member that is asked for: its superblock is mended, and then, where its
 /// file is of version 1, each slot's prepare is written at its new place, and the value is saved with the new version. Of another member's disk
 /// the superblock is mended, and no other call is made.
+#[tactic(auto, using(crate::proofs::Moves::migrated_well, crate::proofs::Moves::migration_halted, crate::proofs::Moves::migration_refused, crate::proofs::Recovers::other_member))]
 pub fn migrate<D: SectorDisk>(alloc: Global, disk: &mut D, asked: &Config) -> Result<(), Refusal>
     ensures cause { CountsFault (Refusal.Halted Halt.DiskFault) (D.faults disk.old) (D.faults disk.new) result }
     ensures step { Migrated asked.now (D.told disk.old) (D.told disk.new) result }
@@ -92,6 +94,7 @@ pub fn migrate<D: SectorDisk>(alloc: Global, disk: &mut D, asked: &Config) -> Re
 }
 
 /// The file of a disk becomes one of version 2, whatever member's disk it is: `OtherMember` never comes. One of version 2 is left alone.
+#[tactic(auto, using(crate::proofs::Moves::any_well, crate::proofs::Moves::any_halted, crate::proofs::Moves::any_refused))]
 pub fn migrate_any<D: SectorDisk>(alloc: Global, disk: &mut D) -> Result<(), Refusal>
     ensures cause { CountsFault (Refusal.Halted Halt.DiskFault) (D.faults disk.old) (D.faults disk.new) result }
     ensures step { MigratedAny (D.told disk.old) (D.told disk.new) result }
