@@ -1,13 +1,12 @@
 -- What repair looks for and changes.
 use Rattle.std.proofs.Common.{arith, ℕ, zero, suc, ◌+◌, ◌-◌, ◌≤◌, ◌<◌, ◌≡◌, ◌^◌, refl, sym, ap, ◌∙◌, true, false, Bool, List, [], ◌∷◌, length, drop, get_or, Option, Some, None, add-one}
-use Rattle.std.specs.Prelude.{find, is_some}
+use Rattle.std.specs.Prelude.{find}
 use Rattle.std.specs.List.{prefix_len}
 use Rattle.std.specs.Option.{option_and_then, option_map_or}
-use Rattle.std.proofs.lemmas.Bool.{cond_both}
+use Rattle.std.proofs.lemmas.Bool.{cond_both, eqb-false}
 use Rattle.std.proofs.lemmas.List.{drop_all, get_or-drop}
 use Rattle.std.proofs.lemmas.List.FromFn.{length-range_with_len}
 use Rattle.std.proofs.lemmas.List.Sums.{prefix_len-le-length}
-use Rattle.vr_base.specs.Groups.{quorums_of}
 use Rattle.vr_ckpt.specs.declared.name.Name.{Name}
 use Rattle.vr_header.specs.declared.header.Header.{Header}
 use Rattle.vr_header.specs.declared.part.Part.{Part}
@@ -15,12 +14,13 @@ use Rattle.vr_header.specs.declared.part.Part.TheVariants.{Here, Lost, Wanted, U
 use Rattle.vr_header.specs.Made.{IsEntryHeader}
 use Rattle.vr_msg.specs.Choice.{ops}
 use Rattle.vr_msg.specs.Logs.{header_of}
-use Rattle.vr_rules.specs.Replica.{Replica, head, is_absent, part_at, parts_from}
+use Rattle.vr_rules.specs.Replica.{Replica, head, is_absent, is_alone, part_at, parts_from}
 use Rattle.vr_rules.specs.Rules.{not_worn, without}
 use Rattle.vr_rules.specs.Words.{advanced, has_quorum, least_absent, turned}
 use Rattle.vr_rules.proofs.Heads.{part_within}
 use Rattle.vr_rules.proofs.Keeping.{sound_alike, sound_commit}
 use Rattle.vr_rules.proofs.Reacting.{kept_without}
+use Rattle.vr_rules.proofs.SavesCore.{sound_size}
 use Rattle.vr_rules.proofs.SavesWell.{savable_alike}
 use Rattle.vr_rules.proofs.Storing.{head_number}
 use Rattle.vr_memory.specs.Absent.{absent_header, first_absent}
@@ -98,15 +98,10 @@ pub ready_commit : (r : Replica) → IsReady r → r.commit ≤ 2 ^ 62
 unfolding IsReady
 ready_commit r h = let known = h.sound.order.known in let top = head_number r h.sound in omega arith
 
--- there are at least two replicas
-size_least : (n : ℕ) → is_some (quorums_of n) ≡ true → 2 ≤ n
-size_least zero e = absurd cc
-size_least (suc zero) e = absurd cc
-size_least (suc (suc n)) e = omega arith
-
-pub ready_size : (r : Replica) → IsReady r → 2 ≤ r.n
+-- where its group has another replica, there are two
+pub ready_size : (r : Replica) → IsReady r → is_alone r ≡ false → 2 ≤ r.n
 unfolding IsReady
-ready_size r h = size_least r.n h.sound.size
+ready_size r h e = let size = sound_size r h.sound in let other = eqb-false r.n 1 e in omega (arith, size, other)
 
 -- ---- what is asked for is an entry's header
 

@@ -1,5 +1,5 @@
 -- A replica as it begins, and what it does once its Parts are found.
-use Rattle.std.proofs.Common.{arith, ◌≡◌, ◌≤◌, ◌<◌, ◌+◌, ◌-◌, ◌^◌, ◌∙◌, inr, refl, sym, subst, Bool, List, [], ◌++◌, Option, true, false, Result, Ok}
+use Rattle.std.proofs.Common.{arith, ◌≡◌, ◌<◌, ◌+◌, ◌-◌, ◌^◌, ◌∙◌, inr, refl, sym, subst, Bool, List, [], ◌++◌, Option, true, false, Result, Ok}
 use Rattle.std.specs.Prelude.{nat_le}
 use Rattle.std.proofs.lemmas.Bool.{and_parts, eqb-true, ltb-false}
 use Rattle.vr_disk.specs.DiskState.{Disk}
@@ -24,13 +24,12 @@ use Rattle.vr_journal.specs.Ready.{IsReady, MayLoad}
 use Rattle.vr_opening.specs.Finding.{IsOpeningOld}
 use Rattle.vr_journal.proofs.Stepping.{does_by, does_quiet, change_by_then, says_by}
 
-pub opening_blank : (v : SuperValue) (r : Replica) → r ≡ blank v → IsGood v → 2 ≤ v.fields.n → IsOpeningOld 0 r
+pub opening_blank : (v : SuperValue) (r : Replica) → r ≡ blank v → IsGood v → IsOpeningOld 0 r
 unfolding IsOpeningOld blank
-opening_blank v r e g two =
-    let w = value_is v g two in
+opening_blank v r e g =
+    let w = value_is v g in
     rw e (record {
       good = g;
-      several = two;
       partly = partly_blank v;
       top = λ same some. inr (subst (λ j. Lists j v.headers) same (lists_head v w (list_size v g some)));
     })

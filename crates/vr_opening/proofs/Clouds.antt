@@ -172,11 +172,11 @@ partly_window v n r w p = subst HasWindow (sym p.is) (window_blank v r.parts w p
 
 pub window_opening : (n : ℕ) (r : Replica) → IsOpening n r → HasWindow r
 unfolding IsOpening
-window_opening n r h = partly_window r.saved n r (value_is r.saved h.good h.several) h.partly
+window_opening n r h = partly_window r.saved n r (value_is r.saved h.good) h.partly
 
 pub window_clouded : (n : ℕ) (r q : Replica) → IsOpening n r → q ≡ clouded r.saved r → HasWindow q
 unfolding IsOpening
-window_clouded n r q h e = let w = value_is r.saved h.good h.several in rw e (partly_window r.saved n (clouded r.saved r) w (partly_clouded r.saved n r w h.partly))
+window_clouded n r q h e = let w = value_is r.saved h.good in rw e (partly_window r.saved n (clouded r.saved r) w (partly_clouded r.saved n r w h.partly))
 
 idle_blank : (v : SuperValue) (ps : List Part) → (record (blank v) { parts = ps }).idle ≤ 9
 unfolding blank
@@ -199,7 +199,7 @@ unfolding IsOpening MayLoad IsReady
 opened_ready c r q p h e i j =
     let v : SuperValue = r.saved in
     let n : ℕ = c + 64 in
-    let w = value_is v h.good h.several in
+    let w = value_is v h.good in
     let window = w.window in
     let last : v.fields.head ≤ n = omega arith in
     let x : Replica = clouded v r in

@@ -3,7 +3,7 @@ pub mod Olds
 pub mod Clouds
 pub mod Begins
 pub mod Recovers
-pub mod Alone
+pub mod Others
 pub mod Opens
 pub mod Makes
 pub mod First

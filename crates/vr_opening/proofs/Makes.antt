@@ -5,7 +5,7 @@ use Rattle.vr_base.specs.declared.kind.Kind.{Kind}
 use Rattle.std.proofs.Common.{arith, ℕ, ◌≡◌, ◌<◌, ◌≤◌, ◌^◌, ◌∙◌, refl, sym, ap, subst, Bool, true, false, List, Option, Some, None, Ok, Err}
 use Rattle.std.specs.Prelude.{IfSome, is_some}
 use Rattle.vr_base.specs.declared.table.Config.{Config}
-use Rattle.vr_base.specs.Groups.{quorums_of}
+use Rattle.vr_base.specs.Groups.{is_size}
 use Rattle.vr_disk.specs.DiskState.{Disk}
 use Rattle.vr_super.specs.declared.opening.Found.{Found}
 use Rattle.vr_super.specs.Copies.{SuperValue, IsGood}
@@ -17,7 +17,7 @@ use Rattle.vr_journal.specs.Sound.{IsSound, IsSavable}
 use Rattle.vr_journal.proofs.Slots.{value_is}
 use Rattle.vr_journal.proofs.Openings.{partly_blank, opened_forgetting}
 use Rattle.vr_journal.proofs.SavesFound.{found_topped, savable_found}
-use Rattle.vr_opening.proofs.First.{first_good, size_of}
+use Rattle.vr_opening.proofs.First.{first_good}
 use Rattle.vr_journal.specs.Ready.{IsReady}
 use Rattle.vr_opening.specs.declared.new_member.FreshFault.TheVariants.{Occupied, DiskFault, NoMemory}
 use Rattle.vr_opening.specs.Making.{Agrees, Formats, Made}
@@ -78,12 +78,12 @@ fresh_state : (kind : Kind) (cluster n index : ℕ) → Fits (version (fresh kin
 unfolding blank
 fresh_state kind cluster n index = Fits-empty kind.version
 
-pub fresh_ready : (kind : Kind) (cluster n index : ℕ) (r : Replica) → IsKind kind → cluster < 2 ^ 64 → index < 256 → n < 256 → is_some (quorums_of n) ≡ true → index < n → r ≡ fresh kind cluster n index → IsReady r
+pub fresh_ready : (kind : Kind) (cluster n index : ℕ) (r : Replica) → IsKind kind → cluster < 2 ^ 64 → index < 256 → n < 256 → is_size kind.version n ≡ true → index < n → r ≡ fresh kind cluster n index → IsReady r
 unfolding IsReady
 fresh_ready kind cluster n index r k a b c s m e =
     let v : SuperValue = first_value kind cluster n index in
     let g : IsGood v = first_good kind cluster n index k a b c s m in
-    let w = value_is v g (size_of n s).0 in
+    let w = value_is v g in
     let x : Replica = blank v in
     let part = partly_blank v in
     let top = found_topped v 0 x w part (omega arith) (λ i j. absurd (omega (arith, j))) in

@@ -35,9 +35,9 @@ unfolding recover_old
 old_then h e p r q d d' o f i j = does_reading (entry_of h) _ e r q d d' d' o o (Ok tt) f (change_by _ r q d' o (rw (← i) j) (part_stays h.op (old_part h e) r))
 
 -- the header at a place of the value's list
-is_old : (v : SuperValue) (i : ℕ) (h : Header) → IsGood v → 2 ≤ v.fields.n → slice_get v.headers i ≡ Some h → IsOld v h
-is_old v i h g two e =
-    let w = value_is v g two in
+is_old : (v : SuperValue) (i : ℕ) (h : Header) → IsGood v → slice_get v.headers i ≡ Some h → IsOld v h
+is_old v i h g e =
+    let w = value_is v g in
     let is = w.each i h e in
     let op = is.1.at_op in
     (subst (λ j. IsOf v j h) (sym op) is, omega arith)
@@ -45,11 +45,11 @@ is_old v i h g two e =
 pub old_window : (i : ℕ) (h : Header) (r : Replica) → IsOpeningOld i r → slice_get r.saved.headers i ≡ Some h → h.op ≤ r.saved.fields.checkpoint → (r.first ≤ h.op) × (h.op - r.first < length r.parts)
 unfolding IsOpeningOld
 old_window i h r o e l =
-    let w = value_is r.saved o.good o.several in
+    let w = value_is r.saved o.good in
     let reach = w.reach in
     let first = first_is r.saved r.saved.fields.checkpoint r o.partly in
     let size = o.partly.size in
-    let old = is_old r.saved i h o.good o.several e in
+    let old = is_old r.saved i h o.good e in
     let from = old.1 in
     (omega (arith, first), omega (arith, first))
 
@@ -70,8 +70,8 @@ pub opening_old : (i : ℕ) (h : Header) (e : Option Whole) (p : Part) (r q : Re
 unfolding IsOpeningOld with_part
 opening_old i h e p r q o at l k m =
     let v : SuperValue = r.saved in
-    let w = value_is v o.good o.several in
-    let old = is_old v i h o.good o.several at in
+    let w = value_is v o.good in
+    let old = is_old v i h o.good at in
     let from = old.1 in
     let reach = w.reach in
     let first = first_is v v.fields.checkpoint r o.partly in
@@ -81,7 +81,6 @@ opening_old i h e p r q o at l k m =
     let rest : drop i v.headers ≡ h ∷ drop (i + 1) v.headers = drop_at v.headers i h at in
     rw m (record {
       good = o.good;
-      several = o.several;
       partly = partly_part v v.fields.checkpoint v.fields.checkpoint h.op p r w o.partly right from (omega arith) (inl (omega arith));
       top = λ a b. next_known v.fields.checkpoint h (drop (i + 1) v.headers) p r (omega (arith, first)) (omega (arith, first)) known
           (subst (λ hs. (knows r v.fields.checkpoint ≡ true) ⊎ Lists v.fields.checkpoint hs) rest (o.top a b));
@@ -94,7 +93,6 @@ old_skipped i h r o at l =
     let rest : drop i v.headers ≡ h ∷ drop (i + 1) v.headers = drop_at v.headers i h at in
     record {
       good = o.good;
-      several = o.several;
       partly = o.partly;
       top = λ a b. only_later v.fields.checkpoint h (drop (i + 1) v.headers) r (leb-false h.op v.fields.checkpoint l)
           (subst (λ hs. (knows r v.fields.checkpoint ≡ true) ⊎ Lists v.fields.checkpoint hs) rest (o.top a b));
@@ -168,7 +166,6 @@ unfolding IsOpeningOld IsOpening
 olds_found i c r o l e =
     rw e (record {
       good = o.good;
-      several = o.several;
       partly = o.partly;
       top = λ a b. last (subst (λ hs. (knows r r.saved.fields.checkpoint ≡ true) ⊎ Lists r.saved.fields.checkpoint hs) (drop_all i r.saved.headers l) (o.top a b));
     })
@@ -192,7 +189,7 @@ nth_after c i k r o e = let same : k ≡ c + (i + 1) = omega arith in subst (λ 
 
 pub nth_fits : (n : ℕ) (r : Replica) → IsOpening n r → r.saved.fields.checkpoint + 65 < 2 ^ 63
 unfolding IsOpening
-nth_fits n r o = let w = value_is r.saved o.good o.several in let a = w.commit in let b = w.head in let c = w.number in omega arith
+nth_fits n r o = let w = value_is r.saved o.good in let a = w.commit in let b = w.head in let c = w.number in omega arith
 
 pub nth_step : (v : SuperValue) (c i k : ℕ) (r q : Replica) (d d' : Option Disk) (o o' : List Output) (result : Result (Unit {0}) Halt) → k ≡ c + 1 + i → Does (recover_op v k) r q d d' o o' result
     → DoesAt (recover_op v) (ops c (c + 64)) i r q d d' o o' result

@@ -1,10 +1,8 @@
 -- A replica is recovered from its disk.
 use Rattle.vr_base.specs.Kinds.{strict}
-use Rattle.std.proofs.Common.{ℕ, ◌≡◌, ◌≤◌, ◌∙◌, refl, sym, ap, subst, cond, List, Bool, true, false, Option, Some, None, Result, Ok, Err, rules, map}
+use Rattle.std.proofs.Common.{ℕ, ◌≡◌, ◌∙◌, refl, sym, ap, subst, cond, List, Bool, true, false, Option, Some, None, Result, Ok, Err, rules, map}
 use Rattle.std.specs.Prelude.{IfSome, IsSome, is_some}
 use Rattle.std.specs.Option.{option_and_then, option_map_or}
-use Rattle.std.proofs.lemmas.Bool.{ltb-false}
-use Rattle.std.specs.Prelude.{◌||◌}
 use Rattle.vr_base.specs.declared.table.Config.{Config}
 use Rattle.vr_disk.specs.DiskState.{Disk, Face, Runs, RunsFrom}
 use Rattle.vr_msg.specs.declared.output.Output.{Output}
@@ -23,7 +21,7 @@ use Rattle.vr_journal.specs.Halt.TheVariants.{DiskFault, NoMemory}
 use Rattle.vr_opening.specs.declared.reopen.Refusal.{Refusal}
 use Rattle.vr_opening.specs.declared.reopen.Refusal.TheVariants.{Lost, OtherMember, Halted}
 use Rattle.vr_journal.specs.Does.{Does, Performs}
-use Rattle.vr_opening.specs.Recovering.{after_mend, all_good, DoesTo, config_of, is_few, is_left, is_left_in, is_other, lost_verdicts, opens_as, runs_as, LosesValue, MendsValue, BeginsWith, StopsMending, LeavesUnmended, FindsValue, IsOther, IsAsked, StopsAsked, Recovered, RecoveredAny}
+use Rattle.vr_opening.specs.Recovering.{after_mend, all_good, DoesTo, config_of, is_left, is_left_in, lost_verdicts, opens_as, runs_as, LosesValue, MendsValue, BeginsWith, StopsMending, LeavesUnmended, FindsValue, IsOther, IsAsked, StopsAsked, Recovered, RecoveredAny}
 use Rattle.vr_journal.proofs.Stepping.{does_no_memory, effect_then, effect_stopped}
 
 pub begun_wanted : (v : SuperValue) (d : Option Disk) (o : List Output) → DoesTo (after_mend v) (blank v) d d o o (Err NoMemory)
@@ -67,10 +65,6 @@ mended_then wanted v q d d1 d2 o o' res m h = effect_then (λ r. Mend v) (after_
 
 -- ---- values that are left alone
 
-or_parts : (a b : Bool) → (a || b) ≡ false → (a ≡ false) × (b ≡ false)
-or_parts true b e = absurd cc
-or_parts false b e = (refl, e)
-
 -- where it isn't, the value of the superblock opens
 run_some : (wanted : Option ℕ) (o : Option SuperValue) (v : SuperValue) → option_map_or (is_left wanted) o false ≡ false → o ≡ Some v → option_and_then (runs_as wanted) o ≡ Some v
 run_some wanted None v n e = absurd cc
@@ -106,9 +100,6 @@ left_not wanted None d' b h e s = rw s tt
 left_not wanted (Some y) d' b h e s = rw s (sym h ∙ e)
 
 -- ---- what is found of the superblock
-
-pub found_several : (wanted : Option ℕ) (v : SuperValue) (b : Bool) → b ≡ is_left wanted v → b ≡ false → 2 ≤ v.fields.n
-found_several wanted v b e t = ltb-false v.fields.n 2 (or_parts (is_other wanted v.fields.version) (is_few v.fields.n) (sym e ∙ t)).1
 
 pub found_value : (wanted : Option ℕ) (v : SuperValue) (d d' : Option Disk) → IfSome d (λ x. is_left_in wanted x.face ≡ false) → RecoversFrom d d' (Ok v) → MendsValue wanted v d d'
 found_value wanted v None d' n h = record { untold = λ e. h; told = λ x e. cc }

@@ -11,7 +11,6 @@ ghost use Rattle.vr_journal.specs.Halt.TheVariants as Halt;
 
 use crate::begin::open_mended;
 use crate::wanted::{is_left, is_left_in};
-
 use std::alloc::Global;
 use vr_base::{Config, Version};
 use vr_disk::SectorDisk;

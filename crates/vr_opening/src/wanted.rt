@@ -24,6 +24,7 @@ pub fn is_left(value: &Super, wanted: &Option<Version>) -> bool
 }
 
 /// Whether a disk's value is left alone. Where any version serves, nothing is read.
+#[tactic(auto, using(crate::proofs::Others::found_none, crate::proofs::Others::any_serves))]
 pub fn is_left_in<D: SectorDisk>(disk: &mut D, wanted: &Option<Version>) -> bool
     ensures told { D.told disk.new ≡ D.told disk.old }
     ensures faults { D.faults disk.new ≡ D.faults disk.old }

@@ -13,7 +13,7 @@ use Rattle.vr_journal.proofs.Repairs.{ready_dropped}
 use Rattle.vr_msg.specs.declared.output.Output.{Output}
 use Rattle.vr_repair.specs.Repairs.{loads_whole}
 use Rattle.vr_journal.specs.Outputs.{get_block, get_prepare, prepare, prepare_ok, send_to_all, to_primary}
-use Rattle.vr_journal.specs.Replica.{Replica, is_primary, is_started}
+use Rattle.vr_journal.specs.Replica.{Replica, is_alone, is_primary, is_started}
 use Rattle.vr_journal.specs.Rules.{mend_found, not_worn, put_block, without}
 use Rattle.vr_journal.specs.Steps.{PutBlock, Word, change, says}
 use Rattle.vr_journal.specs.Words.{ask, ask_for, ask_peer, is_loaded, least_absent, load, resend}
@@ -55,21 +55,23 @@ module _ (r q : Replica) (d d' : Option Disk) (o o' : List Output) (result : Res
   first_asked [] name absent worn e h = absurd cc
   first_asked (n ∷ names) name absent worn e h = let same : n ≡ name = cc in rw same h
 
-  none_asked : (names : List Name) (absent : Option Header) (worn : List Name) → slice_get names 0 ≡ None → Does (ask_for [] absent worn) r q d d' o o' result → Does (ask_for names absent worn) r q d d' o o' result
-  none_asked [] absent worn e h = h
-  none_asked (n ∷ names) absent worn e h = absurd cc
+  no_block : (names : List Name) (absent : Option Header) (worn : List Name) → slice_get names 0 ≡ None → Does (ask_for [] absent worn) r q d d' o o' result → Does (ask_for names absent worn) r q d d' o o' result
+  no_block [] absent worn e h = h
+  no_block (n ∷ names) absent worn e h = absurd cc
 
   pub asked_worn : (worn : List Name) (name : Name) → slice_get worn 0 ≡ Some name → Does (ask_peer (get_block name)) r q d d' o o' result → Does (ask_for [] None worn) r q d d' o o' result
   asked_worn [] name e h = absurd cc
   asked_worn (n ∷ names) name e h = let same : n ≡ name = cc in rw same h
 
-  pub asked_block : (name : Name) → slice_get r.missing 0 ≡ Some name → Does (ask_peer (get_block name)) r q d d' o o' result → Does ask r q d d' o o' result
+  some_asked : is_alone r ≡ false → Does (ask_for r.missing (least_absent r) r.worn) r q d d' o o' result → Does ask r q d d' o o' result
   unfolding ask
-  asked_block name e h = does_by _ r q d d' o o' result (first_asked r.missing name (least_absent r) r.worn e h)
+  some_asked e h = does_by _ r q d d' o o' result (rw e h)
 
-  pub asked_absent : slice_get r.missing 0 ≡ None → Does (ask_for [] (least_absent r) r.worn) r q d d' o o' result → Does ask r q d d' o o' result
-  unfolding ask
-  asked_absent e h = does_by _ r q d d' o o' result (none_asked r.missing (least_absent r) r.worn e h)
+  pub asked_block : (name : Name) → is_alone r ≡ false → slice_get r.missing 0 ≡ Some name → Does (ask_peer (get_block name)) r q d d' o o' result → Does ask r q d d' o o' result
+  asked_block name e f h = some_asked e (first_asked r.missing name (least_absent r) r.worn f h)
+
+  pub asked_absent : is_alone r ≡ false → slice_get r.missing 0 ≡ None → Does (ask_for [] (least_absent r) r.worn) r q d d' o o' result → Does ask r q d d' o o' result
+  asked_absent e f h = some_asked e (no_block r.missing (least_absent r) r.worn f h)
 
   pub asked_entry : (absent : Option Header) (worn : List Name) (h : Header) → absent ≡ Some h → Does (ask_peer (get_prepare name_of h)) r q d d' o o' result → Does (ask_for [] absent worn) r q d d' o o' result
   asked_entry absent worn h e k = rw e (does_naming _ r q d d' o o' result k)
@@ -80,6 +82,11 @@ module _ (r q : Replica) (d d' : Option Disk) (o o' : List Output) (result : Res
 pub none_worn : (worn : List Name) (r : Replica) (d : Option Disk) (o : List Output) → slice_get worn 0 ≡ None → Does (ask_for [] None worn) r r d d o o (Ok tt)
 none_worn [] r d o e = does_quiet r d o
 none_worn (n ∷ names) r d o e = absurd cc
+
+-- where there is no peer nothing is asked
+pub none_asked : (r : Replica) (d : Option Disk) (o : List Output) → is_alone r ≡ true → Does ask r r d d o o (Ok tt)
+unfolding ask
+none_asked r d o e = does_by _ r r d d o o (Ok tt) (rw e (does_quiet r d o))
 
 -- ---- a block is put
 

@@ -1,5 +1,5 @@
 //! What is missing is asked for, and put.
-ghost use Rattle.std.specs.Prelude.{◌≡◌, None, OnOk, [], is_some, true};
+ghost use Rattle.std.specs.Prelude.{◌≡◌, ◌≤◌, None, OnOk, [], is_some, true};
 ghost use Rattle.vr_base.specs.Bytes.{name_of};
 ghost use Rattle.vr_ckpt.specs.Blocks.{named};
 ghost use Rattle.vr_header.specs.Made.{IsEntryHeader};
@@ -18,7 +18,7 @@ use vr_journal::{Halt, Replica, load};
 use vr_msg::Outbox;
 
 // Asks a peer for a block.
-#[tactic(auto, using(vr_journal::proofs::Stepping::steps, vr_journal::proofs::Repairs::ready_turned, vr_journal::proofs::Repairs::ready_size), unfolding(vr_journal::specs::Words::ask_peer))]
+#[tactic(auto, using(vr_journal::proofs::Stepping::steps, vr_journal::proofs::Repairs::ready_turned), unfolding(vr_journal::specs::Words::ask_peer))]
 fn ask_block<D: SectorDisk>(
     replica: &mut Replica,
     _disk: &mut D,
@@ -26,6 +26,7 @@ fn ask_block<D: SectorDisk>(
     out: &mut Outbox,
 ) -> Result<(), Halt>
     requires ready { IsReady replica.old }
+    requires several { 2 ≤ replica.old.n }
     ensures ready { OnOk result (IsReady replica.new) }
     ensures cause { Caused (D.faults _disk.old) (D.faults _disk.new) result }
     ensures step { Does (ask_peer (get_block name.now)) replica.old replica.new (D.told _disk.old) (D.told _disk.new) out.old out.new result }
@@ -36,7 +37,7 @@ fn ask_block<D: SectorDisk>(
 }
 
 // Asks a peer for an entry.
-#[tactic(auto, using(vr_journal::proofs::Stepping::steps, vr_journal::proofs::Repairs::ready_turned, vr_journal::proofs::Repairs::ready_size), unfolding(vr_journal::specs::Words::ask_peer))]
+#[tactic(auto, using(vr_journal::proofs::Stepping::steps, vr_journal::proofs::Repairs::ready_turned), unfolding(vr_journal::specs::Words::ask_peer))]
 fn ask_entry<D: SectorDisk>(
     replica: &mut Replica,
     _disk: &mut D,
@@ -44,6 +45,7 @@ fn ask_entry<D: SectorDisk>(
     out: &mut Outbox,
 ) -> Result<(), Halt>
     requires ready { IsReady replica.old }
+    requires several { 2 ≤ replica.old.n }
     requires entry { IsEntryHeader header.now }
     ensures ready { OnOk result (IsReady replica.new) }
     ensures cause { Caused (D.faults _disk.old) (D.faults _disk.new) result }
@@ -62,6 +64,7 @@ fn ask_worn<D: SectorDisk>(
     out: &mut Outbox,
 ) -> Result<(), Halt>
     requires ready { IsReady replica.old }
+    requires several { 2 ≤ replica.old.n }
     ensures ready { OnOk result (IsReady replica.new) }
     ensures cause { Caused (D.faults disk.old) (D.faults disk.new) result }
     ensures step { Does (ask_for [] None replica.old.worn) replica.old replica.new (D.told disk.old) (D.told disk.new) out.old out.new result }
@@ -80,6 +83,7 @@ fn ask_absent<D: SectorDisk>(
     out: &mut Outbox,
 ) -> Result<(), Halt>
     requires ready { IsReady replica.old }
+    requires several { 2 ≤ replica.old.n }
     ensures ready { OnOk result (IsReady replica.new) }
     ensures cause { Caused (D.faults disk.old) (D.faults disk.new) result }
     ensures step { Does (ask_for [] (least_absent replica.old) replica.old.worn) replica.old replica.new (D.told disk.old) (D.told disk.new) out.old out.new result }
@@ -92,7 +96,7 @@ fn ask_absent<D: SectorDisk>(
 
 /// Asks the peer whose turn it is for what is missing: the first of the blocks that are, else the least entry that isn't stored or can't be
 /// read, else the first block that has gone bad. Where there is none of these, or no peer, nothing is asked.
-#[tactic(auto, using(crate::proofs::Words::asked_block, crate::proofs::Words::asked_absent))]
+#[tactic(auto, using(crate::proofs::Words::asked_block, crate::proofs::Words::asked_absent, crate::proofs::Words::none_asked, vr_journal::proofs::Repairs::ready_size))]
 pub fn ask<D: SectorDisk>(replica: &mut Replica, disk: &mut D, out: &mut Outbox) -> Result<(), Halt>
     requires ready { IsReady replica.old }
     ensures ready { OnOk result (IsReady replica.new) }

@@ -1,6 +1,6 @@
 -- What the statements of a group decide, and the log that its primary chooses.
 use Rattle.std.proofs.Common.{arith, ℕ, ◌≡◌, ◌≤◌, ◌<◌, ◌^◌, ◌∙◌, refl, sym, subst, List, ◌++◌, Option, Result, Ok}
-use Rattle.std.specs.Prelude.{All, Bool, true, false, ◌&&◌, not}
+use Rattle.std.specs.Prelude.{All, Bool, true, false, ◌&&◌, if◌then◌else◌, not}
 use Rattle.std.proofs.lemmas.List.Elements.{All-weaker}
 use Rattle.vr_base.specs.Groups.{quorums_of}
 use Rattle.vr_choose.specs.Statements.{IsSomeStatement}
@@ -14,10 +14,10 @@ use Rattle.vr_msg.specs.declared.statement.Statement.{Statement}
 use Rattle.vr_msg.specs.Choice.{top_view}
 use Rattle.vr_msg.specs.Logs.{IsStatement}
 use Rattle.vr_journal.specs.Outputs.{send_to_all, start_view, wait_line}
-use Rattle.vr_journal.specs.Steps.{◌⨾◌, says}
-use Rattle.vr_journal.specs.Replica.{Replica, is_primary, is_started, last_view, version}
+use Rattle.vr_journal.specs.Steps.{◌⨾◌, by, says}
+use Rattle.vr_journal.specs.Replica.{Replica, is_alone, is_primary, is_started, last_view, version}
 use Rattle.vr_journal.specs.Sound.{IsStated}
-use Rattle.vr_journal.specs.Words.{Log, apply, begin_view, choose_line, chosen_log, decided, obey_choice, prepare_again, stated, take, try, try_log}
+use Rattle.vr_journal.specs.Words.{Log, advance, apply, begin_view, choose_line, chosen_log, decided, obey_choice, prepare_again, stated, take, try, try_log}
 use Rattle.vr_journal.proofs.Storing.{head_number}
 use Rattle.vr_journal.proofs.Taking.{may_take_is}
 use Rattle.vr_journal.proofs.Trying.{all_stated, chosen_log_is, decided_ends}
@@ -98,6 +98,6 @@ pub ruleset tries = (try_chooses, try_rests)
 -- ---- a view is begun
 
 pub begins : (ss : List Statement) (l : Log) (r r' : Replica) (d d' : Option Disk) (o o' : List Output) (result : Result (Unit {0}) Halt)
-    → Does (says (choose_line ss l) ⨾ take l ⨾ says (send_to_all start_view) ⨾ each_to prepare_again l.head ⨾ apply) r r' d d' o o' result → Does (begin_view ss l) r r' d d' o o' result
+    → Does (says (choose_line ss l) ⨾ take l ⨾ says (send_to_all start_view) ⨾ each_to prepare_again l.head ⨾ by (λ r. if is_alone r then advance else apply)) r r' d d' o o' result → Does (begin_view ss l) r r' d d' o o' result
 unfolding begin_view each_to
 begins ss l r r' d d' o o' result h = h

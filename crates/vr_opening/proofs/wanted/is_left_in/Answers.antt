@@ -1,5 +1,5 @@
-use Rattle.vr_opening.proofs.Alone.{found_left}
-use Rattle.vr_opening.proofs.lone.is_left_in.Goals as goal
+use Rattle.vr_opening.proofs.Others.{found_other}
+use Rattle.vr_opening.proofs.wanted.is_left_in.Goals as goal
 
-pub returns-clause-value : goal.returns-clause-value
-returns-clause-value g c = found_left c.args.wanted.now _ _ _ (g.met.D.SectorDisk.whole c.args.disk.now) c.opens-found.ensures.value (rw c.opens-found.ensures.told at c.is_left_by.ensures.value)
+pub returns-in-Some-clause-value : goal.returns-in-Some-clause-value
+returns-in-Some-clause-value g c = found_other c.args.wanted.now _ c.opens.result c.in-Some.found _ c.opens.ensures.value c.in-Some.is c.is_other.ensures
