@@ -172,7 +172,7 @@ impl Members {
     }
 
     /// What a line says of it.
-    #[tactic(auto, using(crate::proofs::Acts::happened_quietly, crate::proofs::Acts::begun, crate::proofs::Sectors::on_disk))]
+    #[tactic(auto, using(vr_base::proofs::Members::is_sized, crate::proofs::Acts::happened_quietly, crate::proofs::Acts::begun, crate::proofs::Sectors::on_disk))]
     pub fn happen(&mut self, alloc: Global, line: &Line, to: &mut Outputs) -> Result<(), NoMemory>
         requires { (version : ℕ) × IsLineOf version self.old.n line.now }
         ensures happened { OnOk result (HasHappened (happens hazards (world_of self.old) (happening line.now)) (world_of self.old) (world_of self.new) to.old to.new) }
