@@ -1,11 +1,11 @@
 -- The file of a stopped member becomes one of version 2, whole or cut: the disk is beside the member again, as a file of the version that opens.
-use Rattle.std.proofs.Common.{ℕ, zero, suc, ◌+◌, ◌-◌, ◌≤◌, ◌<◌, ◌≡◌, ◌⊎◌, inl, inr, arith, refl, sym, ap, ◌∙◌, subst, Bool, true, false, ◌||◌, cond, List, [], ◌∷◌, ◌++◌, length, take, get_or, Option, Some, None}
+use Rattle.std.proofs.Common.{ℕ, zero, suc, ◌+◌, ◌-◌, ◌≤◌, ◌<◌, ◌≡◌, ◌⊎◌, inl, inr, arith, refl, sym, ap, ◌∙◌, subst, true, false, cond, List, [], ◌∷◌, ◌++◌, length, take, Option, Some, None}
 use Rattle.std.specs.Prelude.{nat_lt, replicate}
 use Rattle.std.specs.List.{AllByRecursion}
 use Rattle.std.specs.Option.{option_map_or}
 use Rattle.std.proofs.lemmas.Bool.{cases_lt, le-ltb, lt-ltb}
-use Rattle.std.proofs.lemmas.List.{length-append, length-replicate}
-use Rattle.vr_base.specs.Bytes.{IsBytes, is_zeros}
+use Rattle.std.proofs.lemmas.List.{length-append}
+use Rattle.vr_base.specs.Bytes.{IsBytes}
 use Rattle.vr_base.specs.declared.mode.Mode.{Mode}
 use Rattle.vr_disk.specs.DiskState as disk
 use Rattle.vr_disk.specs.DiskState.{Call, Face, IsFace, Sync}
@@ -14,18 +14,18 @@ use Rattle.vr_disk.specs.Sectors.{writes}
 use Rattle.vr_disk.proofs.Places.{inside}
 use Rattle.vr_disk.proofs.Together.{Within, after_all_append}
 use Rattle.vr_header.specs.NoCollision.{NoCollision}
-use Rattle.vr_rings.specs.Moving.{IsMoved, Moves, moved_of, moves, relocated}
+use Rattle.vr_rings.specs.Moving.{Moves, is_movable, moved_of, moves, relocated}
 use Rattle.vr_rings.proofs.Moving.{all_within, moves_keep, within_apart}
+use Rattle.vr_rings.proofs.Relocated.{relocated_moved}
 use Rattle.vr_super.specs.Laws.{IsSaved, TellsApart}
 use Rattle.vr_lie.specs.Calls.{mend_calls, write_calls}
 use Rattle.vr_lie.specs.Copies.{IsGood, SuperValue}
 use Rattle.vr_lie.specs.Faults.{held_at}
-use Rattle.vr_lie.specs.Held.{Stands, header_sector, held_after_all, is_prepare, looked}
+use Rattle.vr_lie.specs.Held.{Stands, held_after_all, looked}
 use Rattle.vr_lie.specs.Opens.{opens}
 use Rattle.vr_lie.specs.Slots.{prepare_reading}
 use Rattle.vr_lie.proofs.Cutting.{AllApart, Rests, apart_cut}
 use Rattle.vr_lie.proofs.Keeping.{opens_on, write_law}
-use Rattle.vr_lie.proofs.Spelling.{whole_version}
 use Rattle.vr_lie.proofs.Standing.{calls_stand, stands_look}
 use Rattle.vr_world.specs.Group.{Member, MayOpen, begins, carried_out, cut_after, ends, migration}
 use Rattle.vr_world.specs.Lying.{Lying, after_calls, cut_calls, settled}
@@ -45,66 +45,24 @@ use Rattle.law_4_disks.proofs.Telling.{fewer, met_apart, tells_one}
 
 -- ---- what is written at the new places
 
-abbrev lost : List ℕ
-lost = replicate 4096 255
-
 lost_bytes : (n : ℕ) → IsBytes (replicate n 255)
 lost_bytes zero i = omega arith
 lost_bytes (suc n) zero = omega arith
 lost_bytes (suc n) (suc i) = lost_bytes n i
 
--- they are no entry, and no zeros
-lost_neither : (is_prepare lost || is_zeros lost) ≡ false
-unfolding header_sector
-lost_neither =
-    let at : get_or (header_sector lost) 110 0 ≡ 255 = refl in
-    let whole : (t : Bool) → is_prepare lost ≡ t → t ≡ false = elim [
-      | true ↦ λ e. (let v = whole_version lost e in absurd (omega (arith, v, at)))
-      | false ↦ λ e. refl
-    ] in
-    let zeros : is_zeros lost ≡ false = refl in
-    rw (whole (is_prepare lost) refl, zeros) refl
+moved_bytes : (o : Option (List ℕ)) → ((p : List ℕ) → o ≡ Some p → IsBytes p) → IsBytes (moved_of o)
+moved_bytes None h = lost_bytes 4096
+moved_bytes (Some p) h = elim (is_movable p) as (λ t. IsBytes (cond t p (replicate 4096 255))) [ true ↦ h p refl | false ↦ lost_bytes 4096 ]
 
--- of what an old prepare reads as
-record IsMovedOf (o : Option (List ℕ)) (new : List ℕ) : Type 0 where
-  each : IsBytes new
-  size : length new ≡ 4096
-  only : (is_prepare new || is_zeros new) ≡ true → o ≡ Some new
-  all : (p : List ℕ) → o ≡ Some p → is_prepare p ≡ true → new ≡ p
-
-moved_lost : (o : Option (List ℕ)) → ((p : List ℕ) → o ≡ Some p → is_prepare p ≡ false) → IsMovedOf o lost
-moved_lost o h = record {
-  each = lost_bytes 4096;
-  size = length-replicate {A = ℕ} 4096 255;
-  only = λ e. absurd (let bad : false ≡ true = sym lost_neither ∙ e in cc);
-  all = λ p e w. absurd (let bad : false ≡ true = sym (h p e) ∙ w in cc);
-}
-
-moved_is : (o : Option (List ℕ)) → ((p : List ℕ) → o ≡ Some p → IsBytes p × (length p ≡ 4096)) → IsMovedOf o (moved_of o)
-moved_is None h = moved_lost None (λ p e. absurd cc)
-moved_is (Some p) h =
-    elim (is_prepare p || is_zeros p) as (λ t. (is_prepare p || is_zeros p) ≡ t → IsMovedOf (Some p) (cond t p lost)) [
-      | true ↦ λ e. record { each = (h p refl).0; size = (h p refl).1; only = λ _. refl; all = λ q same w. (let one : p ≡ q = cc in one) }
-      | false ↦ λ e. moved_lost (Some p) (λ q same. (let one : p ≡ q = cc in subst (λ q. is_prepare q ≡ false) one (first_false (is_prepare p) (is_zeros p) e)))
-    ] refl
-  where
-    first_false : (a b : Bool) → (a || b) ≡ false → a ≡ false
-    first_false true b e = e
-    first_false false b e = refl
-
-relocated_is : (f : Face) (slot : ℕ) → IsFace f → slot < 64 → IsMovedOf (prepare_reading 1 f slot) (relocated f slot)
-relocated_is f slot h l = moved_is (prepare_reading 1 f slot) (λ p e. read_prepare 1 f slot p h l e)
-
-relocated_moved : (f : Face) (slot : ℕ) → IsFace f → slot < 64 → IsMoved f slot (relocated f slot)
-relocated_moved f slot h l = let x = relocated_is f slot h l in record { size = x.size; only = x.only; all = x.all }
+relocated_bytes : (f : Face) (slot : ℕ) → IsFace f → slot < 64 → IsBytes (relocated f slot)
+relocated_bytes f slot h l = moved_bytes (prepare_reading 1 f slot) (λ p e. (read_prepare 1 f slot p h l e).0)
 
 moves_are : (f : Face) (n s : ℕ) → IsFace f → s + n ≤ 64 → AreCalls (moves s n (relocated f))
 unfolding moves
 moves_are f zero s h l = tt
 moves_are f (suc n) s h l =
-    let x = relocated_is f s h (omega (arith, l)) in
-    let size = x.size in
-    calls_append (writes (prepare_place 2 s) (prepare_sectors 2) (relocated f s)) (moves (s + 1) n (relocated f)) (writes_are 8 (prepare_place 2 s) (relocated f s) x.each (omega (arith, size)) (inside 2 s (omega (arith, l)))) (moves_are f n (s + 1) h (omega (arith, l)))
+    let size = (relocated_moved f s h (omega (arith, l))).size in
+    calls_append (writes (prepare_place 2 s) (prepare_sectors 2) (relocated f s)) (moves (s + 1) n (relocated f)) (writes_are 8 (prepare_place 2 s) (relocated f s) (relocated_bytes f s h (omega (arith, l))) (omega (arith, size)) (inside 2 s (omega (arith, l)))) (moves_are f n (s + 1) h (omega (arith, l)))
 
 slot_calls_are : (f : Face) → IsFace f → AreCalls (slot_calls f)
 slot_calls_are f h = calls_append (moves 0 64 (relocated f)) (Sync ∷ []) (moves_are f 64 0 h (omega arith)) (tt, tt)

@@ -1,11 +1,11 @@
 -- What is written at a slot's new place is sealed where what reads is: sectors as they read, zeros, or bytes 255.
-use Rattle.std.proofs.Common.{ℕ, zero, suc, ◌+◌, ◌-◌, ◌*◌, ◌<◌, ◌≤◌, ◌≡◌, inl, inr, arith, refl, sym, ap, ◌∙◌, subst, true, false, ◌||◌, cond, List, [], ◌∷◌, ◌++◌, length, take, drop, get_or, Option, Some, None, length-append}
+use Rattle.std.proofs.Common.{ℕ, zero, suc, ◌+◌, ◌-◌, ◌*◌, ◌<◌, ◌≤◌, ◌≡◌, inl, inr, arith, refl, sym, ap, ◌∙◌, subst, true, false, cond, List, [], ◌∷◌, ◌++◌, length, take, drop, get_or, Option, Some, None, length-append}
 use Rattle.std.specs.Prelude.{replicate}
 use Rattle.std.specs.List.{AllByRecursion}
 use Rattle.std.specs.Option.{option_map}
 use Rattle.std.proofs.lemmas.Bool.{cases_lt}
 use Rattle.std.proofs.lemmas.List.{drop-append-le, drop_at, get_or-append_right, get_or-replicate, length-drop, length-replicate, take-append-le, take_at}
-use Rattle.vr_base.specs.Bytes.{IsBytes, is_zeros, piece}
+use Rattle.vr_base.specs.Bytes.{IsBytes, piece}
 use Rattle.vr_base.proofs.AreBytes.{IsBytes-append, IsBytes-zeros}
 use Rattle.vr_base.proofs.FieldLaws.{get_or-piece}
 use Rattle.vr_base.proofs.Places.{drop_both}
@@ -16,8 +16,7 @@ use Rattle.vr_disk.proofs.Places.{inside}
 use Rattle.vr_disk.proofs.Together.{together_cons}
 use Rattle.vr_header.specs.declared.header.Header.{Header}
 use Rattle.vr_lie.specs.Slots.{padded}
-use Rattle.vr_rings.specs.Held.{is_prepare}
-use Rattle.vr_rings.specs.Moving.{moved_of, moves, relocated}
+use Rattle.vr_rings.specs.Moving.{is_movable, moved_of, moves, relocated}
 use Rattle.law_5_seals.specs.Laws.{MovesAreSealed}
 use Rattle.law_5_seals.specs.Seals.{HasSectors, IsSealed, Puts}
 use Rattle.law_5_seals.proofs.Contents.{has_at}
@@ -109,7 +108,7 @@ module _ (made : List Header) where
 
   moved_pieces : (o : Option (List ℕ)) → ((p : List ℕ) → o ≡ Some p → AreSealedPieces p) → AreSealedPieces (moved_of o)
   moved_pieces None h = ones_pieces
-  moved_pieces (Some p) h = elim (is_prepare p || is_zeros p) as (λ t. AreSealedPieces (cond t p (replicate 4096 255))) [ true ↦ h p refl | false ↦ ones_pieces ]
+  moved_pieces (Some p) h = elim (is_movable p) as (λ t. AreSealedPieces (cond t p (replicate 4096 255))) [ true ↦ h p refl | false ↦ ones_pieces ]
 
   relocated_pieces : (f : Face) → HasSectors (IsSealed made) f → (slot : ℕ) → slot < 64 → AreSealedPieces (relocated f slot)
   relocated_pieces f s slot l =

@@ -87,6 +87,8 @@ serves_more u a b f g (group.Cuts at arrival e d k) h = tt
 serves_more u a b f g (group.Crashes at) h = tt
 serves_more u a b f g (group.Recovers at v d) h = tt
 serves_more u a b f g (group.RecoversCut at v d k) h = tt
+serves_more u a b f g (group.Migrates at v) h = tt
+serves_more u a b f g (group.MigratesCut at v k) h = tt
 
 so : (cluster : ℕ) (u : Setup) (run : List Played) (before : List (Message Header)) (after : Group Header) (p : Played) → IsReached u after → ((m : Message Header) → In m before → In m after.sent) → ((s : Sent) → In (output.Send s) p.moved.outputs → IsFrom s.from s.message)
     → ((c : Committed) → In (output.Commit c) p.moved.outputs → IsHashed run (root_header cluster) (operation_bytes c.entry.operation)) → ((c : Chosen) → In (output.Choose c) p.moved.outputs → IsChoiceLine u after.chosen p c)

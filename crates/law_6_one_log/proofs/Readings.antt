@@ -1,16 +1,15 @@
 -- What reads on a sealed disk as a header, as an entry or as a block.
-use Rattle.std.proofs.Common.{ℕ, zero, suc, ◌+◌, ◌-◌, ◌*◌, ◌≤◌, ◌<◌, ◌≡◌, ◌&&◌, inl, inr, arith, refl, sym, ap, ◌∙◌, subst, true, false, cond, List, [], ◌∷◌, ◌++◌, take, drop, replicate, Option, Some, None, append_assoc}
+use Rattle.std.proofs.Common.{ℕ, suc, ◌+◌, ◌-◌, ◌*◌, ◌≤◌, ◌<◌, ◌≡◌, ◌&&◌, inl, inr, arith, refl, sym, ap, ◌∙◌, subst, true, false, cond, List, [], ◌∷◌, ◌++◌, take, replicate, Option, Some, None, append_assoc}
 use Rattle.std.specs.Prelude.{Contains, is_some, nat_le, nat_lt, ◌%◌, ◌==◌}
-use Rattle.std.specs.Option.{option_and_then, option_map}
+use Rattle.std.specs.Option.{option_and_then}
 use Rattle.std.proofs.lemmas.Bool.{and_parts, eqb-true, ltb-true}
-use Rattle.std.proofs.lemmas.List.{drop_at, take_at, take-append-le}
-use Rattle.vr_base.specs.Bytes.{IsBytes, piece}
-use Rattle.vr_base.proofs.Places.{drop_both}
-use Rattle.vr_disk.specs.DiskState.{Face, IsFace, reads}
-use Rattle.vr_disk.specs.Regions.{block_place, header_place, prepare_place, prepare_sectors, sectors}
-use Rattle.vr_disk.specs.Sectors.{behind, together}
+use Rattle.std.proofs.lemmas.List.{take-append-le}
+use Rattle.vr_base.specs.Bytes.{IsBytes}
+use Rattle.vr_disk.specs.DiskState.{Face, IsFace}
+use Rattle.vr_disk.specs.Regions.{block_place, header_place, prepare_place, prepare_sectors}
+use Rattle.vr_disk.specs.Sectors.{together}
 use Rattle.vr_disk.proofs.Places.{counted, inside}
-use Rattle.vr_disk.proofs.Together.{together_cons, together_first}
+use Rattle.vr_disk.proofs.Together.{together_first}
 use Rattle.vr_header.specs.declared.header.Header.{Header}
 use Rattle.vr_header.specs.Made.{Whole, is_entry_header}
 use Rattle.vr_header.specs.Spelling.{IsHeader, Spells}

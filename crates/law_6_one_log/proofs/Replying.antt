@@ -47,6 +47,8 @@ step_script g _ _ (group.cuts at2 arrival2 e2 d2 k m2 r2 runs2 i) at arrival e d
 step_script g _ _ (group.crashes at2 m2 there) at arrival e d m r same runs = absurd cc
 step_script g _ _ (group.recovers at2 v d2 m2 o) at arrival e d m r same runs = absurd cc
 step_script g _ _ (group.recovers_cut at2 v d2 k m2 o) at arrival e d m r same runs = absurd cc
+step_script g _ _ (group.migrates at2 v m2 o) at arrival e d m r same runs = absurd cc
+step_script g _ _ (group.migrates_cut at2 v k m2 o) at arrival e d m r same runs = absurd cc
 
 -- what an opening begins with
 recovers_so : (g : Group) (move : Move) (moved : Moved) → Moves g move moved → (at : ℕ) (v : SuperValue) (d : Lying) → move ≡ Recovers at v d → (m : Member) × Opens g at m v d
@@ -59,6 +61,8 @@ recovers_so g _ _ (group.steps at2 arrival2 e2 d2 m2 r2 runs2 i) at v d same = a
 recovers_so g _ _ (group.cuts at2 arrival2 e2 d2 k m2 r2 runs2 i) at v d same = absurd cc
 recovers_so g _ _ (group.crashes at2 m2 there) at v d same = absurd cc
 recovers_so g _ _ (group.recovers_cut at2 v2 d2 k m2 o) at v d same = absurd cc
+recovers_so g _ _ (group.migrates at2 v2 m2 o) at v d same = absurd cc
+recovers_so g _ _ (group.migrates_cut at2 v2 k m2 o) at v d same = absurd cc
 
 module _ (cluster n : ℕ) (u : Setup) (run : List Played) (x : IsFollowed cluster n u run) (bridges : (t : ℕ) (p : Played) → slice_get run t ≡ Some p → Bridges u p.before (x.group t)) (never : NoCollision (IsHashed run (root_header cluster)))
     (log : List Whole) (is_log : IsLogOf cluster u run (x.group (length run)).sent log) where

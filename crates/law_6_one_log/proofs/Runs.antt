@@ -19,7 +19,7 @@ use Rattle.vr_lie.specs.Copies.{IsGood, SuperValue}
 use Rattle.law_3_outputs.specs.Commitment.{is_line_of}
 use Rattle.law_3_outputs.specs.Fit.{ReadsWell}
 use Rattle.law_3_outputs.specs.Group as group
-use Rattle.law_3_outputs.specs.Group.{Arrival, Group, IsArrival, Member, Move, Moved, Moves, Opens, Played, Run, Runs, carried_out, cut_after, cut_in_two, ended, found, fresh_group, fresh_member, goes, keeps_all, mended, once_mended, opening_script, recovered, resumed, stepped}
+use Rattle.law_3_outputs.specs.Group.{Arrival, Group, IsArrival, MayOpen, Member, Move, Moved, Moves, Opens, Played, Run, Runs, carried_out, cut_after, cut_in_two, ended, found, fresh_group, fresh_member, goes, keeps_all, mended, migration, once_mended, opening_script, recovered, resumed, stepped}
 use Rattle.law_3_outputs.specs.Files.{IsFileAt}
 use Rattle.law_3_outputs.specs.GroupFit.{IsFitArrival, IsFitGroup, IsFitMember, IsFitReplica, IsFitValue}
 use Rattle.law_3_outputs.specs.Laws.{IsEvent}
@@ -212,6 +212,17 @@ module _ (cluster n : ℕ) (u : Setup) (run : List Played) (x : IsFollowed clust
   set_stands g at m members is all h j y e =
       elim (set_got g.members at j m y (subst (λ (ms : List Member). slice_get ms j ≡ Some y) is e)) [ inl same ↦ subst MemberStands same h | inr old ↦ all j y old ]
 
+  -- a value as which a member may open
+  may_rooted : (m : Member) (v : SuperValue) → MayOpen m v → Values H cluster log m → IsRooted H cluster log v
+  may_rooted m v may h = elim may [ inl e ↦ subst (IsRooted H cluster log) e h.last | inr e ↦ h.under v e ]
+
+  -- the checkpoint of the value that is saved by a migration is that of the one before
+  migration_borne : (m : Member) (v : SuperValue) → MayOpen m v → Values H cluster log m → Every (IsBorne H cluster log) (migration v)
+  migration_borne m v may h = let rooted = may_rooted m v may h in (rooted, (rooted, tt))
+
+  migration_cut_borne : (m : Member) (v : SuperValue) (k : ℕ) → MayOpen m v → Values H cluster log m → Every (IsBorne H cluster log) (take (suc k) (migration v))
+  migration_cut_borne m v k may h = every_front (IsBorne H cluster log) (suc k) (migration v) (migration_borne m v may h)
+
   -- a message that was sent
   arrives_told : (g : Group) (at : ℕ) (arrival : Arrival) (e : Event) → AllTold g → IsArrival g at arrival e → IsTrueEvent H cluster log e
   arrives_told g at (group.Asked q) e told i = subst (IsTrueEvent H cluster log) (sym i.1) tt
@@ -256,14 +267,14 @@ module _ (cluster n : ℕ) (u : Setup) (run : List Played) (x : IsFollowed clust
       acting : IsFitMember cluster p.before.n at m
       acting = fit_group.members at m runs.member
 
-      own : IsFitReplica r × IsAt cluster p.before.n at acting.edition r
+      own : IsFitReplica r × IsAt cluster p.before.n at m.last.fields.version r
       own = acting.running r runs.running
 
       event : IsEvent e
       event = arrives cluster p.before at arrival e fit_group fit.0 came
 
       step_taken : All (IsTaken d.version) es
-      step_taken = member_taken cluster p.before.n at acting.edition m.last d es acting.last (file m runs.member) (step_is cluster p.before.n at acting.edition r e d own.0 own.1 event fit.1).known
+      step_taken = member_taken cluster p.before.n at m.last d es acting.last.0 (file m runs.member) (step_is cluster p.before.n at m.last.fields.version r e d own.0 own.1 event fit.1).known
 
       step_may : (xs ys : List Effect) → xs ++ ys ≡ es → ((z : Effect) → In z xs → In z p.moved.script) → AllMay H cluster log r.index r.applied d xs
       step_may xs ys are has =
@@ -329,14 +340,14 @@ module _ (cluster n : ℕ) (u : Setup) (run : List Played) (x : IsFollowed clust
       waking : IsFitMember cluster p.before.n at m
       waking = fit_group.members at m wakes.member
 
-      value : IsFitValue cluster p.before.n at waking.edition v
+      value : IsFitValue cluster p.before.n at v
       value = good_value cluster p.before.n at m v waking wakes.value
 
       good : IsGood v
       good = opening_of cluster p.before at m v fit_group wakes.member wakes.value
 
       pub value_rooted : IsRooted H cluster log v
-      value_rooted = elim wakes.value [ inl e ↦ subst (IsRooted H cluster log) e h.values.last | inr e ↦ h.values.under v e ]
+      value_rooted = may_rooted m v wakes.value h.values
 
       mends : WellAt H cluster log (L H never cluster log) (mending v) (blank v) d
       mends = mending_at H never cluster log v d value.1.cluster value_rooted (reads_in d face)
@@ -351,7 +362,7 @@ module _ (cluster n : ℕ) (u : Setup) (run : List Played) (x : IsFollowed clust
       mends_borne = borne_all H cluster log (blank v).index (blank v).applied d xs mends.bears mends_may
 
       script_taken : All (IsTaken d.version) (xs ++ ys)
-      script_taken = member_taken cluster p.before.n at waking.edition v d (xs ++ ys) value file (start_is cluster p.before.n at waking.edition v d value fit).known
+      script_taken = member_taken cluster p.before.n at v d (xs ++ ys) good file (start_is cluster p.before.n at v.fields.version v d value fit).known
 
       rest_may : ((z : Effect) → In z xs → In z p.moved.script) → (fs gs : List Effect) → fs ++ gs ≡ ys → ((z : Effect) → In z fs → In z p.moved.script) → AllMay H cluster log (recovered v d).index (recovered v d).applied (on_disk v d) fs
       rest_may first fs gs are has =
@@ -454,6 +465,12 @@ module _ (cluster n : ℕ) (u : Setup) (run : List Played) (x : IsFollowed clust
       let fit = (fit_at cluster n run x.fit t p is).1 in
       set_stands g at (record (cut_in_two (mended v d).script (resumed v d).script (keeps_all (found v d)) k m) { replica = None }) _ refl all
       (stopped_stands (cut_in_two (mended v d).script (resumed v d).script (keeps_all (found v d)) k m) (opened_cut t p is at m v d wakes (0, omega arith, refl) fit (file_at cluster n run x.fit t p is) (all at m wakes.member) k (λ z i. i)))
+  moved_stand t g _ _ is (group.migrates at v m o) told all =
+      let values = (all at m o.member).values in
+      set_stands g at (record (carried_out (migration v) m) { replica = None }) _ refl all (stopped_stands (carried_out (migration v) m) (carried_values H cluster log (migration v) m (migration_borne m v o.value values) values))
+  moved_stand t g _ _ is (group.migrates_cut at v k m o) told all =
+      let values = (all at m o.member).values in
+      set_stands g at (record (cut_after k (migration v) m) { replica = None }) _ refl all (stopped_stands (cut_after k (migration v) m) (cut_values H cluster log k (migration v) m (migration_cut_borne m v k o.value values) values))
 
   -- what a move writes, as far as it got
   moved_borne : (t : ℕ) (g : Group) (move : Move) (moved : Moved) → slice_get run t ≡ Some (record { before = g; move = move; moved = moved }) → Moves g move moved → AllTold g → AllStand g → Every (IsBorne H cluster log) moved.script
@@ -470,6 +487,10 @@ module _ (cluster n : ℕ) (u : Setup) (run : List Played) (x : IsFollowed clust
   moved_borne t g _ _ is (group.recovers_cut at v d k m wakes) told all =
       let p : Played = record { before = g; move = group.RecoversCut at v d k; moved = group.start_cut g at m v d k } in
       cut_borne t p is at m v d wakes (0, omega arith, refl) (fit_at cluster n run x.fit t p is).1 (file_at cluster n run x.fit t p is) (all at m wakes.member) k (λ z i. i)
+  moved_borne t g _ _ is (group.migrates at v m o) told all = migration_borne m v o.value (all at m o.member).values
+  moved_borne t g _ _ is (group.migrates_cut at v k m o) told all =
+      let place : suc k ≡ k + 1 = omega arith in
+      subst (λ (j : ℕ). Every (IsBorne H cluster log) (take j (migration v))) place (migration_cut_borne m v k o.value (all at m o.member).values)
 
   -- what it puts out is of what it writes
   moved_outputs : (g : Group) (move : Move) (moved : Moved) → Moves g move moved → Every (IsBorne H cluster log) moved.script → Every (IsTrueOutput H cluster log) moved.outputs
@@ -478,6 +499,8 @@ module _ (cluster n : ℕ) (u : Setup) (run : List Played) (x : IsFollowed clust
   moved_outputs g _ _ (group.crashes at m there) h = tt
   moved_outputs g _ _ (group.recovers at v d m wakes) h = outputs_told H cluster log (opening_script v d) h
   moved_outputs g _ _ (group.recovers_cut at v d k m wakes) h = tt
+  moved_outputs g _ _ (group.migrates at v m o) h = tt
+  moved_outputs g _ _ (group.migrates_cut at v k m o) h = tt
 
   sent_by : (g : Group) (move : Move) (moved : Moved) → Moves g move moved → moved.group.sent ≡ g.sent ++ messages moved.outputs
   sent_by g _ _ (group.steps at arrival e d m r runs came) = refl
@@ -485,6 +508,8 @@ module _ (cluster n : ℕ) (u : Setup) (run : List Played) (x : IsFollowed clust
   sent_by g _ _ (group.crashes at m there) = refl
   sent_by g _ _ (group.recovers at v d m wakes) = refl
   sent_by g _ _ (group.recovers_cut at v d k m wakes) = refl
+  sent_by g _ _ (group.migrates at v m o) = refl
+  sent_by g _ _ (group.migrates_cut at v k m o) = refl
 
   moved_told : (t : ℕ) (g : Group) (move : Move) (moved : Moved) → slice_get run t ≡ Some (record { before = g; move = move; moved = moved }) → Moves g move moved → AllTold g → AllStand g → AllTold moved.group
   moved_told t g move moved is moves told all =

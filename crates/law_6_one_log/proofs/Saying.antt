@@ -62,6 +62,8 @@ from_so c g _ _ fit placed (group.crashes at m there) s j = absurd j
 from_so c g _ _ fit placed (group.recovers at v d m o) s j =
     sent_from (λ to view. ⊥) (blank v) (record { replica = (resumed v d).replica; script = opening_script v d }) s (opening_present v d (opening_of c g at m v fit o.member o.value)) j
 from_so c g _ _ fit placed (group.recovers_cut at v d k m o) s j = absurd j
+from_so c g _ _ fit placed (group.migrates at v m o) s j = absurd j
+from_so c g _ _ fit placed (group.migrates_cut at v k m o) s j = absurd j
 
 -- ---- commit lines
 
@@ -87,7 +89,7 @@ line_hashed run c g _ _ there fit h file (group.steps at a e d m r runs i) l j =
     let f = is.running r runs.running in
     let x = stepped e r d in
     let came = arrives c g at a e fit h.0 i in
-    let taken = member_taken c g.n at is.edition m.last d x.script is.last (file m runs.member) (step_is c g.n at is.edition r e d f.0 f.1 came h.1).known in
+    let taken = member_taken c g.n at m.last d x.script is.last.0 (file m runs.member) (step_is c g.n at m.last.fields.version r e d f.0 f.1 came h.1).known in
     let o = (come_in_order lying r d e lies_fit.names f.0.sound came).read l j in
     read_hashed run c (record { before = g; move = group.Steps at a e d; moved = group.finished g at m x }) there d o.first o.rest o.slot l.entry (one_disk d) o.are (taken_front d.version o.first o.rest (subst (All (IsTaken d.version)) (sym o.are) taken)) o.within o.reads
 line_hashed run c g _ _ there fit h file (group.cuts at a e d k m r runs i) l j = absurd j
@@ -98,7 +100,7 @@ line_hashed run c g _ _ there fit h file (group.recovers at v d m o) l j =
     let is = fit.members at m o.member in
     let value = good_value c g.n at m v is o.value in
     let opens = opening_of c g at m v fit o.member o.value in
-    let taken = member_taken c g.n at is.edition v d (opening_script v d) value file (start_is c g.n at is.edition v d value h).known in
+    let taken = member_taken c g.n at v d (opening_script v d) opens file (start_is c g.n at v.fields.version v d value h).known in
     elim (in_either (outputs xs) (outputs ys) (output.Commit l) (subst (λ (os : List Output). In (output.Commit l) os) (outputs_append xs ys) j)) [
       | inl a ↦ absurd (every_in IsOther (outputs xs) (output.Commit l) a ((quiet_mending v).every lying (blank v) d).said)
       | inr b ↦
@@ -108,6 +110,8 @@ line_hashed run c g _ _ there fit h file (group.recovers at v d m o) l j =
           (taken_front d.version (xs ++ q.first) q.rest (subst (All (IsTaken d.version)) (sym parts) taken)) q.within (ap (λ (z : Lying). lying.entry z q.slot) (after_append lying d xs q.first) ∙ q.reads)
     ]
 line_hashed run c g _ _ there fit h file (group.recovers_cut at v d k m o) l j = absurd j
+line_hashed run c g _ _ there fit h file (group.migrates at v m o) l j = absurd j
+line_hashed run c g _ _ there fit h file (group.migrates_cut at v k m o) l j = absurd j
 
 -- ---- choose lines
 
@@ -129,3 +133,5 @@ choice_so u chosen g _ _ size fit h (group.cuts at a e d k m r runs i) well l j 
 choice_so u chosen g _ _ size fit h (group.crashes at m there) well l j = absurd j
 choice_so u chosen g _ _ size fit h (group.recovers at v d m o) well l j = absurd (chooses_nothing v d l (in_contains (output.Choose l) (outputs (opening_script v d)) j))
 choice_so u chosen g _ _ size fit h (group.recovers_cut at v d k m o) well l j = absurd j
+choice_so u chosen g _ _ size fit h (group.migrates at v m o) well l j = absurd j
+choice_so u chosen g _ _ size fit h (group.migrates_cut at v k m o) well l j = absurd j

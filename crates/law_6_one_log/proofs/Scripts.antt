@@ -72,7 +72,7 @@ put_sealed made address block a s = seals_append made (writes (block_place addre
 module _ (made : List Header) where
   -- ---- an effect
 
-  save_sealed : (old new : SuperValue) (f : Face) → IsRight made old → IsRight made new → AreSealed made (mend_calls old f ++ save_from 0 4 (copy_bytes new))
+  pub save_sealed : (old new : SuperValue) (f : Face) → IsRight made old → IsRight made new → AreSealed made (mend_calls old f ++ save_from 0 4 (copy_bytes new))
   save_sealed old new f a b =
       seals_append made (mend_calls old f) (save_from 0 4 (copy_bytes new)) (mend_sealed made old a.0 (copy_are old a.0) a.1 f) (saves_sealed made new b.0 (copy_are new b.0) b.1 4 0 (omega arith))
 

@@ -70,6 +70,8 @@ moves_arrive g _ _ (group.cuts at a e d k m r runs i) = tt
 moves_arrive g _ _ (group.crashes at m there) = tt
 moves_arrive g _ _ (group.recovers at v d m o) = tt
 moves_arrive g _ _ (group.recovers_cut at v d k m o) = tt
+moves_arrive g _ _ (group.migrates at v m o) = tt
+moves_arrive g _ _ (group.migrates_cut at v k m o) = tt
 
 module _ (cluster n : ℕ) (u : Setup) (run : List Played) (x : IsFollowed cluster n u run) (bridges : (t : ℕ) (p : Played) → slice_get run t ≡ Some p → Bridges u p.before (x.group t)) where
   mine : (t : ℕ) (p : Played) → slice_get run t ≡ Some p → IsFitGroup u.cluster p.before

@@ -1,12 +1,12 @@
 -- A line of a schedule leaves sealed what was sealed.
-use Rattle.std.proofs.Common.{ℕ, zero, suc, ◌+◌, ◌-◌, ◌<◌, ◌≤◌, ◌≡◌, inl, inr, arith, refl, sym, ap, ◌∙◌, subst, true, false, cond, List, [], ◌++◌, length, set, Option, Some, None}
-use Rattle.std.specs.Prelude.{◌%◌, nat_le, slice_get}
+use Rattle.std.proofs.Common.{ℕ, zero, suc, ◌+◌, ◌-◌, ◌<◌, ◌≤◌, ◌≡◌, inl, inr, arith, refl, sym, ap, ◌∙◌, subst, Bool, true, false, cond, List, [], ◌∷◌, ◌++◌, length, set, Option, Some, None}
+use Rattle.std.specs.Prelude.{◌%◌, ◌^◌, ◌==◌, nat_le, nat_lt, slice_get}
 use Rattle.std.specs.List.{AllByRecursion}
 use Rattle.std.specs.Option.{option_and_then, option_map, option_map_or}
-use Rattle.std.proofs.lemmas.Bool.{cases_eq, leb-true}
+use Rattle.std.proofs.lemmas.Bool.{cases_eq, eqb-true, leb-true}
 use Rattle.std.proofs.lemmas.List.{append-nil}
 use Rattle.vr_base.specs.Bytes.{IsBytes}
-use Rattle.vr_disk.specs.DiskState.{Face, Fuse, IsFace}
+use Rattle.vr_disk.specs.DiskState.{Face, Fuse, IsFace, after_all}
 use Rattle.vr_disk.proofs.Faces.{face_after_all}
 use Rattle.vr_header.specs.declared.header.Header.{Header}
 use Rattle.vr_msg.specs.declared.event.Event.{Event}
@@ -14,21 +14,24 @@ use Rattle.vr_msg.specs.declared.event.Event.TheVariants as event
 use Rattle.vr_msg.specs.declared.frame.Frame.{Frame}
 use Rattle.vr_msg.specs.declared.frame.Frame.TheVariants as frame
 use Rattle.vr_msg.specs.declared.output.Sent.{Sent}
+use Rattle.vr_msg.specs.declared.request.RequestFields.{RequestFields}
 use Rattle.vr_lie.specs.Copies.{IsGood, SuperValue}
-use Rattle.vr_lie.specs.Calls.{mend_calls}
+use Rattle.vr_lie.specs.Calls.{mend_calls, write_calls}
 use Rattle.vr_lie.specs.declared.fault.Fault.{Fault}
 use Rattle.vr_lie.specs.Faults.{IsFault, faulted}
-use Rattle.law_3_outputs.specs.Replica.{Replica}
+use Rattle.law_3_outputs.specs.Replica.{Replica, version}
+use Rattle.law_3_outputs.specs.Fit.{IsAsked}
 use Rattle.law_3_outputs.specs.Rules.{react}
 use Rattle.law_3_outputs.specs.Opening.{opened}
 use Rattle.law_3_outputs.specs.Steps.{Effect, Mend, Step, outputs}
 use Rattle.law_3_outputs.specs.Sectors.{script_calls}
 use Rattle.law_3_outputs.specs.Lying.{Lying, hazards, keeps_premise, lied_to, lying, unless_kept_out}
+use Rattle.law_3_outputs.specs.Migrating.{migrated, migration_calls, slot_calls}
 use Rattle.law_3_outputs.specs.World as world
-use Rattle.law_3_outputs.specs.World.{Acted, Happening, World, Begins, Asks, Arrives, Ticks, Stops, Starts, Fuses, Lies, acts, at_member, delivered, halted, handles, happens, nothing, stays, went, went_or_halted, with_member}
+use Rattle.law_3_outputs.specs.World.{Acted, Happening, World, Begins, Asks, AsksInVersion, Arrives, Ticks, Stops, Starts, Migrates, Fuses, Lies, acts, at_member, delivered, halted, handles, happens, if_first, in_version, migrated_or_halted, migrated_with, migration_halted, movable_by, nothing, stays, went, went_or_halted, with_member}
 use Rattle.law_3_outputs.specs.Outputs.{messages}
 use Rattle.law_3_outputs.specs.Group as group
-use Rattle.law_3_outputs.specs.Group.{Arrival, Asked, Group, IsArrival, Message, Time, made_in, mended, opening_script, resumed}
+use Rattle.law_3_outputs.specs.Group.{Arrival, Asked, Group, IsArrival, Message, Time, made_in, mended, migration, opening_script, resumed}
 use Rattle.law_3_outputs.specs.GroupFit.{IsFitArrival, IsFitGroup}
 use Rattle.law_3_outputs.specs.Own.{IsAt}
 use Rattle.law_3_outputs.proofs.FitLies.{lies_fit}
@@ -37,20 +40,23 @@ use Rattle.law_3_outputs.proofs.Slots.{value_is}
 use Rattle.law_1_machine.specs.Basics.{In}
 use Rattle.law_4_disks.specs.Beside.{AreMade, IsOff, MayGo}
 use Rattle.law_4_disks.specs.Stocks.{IsGiven, IsGivenEvent, IsStockedGroup, WritesBlocks}
-use Rattle.law_4_disks.specs.Worlds.{AreBeside, IsLine, IsUnforged, Stands, begun_by, begun_in, begun_of, handling, opening_as, starting, starting_by, stepping}
-use Rattle.law_4_disks.proofs.Calls.{mend_are}
-use Rattle.law_4_disks.proofs.Lines.{get_both, other_place, outputs_given, own_place, some_member, step_well}
-use Rattle.law_4_disks.proofs.Matched.{blocks_both, mending_blocks, opened_as, opens_group, start_well, whole}
+use Rattle.law_4_disks.specs.Naming.{mended_on}
+use Rattle.law_4_disks.specs.Worlds.{AreBeside, IsLine, IsUnforged, Migration, Stands, asking, begun_by, begun_in, begun_of, handling, moved_by, moved_of, opening_as, starting, starting_by, stepping}
+use Rattle.law_4_disks.proofs.Calls.{copy_are, mend_are}
+use Rattle.law_4_disks.proofs.Lines.{asked_in, asking_as, get_both, other_place, outputs_given, own_place, some_member, step_well}
+use Rattle.law_4_disks.proofs.Matched.{blocks_both, mending_blocks, moving, new_good, opened_as, opens_as, opens_group, start_well, whole}
 use Rattle.law_4_disks.proofs.Starts.{begun_all}
 use Rattle.law_4_disks.proofs.StockingRules.{ReadsOn, b_resuming, gives_read}
 use Rattle.law_5_seals.specs.Seals.{HasSectors, IsSealed, spelled_from}
-use Rattle.law_5_seals.proofs.Contents.{has_after_all, has_fault, has_weaker}
+use Rattle.law_5_seals.proofs.Contents.{has_after_all, has_cut, has_fault, has_weaker}
+use Rattle.law_5_seals.proofs.Moving.{moves_are_sealed}
+use Rattle.law_5_seals.proofs.Sectors.{mend_sealed, seals_append}
 use Rattle.law_5_seals.proofs.Turning.{sealed_more, turned_sealed}
 use Rattle.law_6_one_log.specs.Bridged.{IsBridged, IsSealedBlock}
 use Rattle.law_6_one_log.specs.Schedules.{IsSealedWorld, room}
 use Rattle.law_6_one_log.proofs.Begun.{begun_sealed, begun_some, block_more, named_more}
 use Rattle.law_6_one_log.proofs.Readings.{block_sealed, found_made}
-use Rattle.law_6_one_log.proofs.Scripts.{IsRight, Seals, cut_sealed, effect_sealed, script_sealed}
+use Rattle.law_6_one_log.proofs.Scripts.{AreSealed, IsRight, Seals, cut_sealed, effect_sealed, save_sealed, script_sealed}
 use Rattle.law_6_one_log.proofs.Sessions.{ComesOfEntries}
 use Rattle.law_6_one_log.proofs.UnforgedValues.{in_left, last_named, may_open_named, may_open_short, start_saves, step_saves}
 
@@ -232,7 +238,7 @@ module _ {home : ℕ} (w : World Lying) (g : Group) (b : AreBeside w g) (fits : 
       let face = on.calm.face in
       let is = fits.members i q there in
       let running = is.running r (stands.replica ∙ run) in
-      let place : IsAt home g.n i d.version r = subst (λ (k : ℕ). IsAt home g.n i k r) (sym (on.file ∙ is.last.1.version)) running.1 in
+      let place : IsAt home g.n i d.version r = subst (λ (k : ℕ). IsAt home g.n i k r) (sym on.file) running.1 in
       let gives = gives_read {Q = IsSealedBlock g.made} g.n i d.version r d h.at running.0.sound place e are given h.known in
       let saves = step_saves g bridged fits i q there d (lies_fit.reads d face) arrival e r (stands.replica ∙ run) arrives fit in
       let split = begun_some m.fuse x.script d in
@@ -246,6 +252,17 @@ module _ {home : ℕ} (w : World Lying) (g : Group) (b : AreBeside w g) (fits : 
   unfolding messages
   handle_sealed arrival e None run arrives fit given plain = begun_none w g.made s i m at (with_member w i (stays m)).world (stay_sealed w g.made s i m at (stays m) refl refl)
   handle_sealed arrival e (Some r) run arrives fit given plain = step_sealed arrival e r run arrives fit given plain
+
+  -- a request that is made in the version of the replica
+  ask_sealed : (x : RequestFields) → IsAsked x → x.cluster < 2 ^ 64 → (o : Option Replica) → m.replica ≡ o
+      → (let bs = begun_of (option_map (asking_as x m) o) in AllByRecursion ComesOfEntries bs → IsSealedWorld (with_member w i (world.asked_by hazards x i m o)).world (g.made ++ made_in bs))
+  unfolding messages
+  ask_sealed x asked room None run plain = begun_none w g.made s i m at (with_member w i (stays m)).world (stay_sealed w g.made s i m at (stays m) refl refl)
+  ask_sealed x asked room (Some r) run plain =
+      let known = (fits.members i q there).last.0.numbers.version.1 in
+      let few : version r ≤ 2 = subst (λ (v : SuperValue). v.fields.version ≤ 2) (sym (stands.running r run).1) known in
+      let y = in_version (version r) x in
+      step_sealed (Asked y) (event.Request y) r run (asked_in (version r) x few asked, refl) room tt plain
 
   -- ---- an opening
 
@@ -297,6 +314,84 @@ module _ {home : ℕ} (w : World Lying) (g : Group) (b : AreBeside w g) (fits : 
       λ o e. subst (λ (o : Option Step). AllByRecursion ComesOfEntries (begun_of (option_map (opening_as m) o)) → IsSealedWorld (with_member w i (option_map_or (acts hazards i m) o (stays m))).world (g.made ++ made_in (begun_of (option_map (opening_as m) o)))) e (start_sealed v run y.1) in
       all (opened lying m.disk) (sym opens_as) plain
 
+  -- ---- a migration
+
+  module _ (v : SuperValue) (run : m.replica ≡ None) (o : IsOff m.disk q v) (first : v.fields.version ≡ 1) where
+    abbrev new : SuperValue
+    new = migrated v
+
+    right : IsRight g.made v
+    right = (off_right v o).0
+
+    right_new : IsRight g.made new
+    right_new = (new_good w g i m q b fits stock at there stands v run o first, right.1)
+
+    -- once it is mended, and once its prepares are written at their new places
+    mend_seals : AreSealed g.made (mend_calls v m.disk.face)
+    mend_seals = mend_sealed g.made v right.0 (copy_are v right.0) right.1 m.disk.face
+
+    abbrev mid : Face
+    mid = (mended_on v m.disk).face
+
+    mid_sealed : HasSectors (IsSealed g.made) mid
+    mid_sealed = has_after_all (IsSealed g.made) (mend_calls v m.disk.face) m.disk.face disk_sealed mend_seals
+
+    later_seals : AreSealed g.made (slot_calls mid ++ write_calls v new (after_all mid (slot_calls mid)))
+    later_seals =
+        let ds = slot_calls mid in
+        let f = after_all mid ds in
+        seals_append g.made ds (write_calls v new f) (moves_are_sealed g.made mid mid_sealed) (save_sealed g.made v new f right right_new)
+
+    -- all that it writes is sealed
+    migration_seals : AreSealed g.made (migration_calls v m.disk.face)
+    migration_seals =
+        let later = slot_calls mid ++ write_calls v new (after_all mid (slot_calls mid)) in
+        let rest : (t : Bool) → AreSealed g.made (cond t [] later) = elim [ true ↦ tt | false ↦ later_seals ] in
+        seals_append g.made (mend_calls v m.disk.face) (cond (v.fields.version == 2) [] later) mend_seals (rest (v.fields.version == 2))
+
+    moved_sealed : (fuse : Option Fuse) → IsSealedWorld (with_member w i (migrated_with hazards i m v fuse)).world g.made
+    unfolding messages
+    moved_sealed fuse =
+        world_set w g.made g.made (λ h x. x) s i m (migrated_with hazards i m v fuse) at (has_after_all (IsSealed g.made) (migration_calls v m.disk.face) m.disk.face disk_sealed migration_seals) (no_message g.made)
+
+    moved_halted : (u : Fuse) → IsSealedWorld (with_member w i (migration_halted hazards i m v u)).world g.made
+    unfolding messages
+    moved_halted u =
+        world_set w g.made g.made (λ h x. x) s i m (migration_halted hazards i m v u) at (has_cut (IsSealed g.made) (turned_sealed g.made) (migration_calls v m.disk.face) m.disk.face u.calls u.code disk_sealed migration_seals) (no_message g.made)
+
+    moves_by : (fuse : Option Fuse) → IsSealedWorld (with_member w i (migrated_or_halted hazards i m v fuse)).world g.made
+    moves_by None = moved_sealed None
+    moves_by (Some u) =
+        let made = length (migration_calls v m.disk.face) in
+        let rest : Fuse = record { calls = u.calls - made; code = u.code } in
+        elim (nat_le made u.calls) as (λ t. IsSealedWorld (with_member w i (cond t (migrated_with hazards i m v (Some rest)) (migration_halted hazards i m v u))).world g.made) [
+          | true ↦ moved_sealed (Some rest)
+          | false ↦ moved_halted u
+        ]
+
+  -- a migration makes no entry
+  made_none : (fuse : Option Fuse) (k : Migration) → made_in (moved_by fuse k) ≡ []
+  unfolding made_in
+  made_none None k = refl
+  made_none (Some u) k = elim (nat_lt u.calls (length (mend_calls k.value k.host.disk.face))) as (λ t. made_in (cond t (Mend k.value ∷ []) (migration k.value)) ≡ []) [ true ↦ refl | false ↦ refl ]
+
+  abbrev MovesSealed : Option SuperValue → Type 0
+  MovesSealed o = IsSealedWorld (with_member w i (option_map_or (λ v. migrated_or_halted hazards i m v m.fuse) o (stays m))).world (g.made ++ made_in (moved_of (option_map (moving m) o)))
+
+  migrate_sealed : (o : Option Replica) → m.replica ≡ o → MovesSealed (movable_by hazards m o)
+  unfolding messages
+  migrate_sealed (Some r) run = begun_none w g.made s i m at (with_member w i (stays m)).world (stay_sealed w g.made s i m at (stays m) refl refl)
+  migrate_sealed None run =
+      let y = stands.stopped run in
+      let v = y.0 in
+      let opens : movable_by hazards m None ≡ if_first v = ap (option_and_then if_first) (opens_as w g i m q b fits stock at there stands v y.1) in
+      let by : (t : Bool) → (v.fields.version == 1) ≡ t → MovesSealed (cond t (Some v) None) = elim [
+        | true ↦ λ t. (let all = with_member w i (migrated_or_halted hazards i m v m.fuse) in
+            subst (IsSealedWorld all.world) (sym (ap (λ (hs : List Header). g.made ++ hs) (made_none m.fuse (moving m v)) ∙ append-nil g.made)) (moves_by v run y.1 (eqb-true v.fields.version 1 t) m.fuse))
+        | false ↦ λ t. begun_none w g.made s i m at (with_member w i (stays m)).world (stay_sealed w g.made s i m at (stays m) refl refl)
+      ] in
+      subst MovesSealed (sym opens) (by (v.fields.version == 1) refl)
+
   -- ---- a fault
 
   fault_sealed : (x : Fault) → IsFault x → IsSealedWorld (with_member w i (world.lied m (unless_kept_out m.disk x))).world g.made
@@ -347,10 +442,15 @@ module _ {home : ℕ} (w : World Lying) (g : Group) (b : AreBeside w g) (fits : 
   unfolding messages
   line_leaves (Begins kind n) line = absurd line
   line_leaves (Asks i r) line = event_leaves i (Asked r) (event.Request r) (line.0, refl) line.1 tt
+  line_leaves (AsksInVersion i r) line =
+      at_line i (world.asks hazards r) (λ (o : Option (world.Host Lying)). begun_of (option_and_then (asking r) o)) refl (λ m q at there y. ask_sealed w g b fits stock bridged low s i m q at there y r line.0 line.1 m.replica refl)
   line_leaves (Arrives x) line = arrive_leaves (x % length w.sent) (slice_get w.sent (x % length w.sent)) refl
   line_leaves (Ticks i) line = event_leaves i Time event.Tick refl tt tt
   line_leaves (Stops i) line = same_leaves i world.stops (λ m. (refl, refl))
   line_leaves (Starts i) line = at_line i (world.starts hazards) (λ (o : Option (world.Host Lying)). begun_of (option_and_then starting o)) refl (λ m q at there y. begin_sealed w g b fits stock bridged low s i m q at there y m.replica refl)
+  line_leaves (Migrates i) line =
+      at_line i (world.migrates hazards) (λ (o : Option (world.Host Lying)). moved_of (option_and_then (λ (m : world.Host Lying). option_map (moving m) (world.movable hazards m)) o)) refl
+      (λ m q at there y plain. migrate_sealed w g b fits stock bridged low s i m q at there y m.replica refl)
   line_leaves (Fuses i c code) line = same_leaves i (world.fused c code) (λ m. (refl, refl))
   line_leaves (Lies i x) line =
       at_line i (world.lies hazards x) (λ o. []) refl (λ m q at there y plain. begun_none w g.made s i m at (with_member w i (world.lies hazards x i m)).world (fault_sealed w g b fits stock bridged low s i m q at there y x line))
@@ -368,8 +468,10 @@ module _ {home : ℕ} (w : World Lying) (g : Group) (b : AreBeside w g) (fits : 
       subst (λ (v : SuperValue). AreMade g.made v (lying.after m.disk (Mend v))) same (off_unforged w g b fits stock bridged low s i m y.0 at y.1 y.2 o.0 o.1)
   line_unforged (Begins kind n) = tt
   line_unforged (Asks i r) = tt
+  line_unforged (AsksInVersion i r) = tt
   line_unforged (Arrives x) = tt
   line_unforged (Ticks i) = tt
   line_unforged (Stops i) = tt
+  line_unforged (Migrates i) = tt
   line_unforged (Fuses i c code) = tt
   line_unforged (Lies i x) = tt

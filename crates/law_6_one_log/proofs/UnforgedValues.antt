@@ -43,6 +43,8 @@ moved_made g x y (Moves.cuts i a e d n m r runs arrives) = refl
 moved_made g x y (Moves.crashes i m at) = refl
 moved_made g x y (Moves.recovers i v d m opens) = refl
 moved_made g x y (Moves.recovers_cut i v d n m opens) = refl
+moved_made g x y (Moves.migrates i v m opens) = refl
+moved_made g x y (Moves.migrates_cut i v n m opens) = refl
 
 pub bridged_fresh : (kinds : ℕ → Kind) (home n : ℕ) → AreKinds kinds n → home < 2 ^ 64 → 1 ≤ n → n ≤ 6 → (b : IsBridged home (fresh_group kinds home n)) × (length b.machine.made ≡ 0)
 bridged_fresh kinds home n k room a b =

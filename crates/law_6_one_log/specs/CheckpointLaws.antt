@@ -38,6 +38,6 @@ pub record HasOneCheckpoint (run : List Played) : Type 0 where
   pub named : (cluster : ℕ) (texts : Texts) (table : PayloadTable) (old value : SuperValue) → IsWrittenIn run (Checkpoint cluster texts value.fields.checkpoint table) → IsWrittenIn run (Save old value) → 0 < value.fields.checkpoint
       → root_of_value value ≡ (saved_checkpoint cluster texts value.fields.checkpoint table).root
 
--- 1 to 6 replicas, whatever is delivered, stopped, cut, started and read, where what moves read has the forms of the program
+-- 1 to 6 replicas, whatever is delivered, stopped, cut, started, migrated and read, where what moves read has the forms of the program
 abbrev pub CheckpointsAreOne : Type 0
 CheckpointsAreOne = (cluster n : ℕ) (run : List Played) → IsFitRun cluster n run → NoCollision (IsHashed run (root_header cluster)) → HasOneCheckpoint run

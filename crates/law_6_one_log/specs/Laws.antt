@@ -27,7 +27,7 @@ use Rattle.law_3_outputs.specs.Answering.{HasState}
 use Rattle.law_3_outputs.specs.Followed.{IsFitRun}
 use Rattle.law_6_one_log.specs.Outputs.{IsCutByNacks, IsOnceInSession, RestsOn, counts_in}
 
--- 1 to 6 replicas, whatever is delivered, stopped, cut, started and read, where what moves read has the forms of the program
+-- 1 to 6 replicas, whatever is delivered, stopped, cut, started, migrated and read, where what moves read has the forms of the program
 abbrev pub RunsAreSafe : Type 0
 RunsAreSafe = (cluster n : ℕ) (run : List Played) → IsFitRun cluster n run → Safe cluster n run
 

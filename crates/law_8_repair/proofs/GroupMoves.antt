@@ -52,6 +52,8 @@ moves_up c g _ _ h u k (group.recovers at v d m o) =
     let up : KeepsUp (opening v lying (blank v) d).replica = openings_keep_up lying d v (headers_of lying d k) good.0 in
     one_up g at _ u (λ q same. runs_up (resumed v d).replica q (subst (λ (x : Step). KeepsUp x.replica) (opening_in_two v d) up) same)
 moves_up c g _ _ h u k (group.recovers_cut at v d j m o) = one_up g at _ u (λ q same. stopped_up q same)
+moves_up c g _ _ h u k (group.migrates at v m o) = one_up g at _ u (λ q same. stopped_up q same)
+moves_up c g _ _ h u k (group.migrates_cut at v j m o) = one_up g at _ u (λ q same. stopped_up q same)
 
 -- ---- runs
 

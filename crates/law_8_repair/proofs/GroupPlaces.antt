@@ -112,6 +112,8 @@ moves_given g _ _ h b (group.recovers at v d m o) =
     let mute : AllByRecursion (Gives IsBytes) (opening_script v d) = subst (λ (x : Step). AllByRecursion (Gives IsBytes) x.script) (opening_in_two v d) (word.every lying (blank v) d) in
     more_given g (outputs (opening_script v d)) h (script_given (opening_script v d) mute)
 moves_given g _ _ h b (group.recovers_cut at v d j m o) = more_given g [] h (none_sent IsBytes)
+moves_given g _ _ h b (group.migrates at v m o) = more_given g [] h (none_sent IsBytes)
+moves_given g _ _ h b (group.migrates_cut at v j m o) = more_given g [] h (none_sent IsBytes)
 
 -- ---- moves
 
@@ -142,6 +144,8 @@ moves_placed c g _ _ h u w k b (group.recovers at v d m o) =
     let placed : StaysInPlace (opening v lying (blank v) d).replica = lying_places.openings d v b good.0 in
     one_placed g at _ u (λ q same. runs_placed (resumed v d).replica q (subst (λ (x : Step). StaysInPlace x.replica) (opening_in_two v d) placed) same)
 moves_placed c g _ _ h u w k b (group.recovers_cut at v d j m o) = one_placed g at _ u (λ q same. stopped_placed q same)
+moves_placed c g _ _ h u w k b (group.migrates at v m o) = one_placed g at _ u (λ q same. stopped_placed q same)
+moves_placed c g _ _ h u w k b (group.migrates_cut at v j m o) = one_placed g at _ u (λ q same. stopped_placed q same)
 
 -- ---- what visits find
 

@@ -10,7 +10,7 @@ use Rattle.vr_lie.specs.Held.{looked}
 use Rattle.vr_lie.specs.Opens.{mode_in}
 use Rattle.vr_mem.specs.Seen as mem
 use Rattle.vr_mem.specs.Seen.{copies}
-use Rattle.vr_world.specs.Lying.{Lying, blank_lying, each_slot, keeps_premise, lied_to, unless_kept_out, zero_face}
+use Rattle.vr_world.specs.Lying.{Lying, blank_lying, each_slot, in_edition, keeps_premise, lied_to, unless_kept_out, zero_face}
 use Rattle.vr_world.proofs.Premises.{premise, premise_so}
 use Rattle.vr_lying.specs.Told.{lying_in, slots}
 use Rattle.vr_lying.proofs.Runs.{rows_are, with_held}
@@ -94,6 +94,12 @@ fault_kept_out ver d old x never =
       | true ↦ λ e. absurd (never (premise l g e))
       | false ↦ λ e. refl
     ] refl
+
+-- ---- a file of another version
+
+pub told_later : (ver v later : ℕ) (d e : Disk) (old new : List (Option (List ℕ))) → later ≡ v → e ≡ d → length new ≡ 64 → HeldLooked v d.face old new → lying_in later (with_table later e new) ≡ in_edition v (lying_in ver (with_table ver d old))
+told_later ver v later d e old new is same n h =
+    ap (λ k. with_held k e.face new) is ∙ ap (λ (e : Disk). with_held v e.face new) same ∙ ap (with_held v d.face) (rows_are new (λ slot. looked v d.face slot (held_at old slot)) n h.each)
 
 -- ---- a disk of zeros
 
