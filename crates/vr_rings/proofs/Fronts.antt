@@ -1,9 +1,9 @@
 -- The front of a prepare, behind which zeros stand.
-use Rattle.std.proofs.Common.{ℕ, Bool, ◌*◌, ◌+◌, ◌-◌, ◌<◌, ◌≤◌, ◌≡◌, arith, refl, sym, ap, ◌∙◌, true, false, cond, ◌&&◌, ◌==◌, List, ◌++◌, length, take, drop, Option, Some, None, length-append}
+use Rattle.std.proofs.Common.{ℕ, Bool, ◌*◌, ◌+◌, ◌-◌, ◌<◌, ◌≤◌, ◌≡◌, arith, refl, sym, ap, ◌∙◌, true, false, cond, ◌&&◌, ◌==◌, List, ◌++◌, length, take, drop, Option, Some, None, append_assoc, length-append}
 use Rattle.std.specs.Prelude.{IfSome, min, replicate}
 use Rattle.std.specs.Option.{option_map}
 use Rattle.std.specs.Int.{from_be_bytes, w32}
-use Rattle.std.proofs.lemmas.List.{append-nil, drop-append-le, drop-replicate, drop_at, length-drop, length-replicate, take-append-le, take-replicate, take_at}
+use Rattle.std.proofs.lemmas.List.{append-nil, drop-append-le, drop-replicate, drop_at, length-drop, length-replicate, replicate-append-replicate, take-append-le, take-replicate, take_at}
 use Rattle.std.proofs.lemmas.List.Folds.{list_all-append}
 use Rattle.vr_base.specs.Bytes.{IsBytes, is_zeros, number, piece}
 use Rattle.vr_base.proofs.AreBytes.{IsBytes-append, IsBytes-zeros}
@@ -125,21 +125,28 @@ front_prepare n e bytes w l m q =
 -- ---- a buffer that was filled
 
 -- a front, and zeros behind it
-pub filled_front : (old b zeros : List ℕ) → length b ≤ 4096 → zeros ≡ replicate (4096 - length b) 0 → take 4096 (with_bytes (with_bytes old 0 b) (length b) zeros) ≡ in_front b
+pub filled_front : (old b one two : List ℕ) (half : ℕ) → length b ≤ 4096 → half ≤ 4096 - length b → one ≡ replicate half 0 → two ≡ replicate (4096 - length b - half) 0
+    → take 4096 (with_bytes (with_bytes (with_bytes old 0 b) (length b) one) (length b + half) two) ≡ in_front b
 unfolding in_front
-filled_front old b zeros l z =
+filled_front old b one two half l m y z =
     let rest : List ℕ = drop (0 + length b) old in
-    let past : List ℕ = drop (length b + length zeros) (b ++ rest) in
-    let k : length zeros ≡ 4096 - length b = ap length z ∙ length-replicate {A = ℕ} (4096 - length b) 0 in
-    let a = length-append b zeros in
-    let n : length (b ++ zeros) ≡ 4096 = omega (arith, a, k, l) in
-    let front : take (length b) (b ++ rest) ≡ b = take_at b rest (length b) refl in
-    let whole : with_bytes (with_bytes old 0 b) (length b) zeros ≡ b ++ zeros ++ past = ap (λ x. x ++ zeros ++ past) front in
-    let made : b ++ zeros ≡ in_front b = ap (λ x. b ++ x) z in
-    ap (take 4096) whole ∙ (take_at (b ++ zeros) past 4096 n ∙ made)
+    let past : List ℕ = drop (length b + length one) (b ++ rest) in
+    let last : List ℕ = drop (length b + half + length two) ((b ++ one) ++ past) in
+    let k : length one ≡ half = ap length y ∙ length-replicate {A = ℕ} half 0 in
+    let j : length two ≡ 4096 - length b - half = ap length z ∙ length-replicate {A = ℕ} (4096 - length b - half) 0 in
+    let a = length-append b one in
+    let c = length-append (b ++ one) two in
+    let first : take (length b) (b ++ rest) ≡ b = take_at b rest (length b) refl in
+    let once : with_bytes (with_bytes old 0 b) (length b) one ≡ (b ++ one) ++ past = ap (λ x. (x ++ one) ++ past) first in
+    let here : take (length b + half) ((b ++ one) ++ past) ≡ b ++ one = take_at (b ++ one) past (length b + half) (omega (arith, a, k)) in
+    let twice : with_bytes ((b ++ one) ++ past) (length b + half) two ≡ ((b ++ one) ++ two) ++ last = ap (λ x. (x ++ two) ++ last) here in
+    let n : length ((b ++ one) ++ two) ≡ 4096 = omega (arith, a, c, k, j, l, m) in
+    let zeros : one ++ two ≡ replicate (4096 - length b) 0 =
+    ap (λ x. x ++ two) y ∙ (ap (λ x. replicate half 0 ++ x) z ∙ (replicate-append-replicate half (4096 - length b - half) 0 ∙ ap (λ n. replicate {A = ℕ} n 0) (omega (arith, m)))) in
+    ap (λ x. take 4096 (with_bytes x (length b + half) two)) once ∙ (ap (take 4096) twice ∙ (take_at ((b ++ one) ++ two) last 4096 n ∙ (append_assoc b one two ∙ ap (λ x. b ++ x) zeros)))
 
-pub zeros_rest : (n : ℕ) (rest : List ℕ) → 2048 ≤ n → rest ≡ take (4096 - n) (replicate 2048 0) → rest ≡ replicate (4096 - n) 0
-zeros_rest n rest l e = e ∙ take-replicate (4096 - n) 2048 0 (omega (arith, l))
+pub zeros_some : (n : ℕ) (rest : List ℕ) → n ≤ 2048 → rest ≡ take n (replicate 2048 0) → rest ≡ replicate n 0
+zeros_some n rest l e = e ∙ take-replicate n 2048 0 l
 
 -- how many bytes a prepare has
 pub front_size : (ver : ℕ) (b : List ℕ) → length b ≡ 512 * prepare_sectors ver → (2048 ≤ length b) × (length b ≤ 4096)

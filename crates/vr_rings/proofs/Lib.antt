@@ -4,6 +4,7 @@ pub mod Fronts
 pub mod Lasting
 pub mod Leaving
 pub mod Moving
+pub mod Short
 pub mod Spelling
 pub mod Standing
 pub mod Stops
