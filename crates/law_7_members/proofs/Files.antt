@@ -21,7 +21,7 @@ use Rattle.vr_world.specs.Opening.{blank, opened, opening}
 use Rattle.vr_node.specs.Replica.{Replica, version}
 use Rattle.vr_node.specs.Rules.{react}
 use Rattle.vr_node.specs.Sectors.{script_calls, sectors_by}
-use Rattle.vr_world.specs.Steps.{Effect, Step, after_all, outputs}
+use Rattle.vr_world.specs.Steps.{Step, after_all, outputs}
 use Rattle.vr_world.specs.World as world
 use Rattle.vr_world.specs.World.{Acted, Happened, Happening, Host, World, Fuses, Lies, Migrates, Starts, Stops, acts, at_member, delivered, handles, happen, happens, if_first, lied, migrated_or_halted, migrates, movable, nothing, starts, stays, stops, with_member}
 use Rattle.vr_node.specs.Migrating.{migration_calls}
@@ -199,7 +199,7 @@ moves_as at fuse file v a o first e =
 
 move_is_cut : (at made code : ℕ) (file : Lying) (v : SuperValue) → made < length (migration_calls v file.face)
     → (let u : Fuse = record { calls = made; code = code } in let m : Host Lying = record { replica = None; disk = file; fuse = Some u } in
-      migrated_or_halted hazards at m v (Some u) ≡ record { member = on_file None (settled (cut_calls made code file (migration_calls v file.face))); outputs = output.Halted at ∷ [] })
+    migrated_or_halted hazards at m v (Some u) ≡ record { member = on_file None (settled (cut_calls made code file (migration_calls v file.face))); outputs = output.Halted at ∷ [] })
 move_is_cut at made code file v l =
     let u : Fuse = record { calls = made; code = code } in
     let m : Host Lying = record { replica = None; disk = file; fuse = Some u } in

@@ -13,7 +13,6 @@ use Rattle.vr_world.specs.Opening.{blank, first_value, fresh, mending}
 use Rattle.vr_node.specs.Sectors.{sectors_by}
 use Rattle.vr_world.specs.Steps.{Mend, Step}
 use Rattle.vr_world.specs.World.{Happened, Host, Starts, happen}
-use Rattle.vr_world.proofs.FitGroups.{good_value}
 use Rattle.law_4_disks.specs.Beside.{AreMade}
 use Rattle.law_4_disks.specs.Worlds.{IsMatched, first_host, first_world, left}
 use Rattle.law_4_disks.proofs.Fresh.{some_world}

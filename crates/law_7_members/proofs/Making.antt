@@ -302,7 +302,7 @@ makings_leave kind c d d' status.NoMemory u h = same_disk c d d' u h.1.is.1
 makings_leave kind c d d' status.DiskFault u h =
     let cs = making kind c in
     let ran = h.1.is.1 in
-    record { disk = (runs cs d).disk; told = ran.0; unfinished = whole.stopped kind d.face (runs cs d).disk.face (h.0.0, h.0.1.0) h.0.1.1 u (stops_are cs d (sym ran.1)) }
+    record { disk = (runs cs d).disk; told = ran.0; unfinished = whole.stopped kind d.face (runs cs d).disk.face (h.0.0, h.0.1) h.0.2 u (stops_are cs d (sym ran.1)) }
 makings_leave kind c d d' status.Done u h = absurd h
 makings_leave kind c d d' status.LinkFault u h = absurd h
 makings_leave kind c d d' status.WriteFault u h = absurd h
