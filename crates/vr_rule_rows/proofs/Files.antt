@@ -13,7 +13,7 @@ use Rattle.vr_super.specs.Calls.{copy_calls, save_from}
 use Rattle.vr_super.specs.Copies as super
 use Rattle.vr_rules.specs.Formatting.{format_calls, reserved_header}
 use Rattle.vr_rules.specs.Opening.{first_value}
-use Rattle.vr_world.specs.World.{Happening, Asks, Arrives, fresh_world, happen}
+use Rattle.vr_world.specs.World.{Happening, Asks, Arrives, Ticks, Stops, Starts, fresh_world, happen}
 use Rattle.vr_rule_rows.proofs.Plain.{after_fresh, hazards, lines}
 
 -- a strict file of this version
@@ -26,10 +26,15 @@ kind_of v = record { mode = Strict; version = v }
 abbrev asks_by : (version client request : ℕ) → Operation → Happening
 asks_by version client request operation = Asks 0 (record { version = version; cluster = 0; client = client; request = request; operation = operation })
 
--- the lines of a group of two, whose files are of this version
-unfoldable lines_on : ℕ → List Happening → List (List ℕ)
+-- the lines of a group of n, whose files are of this version
+unfoldable lines_of : (version n : ℕ) → List Happening → List (List ℕ)
 unfolding after_fresh
-lines_on v xs = lines 0 (happen hazards (fresh_world hazards (kind_of v) 2) xs).outputs
+lines_of v n xs = lines 0 (happen hazards (fresh_world hazards (kind_of v) n) xs).outputs
+
+-- of a group of two
+unfoldable lines_on : ℕ → List Happening → List (List ℕ)
+unfolding lines_of
+lines_on v xs = lines_of v 2 xs
 
 -- two clients ask, each in requests of another version, and the first two messages arrive: who asks in the files' version has a session
 abbrev both_ask : List Happening
@@ -74,6 +79,24 @@ thirty_three = refl
 sixty_five : first_two 2 65 ≡ codes "reply 0 client 1 request 1 evicted" ∷ codes "send 130 0 1 prepare view 0 op 66 made 0 commit 65" ∷ []
 unfolding lines_on
 sixty_five = refl
+
+-- ---- groups of one
+
+-- What is stored is committed at once. After a stop a tick chooses the log, and what was stored is committed again; the client that asks again is
+-- answered by what it had.
+alone : lines_of 2 1 (asks_by 2 7 0 Register ∷ Stops 0 ∷ Starts 0 ∷ Ticks 0 ∷ asks_by 2 7 0 Register ∷ asks_by 2 7 1 (Get (codes "a")) ∷ [])
+    ≡ codes "commit 0 op 1 view 0 client 7 request 0 register"
+    ∷ codes "reply 0 client 7 request 0 op 1 session"
+    ∷ codes "start 0 view 1 log_view 0 commit 0"
+    ∷ codes "choose 0 view 1 log 0 commit 0 head 1 own h"
+    ∷ codes "commit 0 op 1 view 0 client 7 request 0 register"
+    ∷ codes "reply 0 client 7 request 0 op 1 session"
+    ∷ codes "reply 0 client 7 request 0 op 1 session"
+    ∷ codes "commit 0 op 2 view 1 client 7 request 1 get a"
+    ∷ codes "reply 0 client 7 request 1 op 2 absent"
+    ∷ []
+unfolding lines_of
+alone = refl
 
 -- ---- what is written to a disk before a group begins
 
