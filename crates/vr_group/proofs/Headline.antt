@@ -2,7 +2,9 @@
 use Rattle.std.proofs.Common.{ℕ, ◌+◌, ◌^◌, ◌<◌, ◌≤◌, ◌≡◌, arith, subst, List, [], ◌∷◌, ◌++◌, length, take, take_all, get_or}
 use Rattle.std.specs.List.{AllByRecursion}
 use Rattle.std.proofs.lemmas.List.{length-map, take_more}
+use Rattle.vr_base.specs.Groups.{least_members}
 use Rattle.vr_base.specs.declared.kind.Kind.{Kind}
+use Rattle.vr_base.proofs.Members.{least_of}
 use Rattle.vr_lines.specs.Fits.{IsLineOf}
 use Rattle.vr_lines.specs.declared.line.Line.{Line}
 use Rattle.vr_lines.specs.declared.line.Line.TheVariants as line
@@ -35,11 +37,12 @@ unfolding AreLinesOf happenings
 lines_of version n [] some of asked = tt
 lines_of version n (l ∷ ls) some of asked = (line_of version n l some of.0 asked.0, lines_of version n ls some of.1 asked.1)
 
-pub lines_keep : (kind : Kind) (version n : ℕ) (ls : List Line) → IsKind kind → 2 ≤ n → n ≤ 6 → length ls < 2 ^ 60 → AreLinesOf version n ls → HaveAsked ls → LinesKeepOneLog kind n ls
+pub lines_keep : (kind : Kind) (version n : ℕ) (ls : List Line) → IsKind kind → least_members kind.version ≤ n → n ≤ 6 → length ls < 2 ^ 60 → AreLinesOf version n ls → HaveAsked ls → LinesKeepOneLog kind n ls
 unfolding happen happenings
 lines_keep kind version n ls is few many short of asked names =
     let size : length (happenings ls) ≡ length ls = length-map ls happening in
-    let m = schedules_are_runs kind n (happenings ls) is few many (rw size short) (record { lines = lines_of version n ls (omega (arith, few)) of asked; names = names }) in
+    let least = (least_of kind.version).0 in
+    let m = schedules_are_runs kind n (happenings ls) is few many (rw size short) (record { lines = lines_of version n ls (omega (arith, few, least)) of asked; names = names }) in
     keeps kind n is few many (one_log 0 n) (happen hazards (fresh_world hazards kind n) (happenings ls)) m.0 m.1
 
 -- ---- in the midst of lines, each of the first of which has asked

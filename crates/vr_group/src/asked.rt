@@ -1,20 +1,26 @@
 //! What clients ask.
-ghost use Rattle.std.specs.Prelude.{◌≡◌, ◌<◌, ◌^◌, IfOk, OnOk};
+ghost use Rattle.std.specs.Prelude.{◌≡◌, IfOk, max};
+ghost use Rattle.vr_lying.specs.World.{in_version};
 ghost use Rattle.vr_msg.specs.declared.event.Event.TheVariants as event;
-ghost use Rattle.vr_replica.specs.Fit.{IsAsked};
 
 use std::alloc::{AllocError, Global};
+use vr_base::Version;
 use vr_msg::{Event, Request, RequestFields};
 
-/// The event that a request is to its replica. It can be asked.
-pub fn asked(alloc: Global, request: &Request) -> Result<Event, AllocError>
-    ensures event { IfOk result (λ e. e ≡ event.Request request.now) }
-    ensures asked { OnOk result (IsAsked request.now) }
-    ensures cluster { OnOk result (request.now.cluster < 2 ^ 64) }
+// The later one of two versions.
+fn later(one: Version, other: Version) -> Version
+    ensures { result ≡ max one other }
+{
+    if one.get() < other.get() { other } else { one }
+}
+
+/// The event that a request is to a replica on a file of this version: it is made in that version, where it isn't of a later one.
+pub fn asked(alloc: Global, request: &Request, version: Version) -> Result<Event, AllocError>
+    ensures { IfOk result (λ e. e ≡ event.Request (in_version version request.now)) }
 {
     let fields = request.fields();
     Ok(Event::Request(Request::new(RequestFields {
-        version: fields.version,
+        version: later(fields.version, version),
         cluster: fields.cluster,
         client: fields.client,
         request: fields.request,

@@ -4,7 +4,7 @@ ghost use Rattle.vr_base.specs.Groups.{is_size};
 ghost use Rattle.vr_lie.specs.Faults.{IsFault};
 ghost use Rattle.vr_lie.specs.Told.{version_by};
 ghost use Rattle.vr_lying.specs.Lying.{hazards};
-ghost use Rattle.vr_lying.specs.World.{fresh_host, handles, lies, starts};
+ghost use Rattle.vr_lying.specs.World.{asks, fresh_host, handles, lies, migrates, starts};
 ghost use Rattle.vr_msg.specs.declared.output.Output.TheVariants as output;
 ghost use Rattle.vr_lying.specs.Disks.{told_by};
 ghost use Rattle.vr_lying.specs.Laws.{revived};
@@ -12,12 +12,13 @@ ghost use Rattle.vr_lying.specs.Told.{IsTold};
 ghost use Rattle.vr_group.specs.Hosts.{HasActed, IsHost, host_of};
 ghost use Rattle.vr_group.specs.Views.{view_of};
 
+use crate::asked::asked;
 use std::alloc::Global;
 use std::marker::Model;
 use vr_base::{Config, Kind, NoMemory};
 use vr_lie::{Fault, Faulted, opens};
 use vr_lying::HostDisk;
-use vr_msg::{Event, Outbox, Output};
+use vr_msg::{Event, Outbox, Output, Request};
 use vr_replica::{Halt, Refusal, Replica};
 
 /// A member's replica, none while it is stopped, and its disk.
@@ -154,6 +155,63 @@ fn start_on(
     recover_on(replica, disk, alloc, index, out)
 }
 
+// The version of a disk's file is that of the value that it opens as.
+fn settle(disk: &mut HostDisk) {
+    match opens(disk) {
+        Some(found) => disk.set_version(found.version),
+        None => disk.set_version(disk.version()),
+    }
+}
+
+// The file of a stopped member becomes one of version 2, where a fuse lets it.
+fn migrate_on(
+    replica: &mut Option<Replica>,
+    disk: &mut HostDisk,
+    alloc: Global,
+    index: u8,
+    out: &mut Outbox,
+) -> Result<(), NoMemory>
+    requires stopped { replica.old ≡ None }
+    requires told { IsTold (version_by disk.old.lie) (told_by disk.old) }
+    requires empty { out.old ≡ [] }
+    ensures host { IsHost replica.new disk.new }
+    ensures acted { OnOk result (HasActed (migrates hazards index (host_of None disk.old)) (host_of replica.new disk.new) out.new) }
+{
+    match Replica::migrate_any(alloc, disk) {
+        Ok(()) => {
+            settle(disk);
+            out.push(Output::Migrated(index))?;
+            Ok(())
+        }
+        Err(Refusal::Halted(Halt::NoMemory)) => Err(NoMemory),
+        Err(Refusal::Halted(Halt::DiskFault)) => {
+            settle(disk);
+            halt(replica, disk, index, out)
+        }
+        Err(Refusal::Lost(_)) => Ok(()),
+        Err(Refusal::OtherMember(_)) => Ok(()),
+    }
+}
+
+// A member is migrated.
+fn move_on(
+    replica: &mut Option<Replica>,
+    disk: &mut HostDisk,
+    alloc: Global,
+    index: u8,
+    out: &mut Outbox,
+) -> Result<(), NoMemory>
+    requires { IsHost replica.old disk.old }
+    ensures host { IsHost replica.new disk.new }
+    ensures acted { OnOk result (HasActed (migrates hazards index (host_of replica.old disk.old)) (host_of replica.new disk.new) out.new) }
+{
+    out.clear();
+    if replica.is_some() || disk.version().get() == 2 {
+        return Ok(());
+    }
+    migrate_on(replica, disk, alloc, index, out)
+}
+
 // The view of a replica, or of the value that its disk opens as.
 fn view_on(replica: &Option<Replica>, disk: &mut HostDisk) -> u32
     ensures view { result ≡ view_of (host_of replica.now disk.old) }
@@ -192,6 +250,22 @@ impl Host {
         step_on(&mut self.replica, &mut self.disk, alloc, index, event, out)
     }
 
+    /// A client asks it, in the version of its file, where the request isn't of a later one. Where it is stopped, nothing happens.
+    pub fn ask(
+        &mut self,
+        alloc: Global,
+        index: u8,
+        request: &Request,
+        out: &mut Outbox,
+    ) -> Result<(), NoMemory>
+        ensures { OnOk result (HasActed (asks hazards request.now index self.old) self.new out.new) }
+    {
+        let event = asked(alloc, request, self.disk.version())?;
+        let handled = self.handle(alloc, index, &event, out);
+        drop(event);
+        handled
+    }
+
     /// It loses its memory.
     pub fn stop(&mut self)
         ensures { self.new ≡ record self.old { replica = None } }
@@ -204,6 +278,13 @@ impl Host {
         ensures { OnOk result (HasActed (starts hazards index self.old) self.new out.new) }
     {
         start_on(&mut self.replica, &mut self.disk, alloc, index, out)
+    }
+
+    /// Its file becomes one of version 2. Where it runs, or its file is of that version already, or its superblock doesn't open, nothing happens.
+    pub fn migrate(&mut self, alloc: Global, index: u8, out: &mut Outbox) -> Result<(), NoMemory>
+        ensures { OnOk result (HasActed (migrates hazards index self.old) self.new out.new) }
+    {
+        move_on(&mut self.replica, &mut self.disk, alloc, index, out)
     }
 
     /// The `j`-th call of its disk from now on is cut by this code.

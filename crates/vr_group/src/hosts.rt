@@ -4,14 +4,14 @@ ghost use Rattle.std.specs.List.{range_with_len};
 ghost use Rattle.vr_base.specs.Groups.{is_size};
 ghost use Rattle.vr_lie.specs.Faults.{IsFault};
 ghost use Rattle.vr_lying.specs.Lying.{hazards};
-ghost use Rattle.vr_lying.specs.World.{fresh_host, fused, handles, lies, starts, stops};
+ghost use Rattle.vr_lying.specs.World.{asks, fresh_host, fused, handles, lies, migrates, starts, stops};
 ghost use Rattle.vr_group.specs.Hosts.{HaveActed};
 
 use crate::Host;
 use std::alloc::Global;
 use vr_base::{Kind, NoMemory};
 use vr_lie::Fault;
-use vr_msg::{Event, Outbox};
+use vr_msg::{Event, Outbox, Request};
 
 /// The members of a new group, each on a new file of this kind.
 #[tactic(auto, using(std::proofs::lemmas::Grind::common_steps, crate::proofs::Acts::hosts_more))]
@@ -73,6 +73,45 @@ pub fn start_at(
     if at < hosts.len() {
         let host = &mut hosts[at];
         return host.start(alloc, replica, out);
+    }
+    out.clear();
+    Ok(())
+}
+
+/// The file of one of the members becomes one of version 2.
+#[tactic(auto, using(std::proofs::lemmas::Grind::common_steps, crate::proofs::Acts::acted_past))]
+pub fn migrate_at(
+    hosts: &mut Vec<Host>,
+    alloc: Global,
+    replica: u8,
+    out: &mut Outbox,
+) -> Result<(), NoMemory>
+    ensures { OnOk result (HaveActed (migrates hazards) hosts.old.items hosts.new.items replica out.new) }
+{
+    let at = replica as usize;
+    if at < hosts.len() {
+        let host = &mut hosts[at];
+        return host.migrate(alloc, replica, out);
+    }
+    out.clear();
+    Ok(())
+}
+
+/// A client asks one of the members, in the version of its file, where the request isn't of a later one.
+#[tactic(auto, using(std::proofs::lemmas::Grind::common_steps, crate::proofs::Acts::acted_past))]
+pub fn ask_at(
+    hosts: &mut Vec<Host>,
+    alloc: Global,
+    replica: u8,
+    request: &Request,
+    out: &mut Outbox,
+) -> Result<(), NoMemory>
+    ensures { OnOk result (HaveActed (asks hazards request.now) hosts.old.items hosts.new.items replica out.new) }
+{
+    let at = replica as usize;
+    if at < hosts.len() {
+        let host = &mut hosts[at];
+        return host.ask(alloc, replica, request, out);
     }
     out.clear();
     Ok(())

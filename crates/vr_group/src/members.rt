@@ -1,25 +1,25 @@
 //! The members of a group, and their messages.
-ghost use Rattle.std.specs.Prelude.{ℕ, ◌≡◌, IfOk, OnOk, slice_get, true};
+ghost use Rattle.std.specs.Prelude.{ℕ, ◌≡◌, ◌<◌, ◌^◌, IfOk, OnOk, slice_get, true};
 ghost use Rattle.std.specs.Option.{option_copied};
 ghost use Rattle.vr_base.specs.Groups.{is_size};
 ghost use Rattle.vr_lie.specs.Faults.{IsFault};
 ghost use Rattle.vr_lines.specs.Fits.{IsLineOf};
 ghost use Rattle.vr_lying.specs.Lying.{hazards};
-ghost use Rattle.vr_lying.specs.World.{Arrives, Lies, Starts, at_member, delivered, fresh_world, handles, happens};
+ghost use Rattle.vr_lying.specs.World.{Arrives, AsksInVersion, Lies, Migrates, Starts, at_member, delivered, fresh_world, handles, happens};
+ghost use Rattle.vr_replica.specs.Fit.{IsAsked};
 ghost use Rattle.vr_msg.specs.declared.event.Event.TheVariants as event;
 ghost use Rattle.vr_group.specs.Headline.{HasAsked};
 ghost use Rattle.vr_group.specs.Hosts.{HaveActed};
 ghost use Rattle.vr_group.specs.Lines.{happening};
 
-use crate::asked::asked;
-use crate::hosts::{fuse_at, handle_at, lie_at, make_hosts, start_at, stop_at};
+use crate::hosts::{ask_at, fuse_at, handle_at, lie_at, make_hosts, migrate_at, start_at, stop_at};
 use crate::outputs::record_outputs;
 use crate::{Host, Letter, Outputs};
 use std::alloc::Global;
 use vr_base::{Kind, NoMemory, Seq};
 use vr_lie::Fault;
 use vr_lines::Line;
-use vr_msg::{Event, Outbox};
+use vr_msg::{Event, Outbox, Request};
 
 /// The members of a group, and every message that they have sent.
 #[derive(Drop)]
@@ -122,6 +122,37 @@ impl Members {
         Ok(())
     }
 
+    // The file of a member becomes one of version 2.
+    #[tactic(auto, using(crate::proofs::Acts::happened_as))]
+    fn migrate(&mut self, alloc: Global, replica: u8, to: &mut Outputs) -> Result<(), NoMemory>
+        ensures { OnOk result (HasHappened (happens hazards (world_of self.old) (Migrates replica)) (world_of self.old) (world_of self.new) to.old to.new) }
+    {
+        let mut out = Seq::new(alloc);
+        migrate_at(&mut self.hosts, alloc, replica, &mut out)?;
+        record_outputs(alloc, &mut self.sent, out, to)?;
+        Ok(())
+    }
+
+    // A client asks a member.
+    #[tactic(auto, using(crate::proofs::Acts::happened_as))]
+    fn ask(
+        &mut self,
+        alloc: Global,
+        replica: u8,
+        request: &Request,
+        to: &mut Outputs,
+    ) -> Result<(), NoMemory>
+        ensures happened { OnOk result (HasHappened (happens hazards (world_of self.old) (AsksInVersion replica request.now)) (world_of self.old) (world_of self.new) to.old to.new) }
+        ensures asked { IsAsked request.now }
+        ensures cluster { request.now.cluster < 2 ^ 64 }
+    {
+        let _fields = request.fields();
+        let mut out = Seq::new(alloc);
+        ask_at(&mut self.hosts, alloc, replica, request, &mut out)?;
+        record_outputs(alloc, &mut self.sent, out, to)?;
+        Ok(())
+    }
+
     // A member's disk begins to lie.
     #[tactic(auto, using(crate::proofs::Acts::happened_as))]
     fn lie(
@@ -141,7 +172,7 @@ impl Members {
     }
 
     /// What a line says of it.
-    #[tactic(auto, using(crate::proofs::Acts::happened_quietly, crate::proofs::Acts::begun, crate::proofs::Sectors::on_disk))]
+    #[tactic(auto, using(vr_base::proofs::Members::is_sized, crate::proofs::Acts::happened_quietly, crate::proofs::Acts::begun, crate::proofs::Sectors::on_disk))]
     pub fn happen(&mut self, alloc: Global, line: &Line, to: &mut Outputs) -> Result<(), NoMemory>
         requires { (version : ℕ) × IsLineOf version self.old.n line.now }
         ensures happened { OnOk result (HasHappened (happens hazards (world_of self.old) (happening line.now)) (world_of self.old) (world_of self.new) to.old to.new) }
@@ -152,12 +183,7 @@ impl Members {
                 *self = Members::begin(alloc, *n, kind)?;
                 Ok(())
             }
-            Line::Request { replica, request } => {
-                let event = asked(alloc, request)?;
-                let reached = self.reach(alloc, *replica, &event, to);
-                drop(event);
-                reached
-            }
+            Line::Request { replica, request } => self.ask(alloc, *replica, request, to),
             Line::Deliver(number) => self.deliver(alloc, *number, to),
             Line::Tick(replica) => self.reach(alloc, *replica, &Event::Tick, to),
             Line::Stop(replica) => {
@@ -165,6 +191,7 @@ impl Members {
                 Ok(())
             }
             Line::Start(replica) => self.start(alloc, *replica, to),
+            Line::Migrate(replica) => self.migrate(alloc, *replica, to),
             Line::Fuse {
                 replica,
                 call,

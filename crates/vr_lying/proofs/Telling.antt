@@ -10,7 +10,7 @@ use Rattle.vr_lie.specs.Held.{looked}
 use Rattle.vr_lie.specs.Opens.{mode_in}
 use Rattle.vr_mem.specs.Seen as mem
 use Rattle.vr_mem.specs.Seen.{copies}
-use Rattle.vr_world.specs.Lying.{Lying, blank_lying, each_slot, keeps_premise, lied_to, unless_kept_out, zero_face}
+use Rattle.vr_world.specs.Lying.{Lying, blank_lying, each_slot, in_edition, keeps_premise, lied_to, unless_kept_out, zero_face}
 use Rattle.vr_world.proofs.Premises.{premise, premise_so}
 use Rattle.vr_lying.specs.Told.{lying_in, slots}
 use Rattle.vr_lying.proofs.Runs.{rows_are, with_held}
@@ -102,3 +102,11 @@ unfolding copies mem.zero_cell
 zeros_lie ver later d held is e h =
     let rows : replicate 64 None ≡ each_slot (λ slot. None) = rows_are (replicate 64 None) (λ slot. None) (length-replicate {A = Option (List ℕ)} 64 None) (λ slot l. get_or-replicate 64 slot None None l) in
     ap (λ v. with_held v d.face held) is ∙ ap (λ f. with_held ver f held) e ∙ ap (with_held ver zero_face) (h ∙ rows)
+
+-- ---- a file of another version
+
+pub edition_set : (ver later version : ℕ) (d e : Disk) (old new : List (Option (List ℕ))) → later ≡ version → length new ≡ 64 → e ≡ d → HeldLooked version d.face old new
+    → lying_in later (with_table later e new) ≡ in_edition version (lying_in ver (with_table ver d old))
+edition_set ver later version d e old new is n same h =
+    let rows = rows_are new (λ slot. looked version d.face slot (held_at old slot)) n h.each in
+    ap (λ v. with_held v e.face new) is ∙ ap (λ (e : Disk). with_held version e.face new) same ∙ ap (with_held version d.face) rows

@@ -6,7 +6,7 @@ ghost use Rattle.vr_disk.specs.DiskState.{Attaches, Runs, Sync, Write, reads};
 ghost use Rattle.vr_lie.specs.Faults.{IsFault};
 ghost use Rattle.vr_lie.specs.Told.{version_by};
 ghost use Rattle.vr_lying.specs.Told.{IsTold};
-ghost use Rattle.vr_world.specs.Lying.{blank_lying, unless_kept_out};
+ghost use Rattle.vr_world.specs.Lying.{blank_lying, in_edition, unless_kept_out};
 
 use std::alloc::Global;
 use vr_base::{NoMemory, Sum, Version};
@@ -41,6 +41,18 @@ impl HostDisk {
         ensures { result ≡ version_by self.now.lie }
     {
         self.lie.version()
+    }
+
+    /// From now on the file on it is one of this version: what a slot reads as in such a file it holds.
+    pub fn set_version(&mut self, version: Version)
+        ensures lying { lying_of self.new ≡ in_edition version (lying_of self.old) }
+        ensures version { version_by self.new.lie ≡ version }
+        ensures told { (v : ℕ) → IsTold v (told_by self.old) → IsTold version (told_by self.new) }
+        ensures fate { (told_by self.new).fate ≡ (told_by self.old).fate }
+        ensures faults { self.new.lie.disk.faults ≡ self.old.lie.disk.faults }
+        ensures read_faults { self.new.lie.read_faults ≡ self.old.lie.read_faults }
+    {
+        self.lie.set_version(version);
     }
 
     /// The `j`-th write or sync from now on is cut by this code. It takes the place of an earlier fuse.

@@ -15,6 +15,7 @@ pub use Rattle.vr_rules.proofs.Halves
 pub use Rattle.vr_rules.proofs.Heads
 pub use Rattle.vr_rules.proofs.Jumping
 pub use Rattle.vr_rules.proofs.Keeping
+pub use Rattle.vr_rules.proofs.Migrating
 pub use Rattle.vr_window.proofs.Lists
 pub use Rattle.vr_rules.proofs.Openings
 pub use Rattle.vr_rules.proofs.Replying

@@ -3,6 +3,7 @@ pub mod Olds
 pub mod Clouds
 pub mod Begins
 pub mod Recovers
+pub mod Moves
 pub mod Others
 pub mod Opens
 pub mod Makes

@@ -51,11 +51,11 @@ begun_stopped v r q d d' o o' halt e h =
 mends : (v : SuperValue) (r : Replica) (d d' : Option Disk) (ok : Bool) → RunsFrom (mend_calls v) d d' ok → Performs (λ r. Mend v) r d d' ok
 mends v r d d' ok h = record { silent = refl; ran = h }
 
-runs_of : (wanted : Option ℕ) (v : SuperValue) (d d' : Option Disk) → MendsValue wanted v d d' → RunsFrom (mend_calls v) d d' true
+pub runs_of : (wanted : Option ℕ) (v : SuperValue) (d d' : Option Disk) → MendsValue wanted v d d' → RunsFrom (mend_calls v) d d' true
 runs_of wanted v None d' m = m.untold refl
 runs_of wanted v (Some x) d' m = (m.told x refl).1
 
-opens_of : (wanted : Option ℕ) (v : SuperValue) (d d' : Option Disk) → MendsValue wanted v d d' → IfSome d (λ x. opens_as wanted x.face ≡ Some v)
+pub opens_of : (wanted : Option ℕ) (v : SuperValue) (d d' : Option Disk) → MendsValue wanted v d d' → IfSome d (λ x. opens_as wanted x.face ≡ Some v)
 opens_of wanted v None d' m = tt
 opens_of wanted v (Some x) d' m = (m.told x refl).0
 

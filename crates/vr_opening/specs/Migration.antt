@@ -1,15 +1,28 @@
 -- The file of a member becomes one of version 2.
-use Rattle.std.specs.Prelude.{◌≡◌, ◌≢◌, ◌⊎◌, true, false, Option, Some, IfSome, Unit, Result, Ok, Err, None}
+use Rattle.std.specs.Prelude.{◌≡◌, ◌≢◌, ◌⊎◌, ◌==◌, ◌++◌, true, false, if◌then◌else◌, List, [], Option, Some, IfSome, Result, Ok, Err, None}
 use Rattle.vr_base.specs.declared.table.Config.{Config}
-use Rattle.vr_disk.specs.DiskState.{Disk, RunsFrom}
-use Rattle.vr_super.specs.Calls.{mend_calls}
+use Rattle.vr_disk.specs.DiskState.{Call, Disk, Face, RunsFrom, after_all}
+use Rattle.vr_super.specs.Calls.{mend_calls, write_calls}
 use Rattle.vr_super.specs.Copies.{SuperValue}
 use Rattle.vr_journal.specs.Halt.{Halt}
 use Rattle.vr_journal.specs.Halt.TheVariants.{DiskFault, NoMemory}
-use Rattle.vr_journal.specs.Migrating.{migration_calls}
-use Rattle.vr_opening.specs.Recovering.{IsOther, LosesValue, StopsMending, config_of, opens}
+use Rattle.vr_journal.specs.Migrating.{migrated, migration_calls, slot_calls}
+use Rattle.vr_opening.specs.Recovering.{IsOther, LosesValue, StopsMending, config_of, opens, opens_as}
 use Rattle.vr_opening.specs.declared.reopen.Refusal.{Refusal}
 use Rattle.vr_opening.specs.declared.reopen.Refusal.TheVariants.{Lost, OtherMember, Halted}
+
+-- the calls behind the mending: the prepares at their new places, and then this value in place of the old one
+abbrev pub moving_calls : SuperValue → SuperValue → Face → List Call
+moving_calls v new f = slot_calls f ++ write_calls v new (after_all f (slot_calls f))
+
+abbrev pub over_calls : SuperValue → Face → List Call
+over_calls v f = if v.fields.version == 2 then [] else moving_calls v (migrated v) f
+
+-- those of a file with this value, which is mended: a stop is a call that failed, or want of memory before the first
+abbrev pub MovesOver : SuperValue → Option Disk → Option Disk → Result (Unit {0}) Halt → Type 0
+MovesOver v d d' (Ok done) = RunsFrom (over_calls v) d d' true
+MovesOver v d d' (Err DiskFault) = RunsFrom (over_calls v) d d' false
+MovesOver v d d' (Err NoMemory) = d' ≡ d
 
 -- the file of the member asked for was migrated
 pub record IsMigrated (asked : Config) (d d' : Option Disk) : Type 0 where
@@ -35,3 +48,21 @@ Migrated asked d d' (Ok done) = IsMigrated asked d d'
 Migrated asked d d' (Err (Lost verdicts)) = LosesValue None d d' verdicts
 Migrated asked d d' (Err (OtherMember found)) = IsOther asked found d d'
 Migrated asked d d' (Err (Halted halt)) = StopsMigrating asked d d' halt
+
+-- ---- of any member, in a file of version 1
+
+pub record IsMigratedAny (d d' : Option Disk) : Type 0 where
+  pub value : SuperValue
+  pub opens : IfSome d (λ x. opens_as (Some 1) x.face ≡ Some value)
+  pub ran : RunsFrom (migration_calls value) d d' true
+
+pub record StopsMigratingAny (d d' : Option Disk) (halt : Halt) : Type 0 where
+  pub value : SuperValue
+  pub opens : IfSome d (λ x. opens_as (Some 1) x.face ≡ Some value)
+  pub step : StopsMigration value d d' halt
+
+abbrev pub MigratedAny : Option Disk → Option Disk → Result (Unit {0}) Refusal → Type 0
+MigratedAny d d' (Ok done) = IsMigratedAny d d'
+MigratedAny d d' (Err (Lost verdicts)) = LosesValue (Some 1) d d' verdicts
+MigratedAny d d' (Err (OtherMember found)) = ⊥
+MigratedAny d d' (Err (Halted halt)) = StopsMigratingAny d d' halt

@@ -5,11 +5,13 @@ mod begin;
 mod finding;
 mod formatting;
 mod looking;
+mod migrating;
 mod new_member;
 mod new_value;
 mod opening;
 mod reopen;
 mod wanted;
 
+pub use migrating::{migrate, migrate_any};
 pub use new_member::{FreshFault, fresh};
 pub use reopen::{Refusal, recover, recover_any};

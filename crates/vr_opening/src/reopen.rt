@@ -66,7 +66,7 @@ pub enum Refusal {
 }
 
 // The member that a value names.
-fn config_of(value: &Super) -> Config
+pub(crate) fn config_of(value: &Super) -> Config
     ensures { result ≡ config_of value.now }
 {
     let f = value.fields();
@@ -106,7 +106,7 @@ fn mended_value<D: SectorDisk>(
 // What stood in the way of the superblock's value, in a file of the version that is asked for. The copies of one that is left alone aren't
 // mended.
 #[tactic(auto, using(crate::proofs::Recovers::left_lost, crate::proofs::Recovers::left_not))]
-fn find_value<D: SectorDisk>(
+pub(crate) fn find_value<D: SectorDisk>(
     alloc: Global,
     disk: &mut D,
     wanted: &Option<Version>,
@@ -122,7 +122,7 @@ fn find_value<D: SectorDisk>(
 }
 
 // Whether two members are one.
-fn is_same(found: &Config, asked: &Config) -> bool
+pub(crate) fn is_same(found: &Config, asked: &Config) -> bool
     ensures same { result ≡ true → found.now ≡ asked.now }
     ensures other { result ≡ false → found.now ≢ asked.now }
 {

@@ -3,6 +3,7 @@ ghost use Rattle.std.specs.Prelude.{◌≡◌, ◌≤◌, ◌<◌, [], IfOk, IfS
 ghost use Rattle.vr_base.specs.Groups.{is_size};
 ghost use Rattle.vr_disk.specs.Counts.{CountsFault};
 ghost use Rattle.vr_opening.specs.Making.{Made};
+ghost use Rattle.vr_opening.specs.Migration.{Migrated, MigratedAny};
 ghost use Rattle.vr_opening.specs.Recovering.{Recovered, RecoveredAny};
 ghost use Rattle.vr_journal.specs.Replica.{header_at, part_at, version};
 ghost use Rattle.vr_journal.specs.Rules.{react};
@@ -118,6 +119,29 @@ impl Replica {
                 Err(refusal)
             }
         }
+    }
+
+    /// The file of a disk becomes one of version 2, if the disk is that of the member that is asked for: its superblock is mended, and then, where
+    /// its file is of version 1, each slot's prepare is written at its new place, and the value is saved with the new version. Of another
+    /// member's disk the superblock is mended, and no other call is made.
+    pub fn migrate<D: SectorDisk>(
+        alloc: Global,
+        disk: &mut D,
+        config: &Config,
+    ) -> Result<(), Refusal>
+        ensures cause { CountsFault (Refusal.Halted Halt.DiskFault) (D.faults disk.old) (D.faults disk.new) result }
+        ensures migrated { Migrated config.now (D.told disk.old) (D.told disk.new) result }
+    {
+        vr_opening::migrate(alloc, disk, config)
+    }
+
+    /// The file of a disk becomes one of version 2, whatever member's disk it is, as `migrate` does it: `OtherMember` never comes. One of
+    /// version 2 is left alone.
+    pub fn migrate_any<D: SectorDisk>(alloc: Global, disk: &mut D) -> Result<(), Refusal>
+        ensures cause { CountsFault (Refusal.Halted Halt.DiskFault) (D.faults disk.old) (D.faults disk.new) result }
+        ensures migrated { MigratedAny (D.told disk.old) (D.told disk.new) result }
+    {
+        vr_opening::migrate_any(alloc, disk)
     }
 
     /// Handles an event in one step, which puts out what is to be sent, replied and told. After an `Err` the replica has stopped: it

@@ -1,0 +1,39 @@
+#!/usr/bin/env bash
+# How long a migration of a member's file takes, by the built program (crates/vr_app/out/vr_app, or PROGRAM), beside a small C program that makes
+# its 597 calls on a copy of the same file (bench/node/moves.c), in turn, nine times each, on the disk of FOLDER; the median of each. The program
+# is timed whole, from its start to its end.
+#   bench/migrate.sh [FOLDER]     a new one in /tmp without it
+# It ends with status 1 where the program takes more than 1.3 times as long. Needs bash, awk and a C compiler.
+set -u
+cd "$(dirname "$0")/.." || exit 2
+program=${PROGRAM:-$PWD/crates/vr_app/out/vr_app}
+[ -x "$program" ] || { echo "no program: rt ci makes $program" >&2; exit 2; }
+folder=$(mktemp -d "${1:-/tmp}/migrate.XXXXXX") || exit 2
+member=
+stop() { [ -z "$member" ] || { kill "$member"; wait "$member"; } 2> /dev/null; member=; }
+trap 'stop; rm -rf "$folder"' EXIT
+trap 'exit 130' INT TERM
+cc -O2 -o "$folder/moves" bench/node/moves.c || exit 2
+address=127.0.0.1:$((21000 + ($$ * 7) % 8000))
+other=127.0.0.1:$((29001 + ($$ * 7) % 900))
+
+# A group of two, so that its file has entries in each slot.
+members=()
+for r in 0 1; do "$program" node 5 $r "$folder/$r" 1000000000 $address $other --fresh > /dev/null & members+=($!); done
+sleep 1
+awk 'BEGIN { for (i = 0; i < 200; i++) printf "put k%d %0100d\n", i % 10, i }' | "$program" client 5 7 1000000 $address $other > /dev/null || exit 2
+kill "${members[@]}"
+wait "${members[@]}" 2> /dev/null
+
+micros() { local before=${EPOCHREALTIME/./}; "$@" > /dev/null || exit 2; echo $((${EPOCHREALTIME/./} - before)); }
+for round in $(seq 9); do
+    cp "$folder/0" "$folder/copy" && sync "$folder/copy"
+    micros "$program" migrate 5 0 2 "$folder/copy" >> "$folder/program"
+    cp "$folder/0" "$folder/copy" && sync "$folder/copy"
+    micros "$folder/moves" "$folder/copy" >> "$folder/calls"
+done
+median() { sort -n "$1" | awk '{ t[NR] = $1 } END { print t[int((NR + 1) / 2)] }'; }
+awk -v program="$(median "$folder/program")" -v calls="$(median "$folder/calls")" 'BEGIN {
+    printf "a migration takes %.1f ms, its calls %.1f ms: %.2f times\n", program / 1000, calls / 1000, program / calls
+    exit !(program <= 1.3 * calls)
+}'

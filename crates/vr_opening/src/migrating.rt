@@ -1,0 +1,109 @@
+//! A file of version 1 becomes one of version 2.
+ghost use Rattle.std.specs.Prelude.{◌≡◌, [], IfOk, is_ok};
+ghost use Rattle.vr_base.specs.Causes.{HasCause};
+ghost use Rattle.vr_disk.specs.Counts.{CountsFault};
+ghost use Rattle.vr_disk.specs.DiskState.{RunsFrom};
+ghost use Rattle.vr_journal.specs.Does.{Caused};
+ghost use Rattle.vr_journal.specs.Halt.TheVariants as Halt;
+ghost use Rattle.vr_journal.specs.Migrating.{migrated};
+ghost use Rattle.vr_opening.specs.Migration.{Migrated, MigratedAny, MovesOver, moving_calls};
+ghost use Rattle.vr_opening.specs.declared.reopen.Refusal.TheVariants as Refusal;
+
+use crate::reopen::{Refusal, config_of, find_value, is_same};
+use std::alloc::Global;
+use vr_base::{Config, NoMemory, Seq, Version};
+use vr_disk::{DiskFault, SectorDisk};
+use vr_journal::Halt;
+use vr_rings::move_slots;
+use vr_super::{Fields, Super};
+
+// The numbers that are saved in the end.
+fn migrated_fields(old: Fields) -> Fields
+    ensures { result ≡ (migrated (record { fields = old; headers = [] })).fields }
+{
+    Fields {
+        sequence: old.sequence.saturating_add(1),
+        version: Version::new(2),
+        ..old
+    }
+}
+
+// The value that is saved in the end.
+fn migrated(alloc: Global, old: &Super) -> Result<Super, NoMemory>
+    ensures { IfOk result (λ v. v ≡ migrated old.now) }
+{
+    let fields = migrated_fields(old.fields());
+    let mut headers = Seq::new(alloc);
+    headers.extend(old.headers())?;
+    Super::new(alloc, fields, headers)
+}
+
+// Writes the prepares at their new places, and saves the value.
+#[tactic(auto, using(crate::proofs::Moves::moved_then, crate::proofs::Moves::moved_stopped))]
+fn move_over<D: SectorDisk>(disk: &mut D, old: &Super, new: &Super) -> Result<(), DiskFault>
+    ensures runs { RunsFrom (moving_calls old.now new.now) (D.told disk.old) (D.told disk.new) (is_ok result) }
+    ensures cause { HasCause (D.faults disk.old) (D.faults disk.new) result }
+{
+    move_slots(disk)?;
+    match vr_super::write(disk, old, new) {
+        Ok(()) => Ok(()),
+        Err(_) => Err(DiskFault),
+    }
+}
+
+// The file of a value that is mended. Memory is taken for the new value alone, before a call is made.
+#[tactic(auto, using(crate::proofs::Moves::over_moved, crate::proofs::Moves::over_nothing))]
+fn migrate_mended<D: SectorDisk>(alloc: Global, disk: &mut D, value: &Super) -> Result<(), Halt>
+    ensures cause { Caused (D.faults disk.old) (D.faults disk.new) result }
+    ensures step { MovesOver value.now (D.told disk.old) (D.told disk.new) result }
+{
+    if value.fields().version.get() == 2 {
+        return Ok(());
+    }
+    match migrated(alloc, value) {
+        Err(_) => Err(Halt::NoMemory),
+        Ok(new) => match move_over(disk, value, &new) {
+            Ok(()) => Ok(()),
+            Err(_) => Err(Halt::DiskFault),
+        },
+    }
+}
+
+/// The file of a disk becomes one of version 2, if the disk is that of the member that is asked for: its superblock is mended, and then, where its
+/// file is of version 1, each slot's prepare is written at its new place, and the value is saved with the new version. Of another member's disk
+/// the superblock is mended, and no other call is made.
+#[tactic(auto, using(crate::proofs::Moves::migrated_well, crate::proofs::Moves::migration_halted, crate::proofs::Moves::migration_refused, crate::proofs::Recovers::other_member))]
+pub fn migrate<D: SectorDisk>(alloc: Global, disk: &mut D, asked: &Config) -> Result<(), Refusal>
+    ensures cause { CountsFault (Refusal.Halted Halt.DiskFault) (D.faults disk.old) (D.faults disk.new) result }
+    ensures step { Migrated asked.now (D.told disk.old) (D.told disk.new) result }
+{
+    match find_value(alloc, disk, &None) {
+        Err(refusal) => Err(refusal),
+        Ok(value) => {
+            let found = config_of(&value);
+            if is_same(&found, asked) {
+                match migrate_mended(alloc, disk, &value) {
+                    Ok(()) => Ok(()),
+                    Err(halt) => Err(Refusal::Halted(halt)),
+                }
+            } else {
+                Err(Refusal::OtherMember(found))
+            }
+        }
+    }
+}
+
+/// The file of a disk becomes one of version 2, whatever member's disk it is: `OtherMember` never comes. One of version 2 is left alone.
+#[tactic(auto, using(crate::proofs::Moves::any_well, crate::proofs::Moves::any_halted, crate::proofs::Moves::any_refused))]
+pub fn migrate_any<D: SectorDisk>(alloc: Global, disk: &mut D) -> Result<(), Refusal>
+    ensures cause { CountsFault (Refusal.Halted Halt.DiskFault) (D.faults disk.old) (D.faults disk.new) result }
+    ensures step { MigratedAny (D.told disk.old) (D.told disk.new) result }
+{
+    match find_value(alloc, disk, &Some(Version::new(1))) {
+        Err(refusal) => Err(refusal),
+        Ok(value) => match migrate_mended(alloc, disk, &value) {
+            Ok(()) => Ok(()),
+            Err(halt) => Err(Refusal::Halted(halt)),
+        },
+    }
+}
