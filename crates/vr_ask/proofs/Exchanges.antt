@@ -20,7 +20,7 @@ use Rattle.vr_status.specs.declared.status.Status.TheVariants as status
 -- ---- one line
 
 -- a line that was read and judged
-pub heard : (version number : ℕ) (r r' : Reading) (line : List ℕ) (result : Result Operation Status) → ReadsLine r r' line → Judges version number line result
+pub heard : (version number : ℕ) (r r' : Reading) (line : List ℕ) (result : Result Operation Status) → ReadsLine version r r' line → Judges version number line result
     → Hears version number r r' result
 heard version number r r' line (Ok operation) read j = ((line, read, j.0), j.1)
 heard version number r r' line (Err (status.Refused k)) read j = (j.0, inr (line, read, j.1))

@@ -26,9 +26,9 @@ pub record Reading : Type 0 where
 abbrev pub reading : Held → Option (List ℕ) → Reading
 reading lines left = record { rest = lines.bytes; left = left }
 
--- a line was read
-abbrev pub ReadsLine : Reading → Reading → List ℕ → Type 0
-ReadsLine r r' line = LineComes longest r.rest r.left r'.rest r'.left line
+-- a line that isn't too long for this version was read
+abbrev pub ReadsLine : ℕ → Reading → Reading → List ℕ → Type 0
+ReadsLine version r r' line = LineComes (longest version) r.rest r.left r'.rest r'.left line
 
 -- a line of the source, its operation, and its outcome
 pub record Exchange : Type 0 where
@@ -38,7 +38,7 @@ pub record Exchange : Type 0 where
 
 -- it was read, asked with this number, answered, and the answer was written
 pub record IsExchanged (c : Client) (number : ℕ) (r : Reading) (s : Stand) (x : Exchange) (r' : Reading) (s' : Stand) : Type 0 where
-  pub read : ReadsLine r r' x.line
+  pub read : ReadsLine c.version r r' x.line
   pub meant : operation_of c.version x.line ≡ Some x.operation
   pub answered : IsAnswered c number x.operation s s' (answer.Outcome x.answered)
 
@@ -55,22 +55,22 @@ limit = 1000000
 -- the line with this number is none of a client's of this version, or one too many
 abbrev pub IsNone : ℕ → ℕ → Reading → Reading → Type 0
 IsNone version number r r' =
-    TooLongComes longest r.rest r.left r'.rest r'.left
-    ⊎ ((line : List ℕ) × ReadsLine r r' line × ((operation_of version line ≡ None) ⊎ (limit < number)))
+    TooLongComes (longest version) r.rest r.left r'.rest r'.left
+    ⊎ ((line : List ℕ) × ReadsLine version r r' line × ((operation_of version line ≡ None) ⊎ (limit < number)))
 
 -- how it ends at the line with this number, which it doesn't ask; before and now count the failed reads
 abbrev pub StopsAt : ℕ → ℕ → Reading → Reading → Status → Type 0
 StopsAt version number r r' Done = EndComes r.rest r.left r'.rest r'.left
 StopsAt version number r r' (Refused k) = (k ≡ number) × IsNone version number r r'
 StopsAt version number r r' ReadFault = Breaks r.rest r.left r'.rest r'.left
-StopsAt version number r r' NoMemory = (line : List ℕ) × ReadsLine r r' line
+StopsAt version number r r' NoMemory = (line : List ℕ) × ReadsLine version r r' line
 StopsAt version number r r' _ = ⊥
 
 -- how it ends while it asks the line with this number
 pub record EndsAt (c : Client) (number : ℕ) (r : Reading) (s : Stand) (r' : Reading) (s' : Stand) (before now : Faults) (status : Status) : Type 0 where
   pub line : List ℕ
   pub operation : Operation
-  pub read : ReadsLine r r' line
+  pub read : ReadsLine c.version r r' line
   pub meant : operation_of c.version line ≡ Some operation
   pub ends : EndsWith c number operation s s' before now status
 
@@ -138,12 +138,8 @@ abbrev pub ClientEnds : Client → List (List ℕ) → Outside → Outside → F
 ClientEnds c peers o o' before now status =
     Unlinked peers o o' before now status ⊎ (TakesLink peers true o o' × EndsAttached c o o' before now status)
 
--- the version of a command's client
-abbrev pub client_version : ℕ
-client_version = 1
-
-abbrev pub client_with : ℕ → ℕ → ℕ → ℕ → Client
-client_with cluster id n turns = record { version = client_version; cluster = cluster; id = id; n = n; turns = turns }
+abbrev pub client_with : ℕ → ℕ → ℕ → ℕ → ℕ → Client
+client_with version cluster id n turns = record { version = version; cluster = cluster; id = id; n = n; turns = turns }
 
 -- what a read line that isn't asked makes of the run
 abbrev pub Judges : ℕ → ℕ → List ℕ → Result Operation Status → Type 0
@@ -154,7 +150,7 @@ Judges version number line (Err _) = ⊥
 
 -- the line with this number was read, or the run ends there
 abbrev pub Hears : ℕ → ℕ → Reading → Reading → Result Operation Status → Type 0
-Hears version number r r' (Ok operation) = ((line : List ℕ) × ReadsLine r r' line × (operation_of version line ≡ Some operation)) × (number ≤ limit)
+Hears version number r r' (Ok operation) = ((line : List ℕ) × ReadsLine version r r' line × (operation_of version line ≡ Some operation)) × (number ≤ limit)
 Hears version number r r' (Err status) = StopsAt version number r r' status
 
 -- the count of the source's faults after a line

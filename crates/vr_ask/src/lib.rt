@@ -7,4 +7,4 @@ mod running;
 mod text;
 
 pub use asking::exchange;
-pub use running::{CLIENT_VERSION, run_client};
+pub use running::run_client;

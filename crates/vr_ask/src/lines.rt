@@ -2,6 +2,7 @@
 ghost use Rattle.std.specs.Prelude.{◌≡◌, ◌≤◌, ◌<◌, ◌+◌, OnOk};
 ghost use Rattle.vr_ask.specs.Asking.{CountsLinks, CountsWrites, client_of, faults, stand};
 ghost use Rattle.vr_ask.specs.Run.{CountsLine, EndsLines, Hears, Judges, Takes, reading};
+ghost use Rattle.vr_ask.specs.Text.{longest};
 ghost use Rattle.vr_status.specs.Counts.{links_after, reads_after, writes_after};
 
 use crate::asking::exchange;
@@ -17,8 +18,13 @@ use vr_status::Status;
 /// The most lines of a source.
 const LIMIT: u32 = 1_000_000;
 
-/// The most bytes of a line.
-const LONGEST: usize = 1093;
+/// The most bytes of a line of this version.
+fn line_limit(version: Version) -> usize
+    ensures value { result ≡ longest version }
+    ensures most { result ≤ 3069 }
+{
+    if version.get() == 2 { 3069 } else { 1093 }
+}
 
 /// The operation of this version that the line with this number is.
 fn judge(alloc: Global, number: u32, line: &[u8], version: Version) -> Result<Operation, Status>
@@ -43,7 +49,7 @@ fn next_operation<S: Source>(
     ensures heard { Hears version number (reading lines.old (S.left source.old)) (reading lines.new (S.left source.new)) result }
     ensures counts { CountsLine (S.faults source.old) (S.faults source.new) result }
 {
-    match lines.read(source, LONGEST) {
+    match lines.read(source, line_limit(version)) {
         Ok(Found::Line) => judge(alloc, number, lines.line(), version),
         Ok(Found::TooLong) => Err(Status::Refused(number)),
         Ok(Found::End) => Err(Status::Done),

@@ -1,7 +1,8 @@
 //! The whole run of a client.
-ghost use Rattle.std.specs.Prelude.{◌≡◌, ◌≢◌, ◌≤◌, [], vec_len};
+ghost use Rattle.std.specs.Prelude.{◌≡◌, ◌≢◌, ◌≤◌, [], true, vec_len};
 ghost use Rattle.vr_ask.specs.Asking.{client_of, faults, stand};
 ghost use Rattle.vr_ask.specs.Run.{ClientEnds, EndsAttached, EndsRun, client_with, outside, reading};
+ghost use Rattle.vr_base.specs.Groups.{is_size};
 ghost use Rattle.vr_edge.specs.Attaching.{texts_of};
 ghost use Rattle.vr_edge.specs.Failing.{LinkFailure};
 ghost use Rattle.vr_status.specs.Counts.{links_after, reads_after, writes_after};
@@ -15,9 +16,6 @@ use vr_edge::{Link, Sink, Source};
 use vr_header::Operation;
 use vr_lines::Lines;
 use vr_status::Status;
-
-/// The version of the frames in which a command's client asks.
-pub const CLIENT_VERSION: u8 = 1;
 
 /// Registers, and then asks the lines of the source.
 #[tactic(auto, using(crate::proofs::Runs::unregistered, crate::proofs::Runs::registered))]
@@ -51,6 +49,7 @@ fn ask_all<S: Source, K: Sink, L: Link>(
 #[tactic(auto, using(crate::proofs::Runs::ran, crate::proofs::Runs::unmade))]
 fn ask_made<S: Source, K: Sink, L: Link>(
     alloc: Global,
+    version: Version,
     cluster: u64,
     id: u64,
     peers: &Vec<String>,
@@ -60,9 +59,8 @@ fn ask_made<S: Source, K: Sink, L: Link>(
     link: &mut L,
 ) -> Status
     requires id { id ≢ 0 }
-    requires least { 2 ≤ vec_len peers.now }
-    requires most { vec_len peers.now ≤ 6 }
-    ensures ends { EndsAttached (client_with cluster id (vec_len peers.now) turns)
+    requires size { is_size version (vec_len peers.now) ≡ true }
+    ensures ends { EndsAttached (client_with version cluster id (vec_len peers.now) turns)
         (outside (L.sent link.old) (L.received link.old) (K.taken sink.old) (S.left source.old) (L.attached link.old))
         (outside (L.sent link.new) (L.received link.new) (K.taken sink.new) (S.left source.new) (L.attached link.new))
         (faults (L.faults link.old) (K.faults sink.old)) (faults (L.faults link.new) (K.faults sink.new)) result }
@@ -73,19 +71,19 @@ fn ask_made<S: Source, K: Sink, L: Link>(
     ensures attached { L.attached link.new ≡ L.attached link.old }
 {
     let size = peers.len() as u8;
-    let Ok(mut core) = ClientCore::new(alloc, cluster, id, size, Version::new(CLIENT_VERSION))
-    else {
+    let Ok(mut core) = ClientCore::new(alloc, cluster, id, size, version) else {
         return Status::NoMemory;
     };
     let mut lines = Lines::new();
     ask_all(alloc, &mut core, &mut lines, source, link, sink, turns)
 }
 
-/// The client `id` of a group whose members have these addresses: it registers, asks each line of its source, and writes each answer. Its end has its cause: a line that is
-/// none of a client's, no answer in its turns, a session that the group knows no more, or a fault that the count of its object tells.
+/// The client `id` of a group whose members have these addresses and files of this version: it registers, asks each line of its source, and writes each answer. Its end has its
+/// cause: a line that is none of a client's of this version, no answer in its turns, a session that the group knows no more, or a fault that the count of its object tells.
 #[tactic(auto, using(crate::proofs::Runs::linked, crate::proofs::Runs::unlinked))]
 pub fn run_client<S: Source, K: Sink, L: Link>(
     alloc: Global,
+    version: Version,
     cluster: u64,
     id: u64,
     peers: &Vec<String>,
@@ -95,9 +93,8 @@ pub fn run_client<S: Source, K: Sink, L: Link>(
     link: &mut L,
 ) -> Status
     requires id { id ≢ 0 }
-    requires least { 2 ≤ vec_len peers.now }
-    requires most { vec_len peers.now ≤ 6 }
-    ensures ends { ClientEnds (client_with cluster id (vec_len peers.now) turns) (texts_of peers.now.items)
+    requires size { is_size version (vec_len peers.now) ≡ true }
+    ensures ends { ClientEnds (client_with version cluster id (vec_len peers.now) turns) (texts_of peers.now.items)
         (outside (L.sent link.old) (L.received link.old) (K.taken sink.old) (S.left source.old) (L.attached link.old))
         (outside (L.sent link.new) (L.received link.new) (K.taken sink.new) (S.left source.new) (L.attached link.new))
         (faults (L.faults link.old) (K.faults sink.old)) (faults (L.faults link.new) (K.faults sink.new)) result }
@@ -108,7 +105,7 @@ pub fn run_client<S: Source, K: Sink, L: Link>(
     ensures link { result ≡ Status.LinkFault → LinkFailure (L.faults link.old) (L.faults link.new) (L.attached link.old) (L.attached link.new) (L.received link.old) (L.received link.new) }
 {
     match link.attach("", peers) {
-        Ok(()) => ask_made(alloc, cluster, id, peers, turns, source, sink, link),
+        Ok(()) => ask_made(alloc, version, cluster, id, peers, turns, source, sink, link),
         Err(_) => Status::LinkFault,
     }
 }

@@ -1,6 +1,6 @@
 //! A client between two asks.
-ghost use Rattle.std.specs.Prelude.{◌≡◌, ◌≢◌, ◌≤◌, ◌<◌, ◌+◌, ◌^◌, ◌↔◌, ◌⊎◌, IfOk, vec_capacity};
-ghost use Rattle.vr_base.specs.Groups.{quorums_of};
+ghost use Rattle.std.specs.Prelude.{◌≡◌, ◌≢◌, ◌≤◌, ◌<◌, ◌+◌, ◌^◌, ◌↔◌, ◌⊎◌, IfOk, true, vec_capacity};
+ghost use Rattle.vr_base.specs.Groups.{is_size};
 ghost use Rattle.vr_edge.specs.declared.link.TheConstants.{RECEIVE_ROOM};
 ghost use Rattle.vr_header.specs.declared.operation.Operation.TheVariants.{Register};
 
@@ -30,8 +30,9 @@ pub struct ClientCore {
 }
 
 impl ClientCore {
-    /// The client `id` of a group of `n`, which asks in frames of this version and the member with port 0 first, and its next request
-    /// is its first.
+    /// The client `id` of a group of `n` whose files are of this version: it asks in frames of that version, the member with port 0
+    /// first, and its next request is its first.
+    #[tactic(auto, using(std::proofs::lemmas::Grind::common_steps, crate::proofs::Sizes::asks_one))]
     pub fn new(
         alloc: Global,
         cluster: u64,
@@ -40,7 +41,7 @@ impl ClientCore {
         version: Version,
     ) -> Result<ClientCore, NoMemory>
         requires id { id ≢ 0 }
-        requires size { (2 ≤ n) × (n ≤ 6) }
+        requires size { is_size version n ≡ true }
         ensures group { IfOk result (λ c. (c.cluster ≡ cluster) × (c.n ≡ n)) }
         ensures version { IfOk result (λ c. c.version ≡ version) }
         ensures id { IfOk result (λ c. c.id ≡ id) }

@@ -1,11 +1,11 @@
 -- Commands, each against its run.
 use Rattle.std.proofs.Common.{◌≡◌, ◌≤◌, ◌<◌, ◌⊎◌, ◌∙◌, zero, suc, ℕ, List, [], ◌∷◌, true, Option, Some, None, length, map, refl, ap, subst, sym, inl, inr, arith}
-use Rattle.std.specs.Prelude.{◌≢◌, IfSome, is_some, string_bytes, vec_len}
-use Rattle.std.proofs.lemmas.Bool.Decides.{nat_tests}
+use Rattle.std.specs.Prelude.{◌≢◌, IfSome, string_bytes, vec_len}
 use Rattle.vr_ask.specs.Asking as ask
 use Rattle.vr_ask.specs.Run as run
 use Rattle.vr_base.specs.Causes.{Rose}
-use Rattle.vr_base.specs.Groups.{quorums_of}
+use Rattle.vr_base.specs.Groups.{is_size}
+use Rattle.vr_base.proofs.Members.{sized}
 use Rattle.vr_base.specs.declared.kind.Kind.{Kind}
 use Rattle.vr_base.specs.declared.table.Config.{Config}
 use Rattle.vr_edge.specs.Failing.{LinkFailure}
@@ -27,24 +27,11 @@ use Rattle.vr_top.specs.Outside.{Outside}
 use Rattle.vr_top.specs.Roles.{IsGood, client_of, config_of, trial_of}
 use Rattle.vr_trial.specs.Run as trial
 use Rattle.vr_trial.specs.Told as told
-use Rattle.vr_words.specs.Asked.{Asked, Client, ClientAsked, Node, NodeAsked, Replay, Soak, Trial, TrialAsked, client_says, is_size, node_says, trial_says}
+use Rattle.vr_words.specs.Asked.{Asked, Client, ClientAsked, Node, NodeAsked, Replay, Soak, Trial, TrialAsked, client_says, least_by, node_says, trial_says}
 use Rattle.vr_words.specs.declared.command.ClientWords.{ClientWords}
 use Rattle.vr_words.specs.declared.command.NodeWords.{NodeWords}
 use Rattle.vr_words.specs.declared.command.SoakWords.{SoakWords}
 use Rattle.vr_words.specs.declared.command.TrialWords.{TrialWords}
-
-size_bounds : (n : ℕ) → is_size n ≡ true → (2 ≤ n) × (n ≤ 6)
-size_bounds n e = (grind (arith, nat_tests), grind (arith, nat_tests))
-
-sized : (n : ℕ) → 2 ≤ n → n ≤ 6 → is_some (quorums_of n) ≡ true
-sized zero a b = absurd (omega (arith, a))
-sized (suc zero) a b = absurd (omega (arith, a))
-sized (suc (suc zero)) a b = refl
-sized (suc (suc (suc zero))) a b = refl
-sized (suc (suc (suc (suc zero)))) a b = refl
-sized (suc (suc (suc (suc (suc zero))))) a b = refl
-sized (suc (suc (suc (suc (suc (suc zero)))))) a b = refl
-sized (suc (suc (suc (suc (suc (suc (suc n))))))) a b = absurd (omega (arith, b))
 
 map_length : {X Y : Type 0} (f : X → Y) (xs : List X) → length (map f xs) ≡ length xs
 map_length f [] = refl
@@ -62,12 +49,15 @@ pub node_config : (w : NodeWords) → config_of (node_says w) ≡ record { clust
 node_config w = ap (config_with w.cluster w.replica) (node_peers w)
 
 pub node_most : (w : NodeWords) → IsGood (Node (node_says w)) → vec_len w.peers ≤ 6
-node_most w h = subst (λ n. n ≤ 6) (node_peers w) (size_bounds (length (map string_bytes w.peers.items)) h.0).1
+node_most w h = subst (λ n. n ≤ 6) (node_peers w) (sized (least_by w.fresh) (length (map string_bytes w.peers.items)) h.0).1
 
-pub node_size : (w : NodeWords) → IsGood (Node (node_says w)) → is_some (quorums_of (config_of (node_says w)).n) ≡ true
-node_size w h =
-    let n = length (map string_bytes w.peers.items) in
-    sized n (size_bounds n h.0).0 (size_bounds n h.0).1
+-- a file that is made is of a group of so many
+made_size : (fresh : Option Kind) (n : ℕ) → is_size (least_by fresh) n ≡ true → IfSome fresh (λ kind. is_size kind.version n ≡ true)
+made_size None n e = tt
+made_size (Some kind) n e = e
+
+pub node_size : (w : NodeWords) → IsGood (Node (node_says w)) → IfSome w.fresh (λ kind. is_size kind.version (config_of (node_says w)).n ≡ true)
+node_size w h = made_size w.fresh (length (map string_bytes w.peers.items)) h.0
 
 pub node_member : (w : NodeWords) → IsGood (Node (node_says w)) → (config_of (node_says w)).replica < (config_of (node_says w)).n
 node_member w h = h.1
@@ -89,18 +79,15 @@ by_role fresh fresh' c c' file file' peers peers' turns turns' o o' b n s f k q 
 client_peers : (w : ClientWords) → length (map string_bytes w.peers.items) ≡ vec_len w.peers
 client_peers w = map_length string_bytes w.peers.items ∙ sym w.peers.ok.0
 
-pub client_least : (w : ClientWords) → IsGood (Client (client_says w)) → 2 ≤ vec_len w.peers
-client_least w h = subst (λ n. 2 ≤ n) (client_peers w) (size_bounds (length (map string_bytes w.peers.items)) h.0).0
-
-pub client_most : (w : ClientWords) → IsGood (Client (client_says w)) → vec_len w.peers ≤ 6
-client_most w h = subst (λ n. n ≤ 6) (client_peers w) (size_bounds (length (map string_bytes w.peers.items)) h.0).1
+pub client_size : (w : ClientWords) → IsGood (Client (client_says w)) → is_size w.version (vec_len w.peers) ≡ true
+client_size w h = subst (λ n. is_size w.version n ≡ true) (client_peers w) h.0
 
 pub client_named : (w : ClientWords) → IsGood (Client (client_says w)) → w.id ≢ 0
 client_named w h = h.1
 
 pub by_client : (w : ClientWords) (o o' : run.Outside) (b n : ask.Faults) (s : Status)
-    → run.ClientEnds (run.client_with w.cluster w.id (vec_len w.peers) w.turns) (map string_bytes w.peers.items) o o' b n s → run.ClientEnds (client_of (client_says w)) (client_says w).peers o o' b n s
-by_client w o o' b n s e = subst (λ k. run.ClientEnds (run.client_with w.cluster w.id k w.turns) (map string_bytes w.peers.items) o o' b n s) (sym (client_peers w)) e
+    → run.ClientEnds (run.client_with w.version w.cluster w.id (vec_len w.peers) w.turns) (map string_bytes w.peers.items) o o' b n s → run.ClientEnds (client_of (client_says w)) (client_says w).peers o o' b n s
+by_client w o o' b n s e = subst (λ k. run.ClientEnds (run.client_with w.version w.cluster w.id k w.turns) (map string_bytes w.peers.items) o o' b n s) (sym (client_peers w)) e
 
 -- ---- a trial's words
 
@@ -108,13 +95,13 @@ trial_peers : (w : TrialWords) → length (map string_bytes w.peers.items) ≡ v
 trial_peers w = map_length string_bytes w.peers.items ∙ sym w.peers.ok.0
 
 pub trial_least : (w : TrialWords) → IsGood (Trial (trial_says w)) → 2 ≤ vec_len w.peers
-trial_least w h = subst (λ n. 2 ≤ n) (trial_peers w) (size_bounds (length (map string_bytes w.peers.items)) h).0
+trial_least w h = subst (λ n. 2 ≤ n) (trial_peers w) (sized 1 (length (map string_bytes w.peers.items)) h).0
 
 pub trial_most : (w : TrialWords) → IsGood (Trial (trial_says w)) → vec_len w.peers ≤ 6
-trial_most w h = subst (λ n. n ≤ 6) (trial_peers w) (size_bounds (length (map string_bytes w.peers.items)) h).1
+trial_most w h = subst (λ n. n ≤ 6) (trial_peers w) (sized 1 (length (map string_bytes w.peers.items)) h).1
 
 abbrev trial_with : ℕ → ℕ → List ℕ → List (List ℕ) → ℕ → told.Trial
-trial_with cluster turns files peers n = record { client = run.client_with cluster 1 n turns; files = files; peers = peers }
+trial_with cluster turns files peers n = record { client = run.client_with 1 cluster 1 n turns; files = files; peers = peers }
 
 -- the plan with a trial's words is what they say
 pub planned : (w : TrialWords) → trial_with w.cluster w.turns (string_bytes w.files) (map string_bytes w.peers.items) (vec_len w.peers) ≡ trial_of (trial_says w)

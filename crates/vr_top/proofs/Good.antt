@@ -5,10 +5,11 @@ use Rattle.std.specs.Option.{option_map}
 use Rattle.std.specs.Str.{bytes_eq}
 use Rattle.std.proofs.lemmas.Bool.Decides.{nat_tests}
 use Rattle.clap.specs.Words.{Row, Text, all_of, first_of}
+use Rattle.vr_base.specs.Groups.{is_size}
 use Rattle.vr_base.specs.declared.kind.Kind.{Kind}
 use Rattle.vr_top.specs.Roles.{IsGood}
 use Rattle.vr_lines.specs.Numbers.{number_below, number_of}
-use Rattle.vr_words.specs.Asked.{Asked, Client, ClientAsked, Node, NodeAsked, Replay, Soak, asked, asked_at, asker_at, below_at, client_at, entered_by, fresh_at, id_at, is_size, is_taken, member_at, node_at, number_at, peers_at, soak_at, Trial, TrialAsked, trial_at, trier_at}
+use Rattle.vr_words.specs.Asked.{Asked, Client, ClientAsked, Node, NodeAsked, Replay, Soak, asked, asked_at, asker_at, below_at, client_at, entered_by, fresh_at, id_at, is_taken, least_by, member_at, node_at, number_at, peers_at, soak_at, Trial, TrialAsked, trial_at, trier_at, version_at}
 use Rattle.vr_words.specs.declared.command.SoakWords.{SoakWords}
 
 -- ---- tests
@@ -27,17 +28,17 @@ map_some f (Some a) y e = (a, refl, cc e)
 
 -- ---- values
 
-sized_peers : (x : Option (List Text)) (peers : List Text)
-    → option_and_then (λ peers. if is_size (length peers) then Some peers else None) x ≡ Some peers → is_size (length peers) ≡ true
-sized_peers None peers e = absurd (cc e)
-sized_peers (Some a) peers e =
-    let b = if_some (is_size (length a)) (Some a) peers e in
+sized_peers : (version : ℕ) (x : Option (List Text)) (peers : List Text)
+    → option_and_then (λ peers. if is_size version (length peers) then Some peers else None) x ≡ Some peers → is_size version (length peers) ≡ true
+sized_peers version None peers e = absurd (cc e)
+sized_peers version (Some a) peers e =
+    let b = if_some (is_size version (length a)) (Some a) peers e in
     let same : a ≡ peers = cc (b.1) in
-    subst (λ x. is_size (length x) ≡ true) same b.0
+    subst (λ x. is_size version (length x) ≡ true) same b.0
 
-peers_size : (rows : List Row) (peers : List Text) → peers_at rows ≡ Some peers → is_size (length peers) ≡ true
+peers_size : (version : ℕ) (rows : List Row) (peers : List Text) → peers_at version rows ≡ Some peers → is_size version (length peers) ≡ true
 unfolding peers_at
-peers_size rows peers e = sized_peers (all_of (codes "addr") rows) peers e
+peers_size version rows peers e = sized_peers version (all_of (codes "addr") rows) peers e
 
 below_some : (bound : ℕ) (x : Option ℕ) (n : ℕ) → option_and_then (λ n. if nat_lt n bound then Some n else None) x ≡ Some n → n < bound
 below_some bound None n e = absurd (cc e)
@@ -51,45 +52,49 @@ below_text : (bound : ℕ) (x : Option Text) (n : ℕ) → option_and_then (numb
 below_text bound None n e = absurd (cc e)
 below_text bound (Some text) n e = below_some bound (number_of text) n e
 
-member_by : (peers : List Text) (cluster replica : Option ℕ) (file : Option Text) (turns : Option ℕ) (fresh : Option (Option Kind)) (a : NodeAsked)
+member_by : (fresh : Option Kind) (peers : List Text) (cluster replica : Option ℕ) (file : Option Text) (turns : Option ℕ) (a : NodeAsked)
     → option_and_then
     (λ cluster. option_and_then
     (λ replica. option_and_then
-    (λ file. option_and_then
-    (λ turns. option_map
-    (λ fresh. record { cluster = cluster; replica = replica; file = file; turns = turns; peers = peers; fresh = fresh })
-    fresh)
+    (λ file. option_map
+    (λ turns. record { cluster = cluster; replica = replica; file = file; turns = turns; peers = peers; fresh = fresh })
     turns)
     file)
     replica)
     cluster
-    ≡ Some a → (a.peers ≡ peers) × (replica ≡ Some a.replica)
-member_by peers None replica file turns fresh a e = absurd (cc e)
-member_by peers (Some c) None file turns fresh a e = absurd (cc e)
-member_by peers (Some c) (Some r) None turns fresh a e = absurd (cc e)
-member_by peers (Some c) (Some r) (Some f) None fresh a e = absurd (cc e)
-member_by peers (Some c) (Some r) (Some f) (Some t) None a e = absurd (cc e)
-member_by peers (Some c) (Some r) (Some f) (Some t) (Some x) a e =
-    let same : record { cluster = c; replica = r; file = f; turns = t; peers = peers; fresh = x } ≡ a = cc e in
-    (sym (ap (λ (x : NodeAsked). x.peers) same), ap (λ (x : NodeAsked). Some x.replica) same)
+    ≡ Some a → (a.fresh ≡ fresh) × (a.peers ≡ peers) × (replica ≡ Some a.replica)
+member_by fresh peers None replica file turns a e = absurd (cc e)
+member_by fresh peers (Some c) None file turns a e = absurd (cc e)
+member_by fresh peers (Some c) (Some r) None turns a e = absurd (cc e)
+member_by fresh peers (Some c) (Some r) (Some f) None a e = absurd (cc e)
+member_by fresh peers (Some c) (Some r) (Some f) (Some t) a e =
+    let same : record { cluster = c; replica = r; file = f; turns = t; peers = peers; fresh = fresh } ≡ a = cc e in
+    (sym (ap (λ (x : NodeAsked). x.fresh) same), sym (ap (λ (x : NodeAsked). x.peers) same), ap (λ (x : NodeAsked). Some x.replica) same)
 
-member_good : (peers : List Text) (rows : List Row) (a : NodeAsked) → member_at peers rows ≡ Some a → (a.peers ≡ peers) × (a.replica < length peers)
+member_good : (fresh : Option Kind) (peers : List Text) (rows : List Row) (a : NodeAsked) → member_at fresh peers rows ≡ Some a
+    → (a.fresh ≡ fresh) × (a.peers ≡ peers) × (a.replica < length peers)
 unfolding member_at
-member_good peers rows a e =
-    let m = member_by peers (number_at (codes "cluster") rows) (below_at (length peers) (codes "replica") rows) (first_of (codes "file") rows) (number_at (codes "turns") rows) (fresh_at rows) a e in
-    (m.0, below_text (length peers) (first_of (codes "replica") rows) a.replica m.1)
+member_good fresh peers rows a e =
+    let m = member_by fresh peers (number_at (codes "cluster") rows) (below_at (length peers) (codes "replica") rows) (first_of (codes "file") rows) (number_at (codes "turns") rows) a e in
+    (m.0, m.1, below_text (length peers) (first_of (codes "replica") rows) a.replica m.2)
 
-node_by : (rows : List Row) (p : Option (List Text)) → ((peers : List Text) → p ≡ Some peers → is_size (length peers) ≡ true) → (a : NodeAsked)
-    → option_and_then (λ peers. member_at peers rows) p ≡ Some a → IsGood (Node a)
-node_by rows None h a e = absurd (cc e)
-node_by rows (Some peers) h a e =
-    let m = member_good peers rows a e in
-    let size : is_size (length peers) ≡ true = h peers refl in
-    (subst (λ x. is_size (length x) ≡ true) (sym m.0) size, subst (λ x. a.replica < length x) (sym m.0) m.1)
+node_with : (fresh : Option Kind) (rows : List Row) (p : Option (List Text)) → ((peers : List Text) → p ≡ Some peers → is_size (least_by fresh) (length peers) ≡ true) → (a : NodeAsked)
+    → option_and_then (λ peers. member_at fresh peers rows) p ≡ Some a → IsGood (Node a)
+node_with fresh rows None h a e = absurd (cc e)
+node_with fresh rows (Some peers) h a e =
+    let m = member_good fresh peers rows a e in
+    let size : is_size (least_by fresh) (length peers) ≡ true = h peers refl in
+    let by_peers : is_size (least_by fresh) (length a.peers) ≡ true = subst (λ x. is_size (least_by fresh) (length x) ≡ true) (sym m.1) size in
+    (subst (λ x. is_size (least_by x) (length a.peers) ≡ true) (sym m.0) by_peers, subst (λ x. a.replica < length x) (sym m.1) m.2)
+
+node_by : (rows : List Row) (f : Option (Option Kind)) (a : NodeAsked)
+    → option_and_then (λ fresh. option_and_then (λ peers. member_at fresh peers rows) (peers_at (least_by fresh) rows)) f ≡ Some a → IsGood (Node a)
+node_by rows None a e = absurd (cc e)
+node_by rows (Some fresh) a e = node_with fresh rows (peers_at (least_by fresh) rows) (peers_size (least_by fresh) rows) a e
 
 node_good : (rows : List Row) (a : NodeAsked) → node_at rows ≡ Some a → IsGood (Node a)
 unfolding node_at
-node_good rows a e = node_by rows (peers_at rows) (peers_size rows) a e
+node_good rows a e = node_by rows (fresh_at rows) a e
 
 id_by : (x : Option ℕ) (id : ℕ) → option_and_then (λ id. if id == 0 then None else Some id) x ≡ Some id → id ≢ 0
 id_by None id e = absurd (cc e)
@@ -103,37 +108,41 @@ id_good : (rows : List Row) (id : ℕ) → id_at rows ≡ Some id → id ≢ 0
 unfolding id_at
 id_good rows id e = id_by (number_at (codes "id") rows) id e
 
-asker_by : (peers : List Text) (cluster id turns : Option ℕ) (a : ClientAsked)
+asker_by : (version : ℕ) (peers : List Text) (cluster id turns : Option ℕ) (a : ClientAsked)
     → option_and_then
     (λ cluster. option_and_then
-    (λ id. option_map (λ turns. record { cluster = cluster; id = id; turns = turns; peers = peers }) turns)
+    (λ id. option_map
+    (λ turns. record { version = version; cluster = cluster; id = id; turns = turns; peers = peers })
+    turns)
     id)
     cluster
-    ≡ Some a → (a.peers ≡ peers) × (id ≡ Some a.id)
-asker_by peers None id turns a e = absurd (cc e)
-asker_by peers (Some c) None turns a e = absurd (cc e)
-asker_by peers (Some c) (Some i) None a e = absurd (cc e)
-asker_by peers (Some c) (Some i) (Some t) a e =
-    let same : record { cluster = c; id = i; turns = t; peers = peers } ≡ a = cc e in
-    (sym (ap (λ (x : ClientAsked). x.peers) same), ap (λ (x : ClientAsked). Some x.id) same)
+    ≡ Some a → (a.version ≡ version) × (a.peers ≡ peers) × (id ≡ Some a.id)
+asker_by version peers None id turns a e = absurd (cc e)
+asker_by version peers (Some c) None turns a e = absurd (cc e)
+asker_by version peers (Some c) (Some i) None a e = absurd (cc e)
+asker_by version peers (Some c) (Some i) (Some t) a e =
+    let same : record { version = version; cluster = c; id = i; turns = t; peers = peers } ≡ a = cc e in
+    (sym (ap (λ (x : ClientAsked). x.version) same), sym (ap (λ (x : ClientAsked). x.peers) same), ap (λ (x : ClientAsked). Some x.id) same)
 
-asker_good : (peers : List Text) (rows : List Row) (a : ClientAsked) → asker_at peers rows ≡ Some a → (a.peers ≡ peers) × (a.id ≢ 0)
+asker_good : (version : ℕ) (peers : List Text) (rows : List Row) (a : ClientAsked) → asker_at version peers rows ≡ Some a
+    → (a.version ≡ version) × (a.peers ≡ peers) × (a.id ≢ 0)
 unfolding asker_at
-asker_good peers rows a e =
-    let m = asker_by peers (number_at (codes "cluster") rows) (id_at rows) (number_at (codes "turns") rows) a e in
-    (m.0, id_good rows a.id m.1)
+asker_good version peers rows a e =
+    let m = asker_by version peers (number_at (codes "cluster") rows) (id_at rows) (number_at (codes "turns") rows) a e in
+    (m.0, m.1, id_good rows a.id m.2)
 
-client_by : (rows : List Row) (p : Option (List Text)) → ((peers : List Text) → p ≡ Some peers → is_size (length peers) ≡ true) → (a : ClientAsked)
-    → option_and_then (λ peers. asker_at peers rows) p ≡ Some a → IsGood (Client a)
-client_by rows None h a e = absurd (cc e)
-client_by rows (Some peers) h a e =
-    let m = asker_good peers rows a e in
-    let size : is_size (length peers) ≡ true = h peers refl in
-    (subst (λ x. is_size (length x) ≡ true) (sym m.0) size, m.1)
+client_by : (version : ℕ) (rows : List Row) (p : Option (List Text)) → ((peers : List Text) → p ≡ Some peers → is_size version (length peers) ≡ true) → (a : ClientAsked)
+    → option_and_then (λ peers. asker_at version peers rows) p ≡ Some a → IsGood (Client a)
+client_by version rows None h a e = absurd (cc e)
+client_by version rows (Some peers) h a e =
+    let m = asker_good version peers rows a e in
+    let size : is_size version (length peers) ≡ true = h peers refl in
+    let by_peers : is_size version (length a.peers) ≡ true = subst (λ x. is_size version (length x) ≡ true) (sym m.1) size in
+    (subst (λ x. is_size x (length a.peers) ≡ true) (sym m.0) by_peers, m.2)
 
 client_good : (rows : List Row) (a : ClientAsked) → client_at rows ≡ Some a → IsGood (Client a)
 unfolding client_at
-client_good rows a e = client_by rows (peers_at rows) (peers_size rows) a e
+client_good rows a e = client_by (version_at rows) rows (peers_at (version_at rows) rows) (peers_size (version_at rows) rows) a e
 
 trier_by : (peers : List Text) (cluster turns : Option ℕ) (files : Option Text) (a : TrialAsked)
     → option_and_then
@@ -153,16 +162,16 @@ trier_good : (peers : List Text) (rows : List Row) (a : TrialAsked) → trier_at
 unfolding trier_at
 trier_good peers rows a e = trier_by peers (number_at (codes "cluster") rows) (number_at (codes "turns") rows) (first_of (codes "files") rows) a e
 
-trial_by : (rows : List Row) (p : Option (List Text)) → ((peers : List Text) → p ≡ Some peers → is_size (length peers) ≡ true) → (a : TrialAsked)
+trial_by : (rows : List Row) (p : Option (List Text)) → ((peers : List Text) → p ≡ Some peers → is_size 1 (length peers) ≡ true) → (a : TrialAsked)
     → option_and_then (λ peers. trier_at peers rows) p ≡ Some a → IsGood (Trial a)
 trial_by rows None h a e = absurd (cc e)
 trial_by rows (Some peers) h a e =
-    let size : is_size (length peers) ≡ true = h peers refl in
-    subst (λ x. is_size (length x) ≡ true) (sym (trier_good peers rows a e)) size
+    let size : is_size 1 (length peers) ≡ true = h peers refl in
+    subst (λ x. is_size 1 (length x) ≡ true) (sym (trier_good peers rows a e)) size
 
 trial_good : (rows : List Row) (a : TrialAsked) → trial_at rows ≡ Some a → IsGood (Trial a)
 unfolding trial_at
-trial_good rows a e = trial_by rows (peers_at rows) (peers_size rows) a e
+trial_good rows a e = trial_by rows (peers_at 1 rows) (peers_size 1 rows) a e
 
 soak_by : (seed count : Option ℕ) (w : SoakWords) → option_and_then (λ seed. option_map (λ count. record { seed = seed; count = count }) count) seed ≡ Some w → count ≡ Some w.count
 soak_by None count w e = absurd (cc e)

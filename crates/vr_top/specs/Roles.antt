@@ -2,24 +2,26 @@
 use Rattle.std.specs.Prelude.{◌≡◌, ◌≢◌, ◌<◌, ⊤, true, length}
 use Rattle.vr_ask.specs.Asking.{Client as Asker}
 use Rattle.vr_ask.specs.Run.{client_with}
+use Rattle.vr_base.specs.Groups.{is_size}
 use Rattle.vr_base.specs.declared.table.Config.{Config}
 use Rattle.vr_trial.specs.Told.{Trial as Plan}
-use Rattle.vr_words.specs.Asked.{Asked, Client, ClientAsked, Node, NodeAsked, Replay, Soak, Trial, TrialAsked, is_size}
+use Rattle.vr_words.specs.Asked.{Asked, Client, ClientAsked, Node, NodeAsked, Replay, Soak, Trial, TrialAsked, least_by}
 
 abbrev pub config_of : NodeAsked → Config
 config_of a = record { cluster = a.cluster; replica = a.replica; n = length a.peers }
 
 abbrev pub client_of : ClientAsked → Asker
-client_of a = client_with a.cluster a.id (length a.peers) a.turns
+client_of a = client_with a.version a.cluster a.id (length a.peers) a.turns
 
--- its client is 1
+-- its client is 1, and asks in frames of version 1
 abbrev pub trial_of : TrialAsked → Plan
-trial_of a = record { client = client_with a.cluster 1 (length a.peers) a.turns; files = a.files; peers = a.peers }
+trial_of a = record { client = client_with 1 a.cluster 1 (length a.peers) a.turns; files = a.files; peers = a.peers }
 
--- a number of lines is below a million; a member is one of its group, which has from 2 to 6, also where it is tried; a client isn't 0
+-- A number of lines is below a million. A member is one of its group, which has from 2 to 6; one alone may have a file of version 2, one that is found
+-- again, whose file decides, and a client of version 2 may ask it. A client isn't 0. A group that is tried has files of version 1.
 abbrev pub IsGood : Asked → Type 0
 IsGood Replay = ⊤
 IsGood (Soak words) = words.count < 1000000
-IsGood (Node a) = (is_size (length a.peers) ≡ true) × (a.replica < length a.peers)
-IsGood (Client a) = (is_size (length a.peers) ≡ true) × (a.id ≢ 0)
-IsGood (Trial a) = is_size (length a.peers) ≡ true
+IsGood (Node a) = (is_size (least_by a.fresh) (length a.peers) ≡ true) × (a.replica < length a.peers)
+IsGood (Client a) = (is_size a.version (length a.peers) ≡ true) × (a.id ≢ 0)
+IsGood (Trial a) = is_size 1 (length a.peers) ≡ true

@@ -70,7 +70,7 @@ pub fn serve_role<K: Sink, D: SectorDisk, L: Link, C: Clock>(
 }
 
 /// A client asks.
-#[tactic(auto, using(crate::proofs::Coming::client_least, crate::proofs::Coming::client_most, crate::proofs::Coming::client_named, crate::proofs::Coming::by_client))]
+#[tactic(auto, using(crate::proofs::Coming::client_size, crate::proofs::Coming::client_named, crate::proofs::Coming::by_client))]
 pub fn ask_group<S: Source, K: Sink, L: Link>(
     alloc: Global,
     words: &ClientWords,
@@ -90,6 +90,7 @@ pub fn ask_group<S: Source, K: Sink, L: Link>(
 {
     run_client(
         alloc,
+        words.version,
         words.cluster,
         words.id,
         &words.peers,

@@ -16,10 +16,10 @@ pub record Trial : Type 0 where
   pub files : List ℕ
   pub peers : List (List ℕ)
 
--- client 1 asks
+-- client 1 asks, in frames of version 1: the members' files are made of it
 abbrev pub trial_of : Plan → Trial
 trial_of plan = record {
-  client = client_with plan.cluster 1 (vec_len plan.peers) plan.turns;
+  client = client_with 1 plan.cluster 1 (vec_len plan.peers) plan.turns;
   files = string_bytes plan.files;
   peers = texts_of plan.peers.items;
 }

@@ -6,12 +6,14 @@ ghost use Rattle.vr_trial.specs.Told.{trial_of};
 
 use crate::plan::Plan;
 use std::alloc::Global;
-use vr_ask::CLIENT_VERSION;
 use vr_base::{NoMemory, Seq, Version};
 use vr_client::ClientCore;
 
 /// The client that asks.
 const CLIENT: u64 = 1;
+
+/// The version of the members' files, in whose frames it asks.
+const VERSION: u8 = 1;
 
 /// A trial on its way.
 #[derive(Debug, Drop)]
@@ -42,7 +44,7 @@ impl Course {
                 plan.cluster,
                 CLIENT,
                 n as u8,
-                Version::new(CLIENT_VERSION),
+                Version::new(VERSION),
             )?,
             running: Seq::from_vec(running),
         })

@@ -1,3 +1,4 @@
+mod Commands
 pub mod Forming
 pub mod Found
 pub mod Rows

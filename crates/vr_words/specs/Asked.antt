@@ -1,10 +1,10 @@
 -- What the words of a command line ask for.
-use Rattle.std.specs.Prelude.{ℕ, List, length, map, Bool, true, false, ◌&&◌, ◌==◌, nat_le, if◌then◌else◌, Option, Some, None, option_and_then, codes, string_bytes}
+use Rattle.std.specs.Prelude.{ℕ, List, length, map, Bool, true, false, ◌==◌, if◌then◌else◌, Option, Some, None, option_and_then, codes, string_bytes}
 use Rattle.std.specs.Borrow.{Bor}
 use Rattle.std.specs.Option.{option_map, option_map_or}
 use Rattle.std.specs.Str.{bytes_eq}
 use Rattle.clap.specs.Words.{Kinds, Row, Text, all_of, fault_of, first_of, subcommand_of}
-use Rattle.vr_base.specs.Kinds.{of_mode}
+use Rattle.vr_base.specs.Groups.{is_size}
 use Rattle.vr_base.specs.declared.kind.Kind.{Kind}
 use Rattle.vr_base.specs.declared.mode.Mode.TheVariants.{Careful, Strict}
 use Rattle.vr_lines.specs.Numbers.{number_below, number_of}
@@ -28,6 +28,7 @@ pub record NodeAsked : Type 0 where
   pub fresh : Option Kind
 
 pub record ClientAsked : Type 0 where
+  pub version : ℕ
   pub cluster : ℕ
   pub id : ℕ
   pub turns : ℕ
@@ -58,7 +59,7 @@ node_says w = record {
 }
 
 abbrev pub client_says : ClientWords → ClientAsked
-client_says w = record { cluster = w.cluster; id = w.id; turns = w.turns; peers = map string_bytes w.peers.items }
+client_says w = record { version = w.version; cluster = w.cluster; id = w.id; turns = w.turns; peers = map string_bytes w.peers.items }
 
 abbrev pub trial_says : TrialWords → TrialAsked
 trial_says w = record { cluster = w.cluster; turns = w.turns; files = string_bytes w.files; peers = map string_bytes w.peers.items }
@@ -86,7 +87,7 @@ node_texts_say t = record {
 }
 
 abbrev pub client_texts_say : ClientTexts → ClientAsked
-client_texts_say t = record { cluster = t.cluster; id = t.id; turns = t.turns; peers = texts_now t.peers.now }
+client_texts_say t = record { version = t.version; cluster = t.cluster; id = t.id; turns = t.turns; peers = texts_now t.peers.now }
 
 abbrev pub trial_texts_say : TrialTexts → TrialAsked
 trial_texts_say t = record { cluster = t.cluster; turns = t.turns; files = t.files.now; peers = texts_now t.peers.now }
@@ -99,28 +100,41 @@ number_at id rows = option_and_then number_of (first_of id rows)
 abbrev pub below_at : ℕ → Text → List Row → Option ℕ
 below_at bound id rows = option_and_then (number_below bound) (first_of id rows)
 
--- a group has so many members
-abbrev pub is_size : ℕ → Bool
-is_size n = nat_le 2 n && nat_le n 6
-
--- from 2 to 6 addresses
-unfoldable pub peers_at : List Row → Option (List Text)
-peers_at rows = option_and_then (λ peers. if is_size (length peers) then Some peers else None) (all_of (codes "addr") rows)
+-- as many addresses as a group has members whose files are of this version: from 2 to 6, and from 1 of version 2
+unfoldable pub peers_at : ℕ → List Row → Option (List Text)
+peers_at version rows = option_and_then (λ peers. if is_size version (length peers) then Some peers else None) (all_of (codes "addr") rows)
 
 -- whether a flag stands there
 unfoldable pub flag_at : Text → List Row → Bool
 flag_at id rows = option_map_or (λ text. bytes_eq text (codes "true")) (first_of id rows) false
 
--- what the file is made as, none where it is found again, by whether `--fresh` and `--careful` stand there. The mode of a file is chosen
--- where it is made: `--careful` alone is no form
-abbrev pub fresh_of : Bool → Bool → Option (Option Kind)
-fresh_of true true = Some (Some (of_mode Careful))
-fresh_of true false = Some (Some (of_mode Strict))
-fresh_of false true = None
-fresh_of false false = Some None
+-- 2 where `--v2` stands there, else 1
+abbrev pub version_of : Bool → ℕ
+version_of v2 = if v2 then 2 else 1
+
+unfoldable pub version_at : List Row → ℕ
+version_at rows = version_of (flag_at (codes "v2") rows)
+
+-- what a file is made as, by whether `--careful` and `--v2` stand there: each says its own, the mode or the version
+abbrev pub kind_of : Bool → Bool → Kind
+kind_of careful v2 = record { mode = if careful then Careful else Strict; version = version_of v2 }
+
+-- what the file is made as, none where it is found again, by whether `--fresh`, `--careful` and `--v2` stand there. The mode and the version of a
+-- file are chosen where it is made: neither `--careful` nor `--v2` is a form without `--fresh`
+abbrev pub fresh_of : Bool → Bool → Bool → Option (Option Kind)
+fresh_of true careful v2 = Some (Some (kind_of careful v2))
+fresh_of false true v2 = None
+fresh_of false false true = None
+fresh_of false false false = Some None
 
 unfoldable pub fresh_at : List Row → Option (Option Kind)
-fresh_at rows = fresh_of (flag_at (codes "fresh") rows) (flag_at (codes "careful") rows)
+fresh_at rows = fresh_of (flag_at (codes "fresh") rows) (flag_at (codes "careful") rows) (flag_at (codes "v2") rows)
+
+-- The version that says how few members there may be: of a file that is made, its own. One that is found again has its version and its group in
+-- itself, so there may be as few as of any version.
+abbrev pub least_by : Option Kind → ℕ
+least_by (Some kind) = kind.version
+least_by None = 2
 
 unfoldable pub soak_at : List Row → Option SoakWords
 soak_at rows =
@@ -128,39 +142,44 @@ soak_at rows =
     (λ seed. option_map (λ count. record { seed = seed; count = count }) (below_at 1000000 (codes "count") rows))
     (number_at (codes "seed") rows)
 
--- a member of so many peers
-unfoldable pub member_at : List Text → List Row → Option NodeAsked
-member_at peers rows =
+-- a member of so many peers, whose file is made as this, or found again
+unfoldable pub member_at : Option Kind → List Text → List Row → Option NodeAsked
+member_at fresh peers rows =
     option_and_then
     (λ cluster. option_and_then
     (λ replica. option_and_then
-    (λ file. option_and_then
-    (λ turns. option_map
-    (λ fresh. record { cluster = cluster; replica = replica; file = file; turns = turns; peers = peers; fresh = fresh })
-    (fresh_at rows))
+    (λ file. option_map
+    (λ turns. record { cluster = cluster; replica = replica; file = file; turns = turns; peers = peers; fresh = fresh })
     (number_at (codes "turns") rows))
     (first_of (codes "file") rows))
     (below_at (length peers) (codes "replica") rows))
     (number_at (codes "cluster") rows)
 
 unfoldable pub node_at : List Row → Option NodeAsked
-node_at rows = option_and_then (λ peers. member_at peers rows) (peers_at rows)
+node_at rows =
+    option_and_then
+    (λ fresh. option_and_then (λ peers. member_at fresh peers rows) (peers_at (least_by fresh) rows))
+    (fresh_at rows)
 
 -- a number that isn't 0
 unfoldable pub id_at : List Row → Option ℕ
 id_at rows = option_and_then (λ id. if id == 0 then None else Some id) (number_at (codes "id") rows)
 
-unfoldable pub asker_at : List Text → List Row → Option ClientAsked
-asker_at peers rows =
+-- a client of so many peers, that asks in frames of this version
+unfoldable pub asker_at : ℕ → List Text → List Row → Option ClientAsked
+asker_at version peers rows =
     option_and_then
     (λ cluster. option_and_then
-    (λ id. option_map (λ turns. record { cluster = cluster; id = id; turns = turns; peers = peers }) (number_at (codes "turns") rows))
+    (λ id. option_map
+    (λ turns. record { version = version; cluster = cluster; id = id; turns = turns; peers = peers })
+    (number_at (codes "turns") rows))
     (id_at rows))
     (number_at (codes "cluster") rows)
 
 unfoldable pub client_at : List Row → Option ClientAsked
-client_at rows = option_and_then (λ peers. asker_at peers rows) (peers_at rows)
+client_at rows = option_and_then (λ peers. asker_at (version_at rows) peers rows) (peers_at (version_at rows) rows)
 
+-- a trial of so many peers, whose files are of version 1
 unfoldable pub trier_at : List Text → List Row → Option TrialAsked
 trier_at peers rows =
     option_and_then
@@ -170,7 +189,7 @@ trier_at peers rows =
     (number_at (codes "cluster") rows)
 
 unfoldable pub trial_at : List Row → Option TrialAsked
-trial_at rows = option_and_then (λ peers. trier_at peers rows) (peers_at rows)
+trial_at rows = option_and_then (λ peers. trier_at peers rows) (peers_at 1 rows)
 
 -- what a command with these values asks for
 unfoldable pub asked_at : Text → List Row → Option Asked

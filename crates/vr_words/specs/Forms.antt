@@ -67,15 +67,19 @@ replay = plain (codes "replay")
 unfoldable pub soak : App
 soak = wanting (plain (codes "soak")) (codes "seed" ∷ codes "count" ∷ [])
 
--- `node CLUSTER REPLICA FILE TURNS ADDR..` with `--fresh` or not, with `--careful` or not
-unfoldable pub node : App
-node = taking (taking
-    (peered (codes "node") (codes "cluster" ∷ codes "replica" ∷ codes "file" ∷ codes "turns" ∷ []))
-    (flag (codes "fresh"))) (flag (codes "careful"))
+-- the form with `--careful` or not, with `--v2` or not: what a file is made as
+unfoldable pub making : App → App
+making a = taking (taking a (flag (codes "careful"))) (flag (codes "v2"))
 
--- `client CLUSTER ID TURNS ADDR..`
+-- `node CLUSTER REPLICA FILE TURNS ADDR..` with `--fresh` or not, with `--careful` or not, with `--v2` or not
+unfoldable pub node : App
+node = making (taking
+    (peered (codes "node") (codes "cluster" ∷ codes "replica" ∷ codes "file" ∷ codes "turns" ∷ []))
+    (flag (codes "fresh")))
+
+-- `client CLUSTER ID TURNS ADDR..` with `--v2` or not
 unfoldable pub client : App
-client = peered (codes "client") (codes "cluster" ∷ codes "id" ∷ codes "turns" ∷ [])
+client = taking (peered (codes "client") (codes "cluster" ∷ codes "id" ∷ codes "turns" ∷ [])) (flag (codes "v2"))
 
 -- `trial CLUSTER TURNS FILES ADDR..`
 unfoldable pub trial : App

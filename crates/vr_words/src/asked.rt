@@ -1,13 +1,14 @@
 //! What the values of a command say.
 ghost use Rattle.std.specs.Prelude.{◌≡◌, ◌≤◌, IfOk, IfSome, codes, length, map, string_bytes, true};
+ghost use Rattle.vr_base.specs.Groups.{is_size};
 ghost use Rattle.std.specs.Option.{option_map};
 ghost use Rattle.clap.specs.Words.{all_of, first_of, found_of, rows_of};
-ghost use Rattle.vr_words.specs.Asked.{asker_at, below_at, client_at, client_says, client_texts_say, flag_at, fresh_at, id_at, is_size, member_at, node_at, node_says, node_texts_say, number_at, peers_at, soak_at, texts_now, trial_at, trial_says, trial_texts_say, trier_at};
+ghost use Rattle.vr_words.specs.Asked.{asker_at, below_at, client_at, client_says, client_texts_say, flag_at, fresh_at, fresh_of, id_at, kind_of, least_by, member_at, node_at, node_says, node_texts_say, number_at, peers_at, soak_at, texts_now, trial_at, trial_says, trial_texts_say, trier_at, version_at, version_of};
 
 use crate::command::{ClientWords, NodeWords, SoakWords, TrialWords};
 use clap::ArgMatches;
 use std::alloc::{AllocError, Global};
-use vr_base::{Kind, Mode};
+use vr_base::{Kind, Mode, Version, is_size};
 use vr_lines::{read_below, read_number};
 
 /// The text of an argument.
@@ -40,22 +41,22 @@ fn all_at<'m, 'a>(matches: &'m ArgMatches<'a>) -> Option<&'m [&'a str]>
     matches.get_raw("addr")
 }
 
-/// Whether a group has so many members.
-fn is_size(n: usize) -> bool
-    ensures value { result ≡ is_size n }
+/// Whether a group whose files are of this version has so many members.
+fn is_group(version: Version, n: usize) -> bool
+    ensures value { result ≡ is_size version n }
     ensures few { result ≡ true → n ≤ 6 }
 {
-    n >= 2 && n <= 6
+    n <= 6 && is_size(version, n as u8)
 }
 
-/// The addresses, as they stand on the command line.
+/// The addresses, as they stand on the command line: as many as a group has members whose files are of this version.
 #[tactic(auto, using(std::proofs::lemmas::Grind::common_steps, crate::proofs::Rows::texts_length), unfolding(crate::specs::Asked::peers_at))]
-fn peers_at<'m, 'a>(matches: &'m ArgMatches<'a>) -> Option<&'m [&'a str]>
-    ensures peers { option_map (λ texts. texts_now texts.now) result ≡ peers_at (rows_of (found_of matches.now)) }
+fn peers_at<'m, 'a>(matches: &'m ArgMatches<'a>, version: Version) -> Option<&'m [&'a str]>
+    ensures peers { option_map (λ texts. texts_now texts.now) result ≡ peers_at version (rows_of (found_of matches.now)) }
     ensures few { IfSome result (λ peers. length peers.now ≤ 6) }
 {
     let peers = all_at(matches)?;
-    if is_size(peers.len()) {
+    if is_group(version, peers.len()) {
         Some(peers)
     } else {
         None
@@ -73,17 +74,62 @@ fn flag_at(matches: &ArgMatches<'_>, id: &str) -> bool
     }
 }
 
-/// What the file is made as, none where it is found again. The mode of a file is chosen where it is made: `--careful` alone is no
-/// form.
+/// 2 where `--v2` stands there, else 1.
+fn version_of(v2: bool) -> Version
+    ensures { result ≡ version_of v2 }
+{
+    Version::new(if v2 { 2 } else { 1 })
+}
+
+/// The version that is asked for.
+#[tactic(auto, unfolding(crate::specs::Asked::version_at))]
+fn version_at(matches: &ArgMatches<'_>) -> Version
+    ensures { result ≡ version_at (rows_of (found_of matches.now)) }
+{
+    version_of(flag_at(matches, "v2"))
+}
+
+/// What a file is made as, by whether `--careful` and `--v2` stand there.
+fn kind_of(careful: bool, v2: bool) -> Kind
+    ensures { result ≡ kind_of careful v2 }
+{
+    Kind {
+        mode: if careful { Mode::Careful } else { Mode::Strict },
+        version: version_of(v2),
+    }
+}
+
+/// What the file is made as, none where it is found again, by whether `--fresh`, `--careful` and `--v2` stand there. The mode and the
+/// version of a file are chosen where it is made: neither `--careful` nor `--v2` is a form without `--fresh`.
+fn fresh_of(fresh: bool, careful: bool, v2: bool) -> Option<Option<Kind>>
+    ensures { result ≡ fresh_of fresh careful v2 }
+{
+    if fresh {
+        return Some(Some(kind_of(careful, v2)));
+    }
+    if careful || v2 { None } else { Some(None) }
+}
+
+/// The same by the words.
 #[tactic(auto, unfolding(crate::specs::Asked::fresh_at))]
 fn fresh_at(matches: &ArgMatches<'_>) -> Option<Option<Kind>>
     ensures { result ≡ fresh_at (rows_of (found_of matches.now)) }
 {
-    match (flag_at(matches, "fresh"), flag_at(matches, "careful")) {
-        (true, true) => Some(Some(Kind::of_mode(Mode::Careful))),
-        (true, false) => Some(Some(Kind::of_mode(Mode::Strict))),
-        (false, true) => None,
-        (false, false) => Some(None),
+    fresh_of(
+        flag_at(matches, "fresh"),
+        flag_at(matches, "careful"),
+        flag_at(matches, "v2"),
+    )
+}
+
+/// The version that says how few members there may be: of a file that is made, its own. One that is found again has its version and its
+/// group in itself, so there may be as few as of any version.
+fn least_by(fresh: &Option<Kind>) -> Version
+    ensures { result ≡ least_by fresh.now }
+{
+    match fresh {
+        Some(kind) => kind.version,
+        None => Version::new(2),
     }
 }
 
@@ -120,6 +166,7 @@ struct NodeTexts<'m, 'a> {
 /// The values of `client`, as they stand on the command line.
 #[derive(Clone, Copy)]
 struct ClientTexts<'m, 'a> {
+    version: Version,
     cluster: u64,
     id: u64,
     turns: u64,
@@ -135,17 +182,20 @@ struct TrialTexts<'m, 'a> {
     peers: &'m [&'a str],
 }
 
-/// The values of `node` beside the addresses.
+/// The values of `node` beside its addresses and what its file is made as.
 #[tactic(auto, using(std::proofs::lemmas::Grind::common_steps, crate::proofs::Rows::texts_length), unfolding(crate::specs::Asked::member_at))]
-fn member_at<'m, 'a>(matches: &ArgMatches<'a>, peers: &'m [&'a str]) -> Option<NodeTexts<'m, 'a>>
+fn member_at<'m, 'a>(
+    matches: &ArgMatches<'a>,
+    fresh: Option<Kind>,
+    peers: &'m [&'a str],
+) -> Option<NodeTexts<'m, 'a>>
     requires { length peers.now ≤ 6 }
-    ensures { option_map node_texts_say result ≡ member_at (texts_now peers.now) (rows_of (found_of matches.now)) }
+    ensures { option_map node_texts_say result ≡ member_at fresh (texts_now peers.now) (rows_of (found_of matches.now)) }
 {
     let cluster = number_at(matches, "cluster")?;
     let replica = below_at(matches, peers.len() as u64, "replica")? as u8;
     let file = text_at(matches, "file")?;
     let turns = number_at(matches, "turns")?;
-    let fresh = fresh_at(matches)?;
     Some(NodeTexts {
         cluster,
         replica,
@@ -156,15 +206,20 @@ fn member_at<'m, 'a>(matches: &ArgMatches<'a>, peers: &'m [&'a str]) -> Option<N
     })
 }
 
-/// The values of `client` beside the addresses.
+/// The values of `client` beside its version and its addresses.
 #[tactic(auto, unfolding(crate::specs::Asked::asker_at))]
-fn asker_at<'m, 'a>(matches: &ArgMatches<'a>, peers: &'m [&'a str]) -> Option<ClientTexts<'m, 'a>>
-    ensures { option_map client_texts_say result ≡ asker_at (texts_now peers.now) (rows_of (found_of matches.now)) }
+fn asker_at<'m, 'a>(
+    matches: &ArgMatches<'a>,
+    version: Version,
+    peers: &'m [&'a str],
+) -> Option<ClientTexts<'m, 'a>>
+    ensures { option_map client_texts_say result ≡ asker_at version (texts_now peers.now) (rows_of (found_of matches.now)) }
 {
     let cluster = number_at(matches, "cluster")?;
     let id = id_at(matches)?;
     let turns = number_at(matches, "turns")?;
     Some(ClientTexts {
+        version,
         cluster,
         id,
         turns,
@@ -205,8 +260,9 @@ fn copied(alloc: Global, texts: &[&str]) -> Result<Vec<String>, AllocError>
 fn node_texts<'m, 'a>(matches: &'m ArgMatches<'a>) -> Option<NodeTexts<'m, 'a>>
     ensures { option_map node_texts_say result ≡ node_at (rows_of (found_of matches.now)) }
 {
-    let peers = peers_at(matches)?;
-    member_at(matches, peers)
+    let fresh = fresh_at(matches)?;
+    let peers = peers_at(matches, least_by(&fresh))?;
+    member_at(matches, fresh, peers)
 }
 
 /// The values of `client`, where they are in range.
@@ -214,16 +270,17 @@ fn node_texts<'m, 'a>(matches: &'m ArgMatches<'a>) -> Option<NodeTexts<'m, 'a>>
 fn client_texts<'m, 'a>(matches: &'m ArgMatches<'a>) -> Option<ClientTexts<'m, 'a>>
     ensures { option_map client_texts_say result ≡ client_at (rows_of (found_of matches.now)) }
 {
-    let peers = peers_at(matches)?;
-    asker_at(matches, peers)
+    let version = version_at(matches);
+    let peers = peers_at(matches, version)?;
+    asker_at(matches, version, peers)
 }
 
-/// The values of `trial`, where they are in range.
+/// The values of `trial`, where they are in range; its members' files are of version 1.
 #[tactic(auto, unfolding(crate::specs::Asked::trial_at))]
 fn trial_texts<'m, 'a>(matches: &'m ArgMatches<'a>) -> Option<TrialTexts<'m, 'a>>
     ensures { option_map trial_texts_say result ≡ trial_at (rows_of (found_of matches.now)) }
 {
-    let peers = peers_at(matches)?;
+    let peers = peers_at(matches, Version::new(1))?;
     trier_at(matches, peers)
 }
 
@@ -252,6 +309,7 @@ pub fn client_at(alloc: Global, matches: &ArgMatches<'_>) -> Result<Option<Clien
         return Ok(None);
     };
     Ok(Some(ClientWords {
+        version: texts.version,
         cluster: texts.cluster,
         id: texts.id,
         turns: texts.turns,

@@ -1,5 +1,5 @@
 //! What a command line asks for.
-use vr_base::Kind;
+use vr_base::{Kind, Version};
 
 /// Why words are no command.
 #[derive(Clone, Copy, Debug, PartialEq, Eq)]
@@ -17,7 +17,7 @@ pub struct SoakWords {
     pub count: u32,
 }
 
-/// `node CLUSTER REPLICA FILE TURNS ADDR..`, with `--fresh` and `--careful`, with `--fresh` alone, or with neither.
+/// `node CLUSTER REPLICA FILE TURNS ADDR..`, with `--fresh` or not; with it, each of `--careful` and `--v2` may stand there.
 #[derive(Debug, Drop, PartialEq, Eq)]
 pub struct NodeWords {
     pub cluster: u64,
@@ -25,20 +25,22 @@ pub struct NodeWords {
     pub replica: u8,
     pub file: String,
     pub turns: u64,
-    /// From 2 to 6 addresses.
+    /// From 2 to 6 addresses; one alone where a file of version 2 is made, or where the file is found again.
     pub peers: Vec<String>,
     /// What its file is made as; none where it is found again.
     pub fresh: Option<Kind>,
 }
 
-/// `client CLUSTER ID TURNS ADDR..`.
+/// `client CLUSTER ID TURNS ADDR..`, with `--v2` or not.
 #[derive(Debug, Drop, PartialEq, Eq)]
 pub struct ClientWords {
+    /// 2 with `--v2`.
+    pub version: Version,
     pub cluster: u64,
     /// Not 0.
     pub id: u64,
     pub turns: u64,
-    /// From 2 to 6 addresses.
+    /// From 2 to 6 addresses, and from 1 of version 2.
     pub peers: Vec<String>,
 }
 

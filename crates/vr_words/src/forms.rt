@@ -1,7 +1,7 @@
 //! The forms of the command line, as `clap` takes them.
 ghost use Rattle.std.specs.Prelude.{◌≡◌, IfOk, IsOkAnd};
 ghost use Rattle.vr_words.specs.Asked.{texts_now};
-ghost use Rattle.vr_words.specs.Forms.{IsLocal, IsLocalArg, above, addresses, client, flag, form_of, node, peered, plain, replay, rule_in, running, soak, taking, the_command, top, trial, wanted, wanting};
+ghost use Rattle.vr_words.specs.Forms.{IsLocal, IsLocalArg, above, addresses, client, flag, form_of, making, node, peered, plain, replay, rule_in, running, soak, taking, the_command, top, trial, wanted, wanting};
 
 use clap::{Arg, ArgAction, Command};
 use std::alloc::{AllocError, Global};
@@ -116,7 +116,18 @@ fn soak<'a>(alloc: Global) -> Result<Command<'a>, AllocError>
     with_wanted(alloc, plain(alloc, "soak"), &["seed", "count"])
 }
 
-/// `node CLUSTER REPLICA FILE TURNS ADDR..` with `--fresh` or not, with `--careful` or not.
+/// The command with the flags that say what a file is made as.
+#[tactic(auto, unfolding(crate::specs::Forms::making))]
+fn making<'a>(alloc: Global, command: Command<'a>) -> Result<Command<'a>, AllocError>
+    requires { IsLocal command }
+    ensures form { IfOk result (λ c. form_of c ≡ making (form_of command.entry)) }
+    ensures local { IfOk result (λ c. IsLocal c) }
+{
+    let command = with_arg(command, flag(alloc, "careful"))?;
+    with_arg(command, flag(alloc, "v2"))
+}
+
+/// `node CLUSTER REPLICA FILE TURNS ADDR..` with `--fresh` or not, with `--careful` or not, with `--v2` or not.
 #[tactic(auto, unfolding(crate::specs::Forms::node))]
 fn node<'a>(alloc: Global) -> Result<Command<'a>, AllocError>
     ensures form { IfOk result (λ c. form_of c ≡ node) }
@@ -124,16 +135,17 @@ fn node<'a>(alloc: Global) -> Result<Command<'a>, AllocError>
 {
     let command = peered(alloc, "node", &["cluster", "replica", "file", "turns"])?;
     let command = with_arg(command, flag(alloc, "fresh"))?;
-    with_arg(command, flag(alloc, "careful"))
+    making(alloc, command)
 }
 
-/// `client CLUSTER ID TURNS ADDR..`.
+/// `client CLUSTER ID TURNS ADDR..` with `--v2` or not.
 #[tactic(auto, unfolding(crate::specs::Forms::client))]
 fn client<'a>(alloc: Global) -> Result<Command<'a>, AllocError>
     ensures form { IfOk result (λ c. form_of c ≡ client) }
     ensures local { IfOk result (λ c. IsLocal c) }
 {
-    peered(alloc, "client", &["cluster", "id", "turns"])
+    let command = peered(alloc, "client", &["cluster", "id", "turns"])?;
+    with_arg(command, flag(alloc, "v2"))
 }
 
 /// `trial CLUSTER TURNS FILES ADDR..`.

@@ -9,7 +9,7 @@ pub returns-in-Ok-Line-clause-heard : goal.returns-in-Ok-Line-clause-heard
 returns-in-Ok-Line-clause-heard g c =
     let before = reading c.args.lines.now (g.S.Source.left c.args.source.now) in
     let after = reading c.read.new.self (g.S.Source.left c.read.new.source) in
-    let found : ReadsLine before after c.read.new.self.line =
-    subst (λ f. Comes longest before.rest before.left c.read.new.self after.left f) c.in-Ok-Line.field-0-is c.in-Ok-Line.ensures.found in
+    let found : ReadsLine c.args.version before after c.read.new.self.line =
+    subst (λ f. Comes (longest c.args.version) before.rest before.left c.read.new.self after.left f) c.in-Ok-Line.field-0-is (subst (λ l. Comes l before.rest before.left c.read.new.self after.left c.in-Ok-Line.field-0) c.line_limit.ensures.value c.in-Ok-Line.ensures.found) in
     let judged : Judges c.args.version c.args.number c.read.new.self.line c.judge.result = subst (λ l. Judges c.args.version c.args.number l c.judge.result) c.line.ensures c.judge.ensures in
     heard c.args.version c.args.number before after c.read.new.self.line c.judge.result found judged

@@ -12,7 +12,7 @@ returns-in-Ok-clause-link g c =
     let o' = outside (g.L.Link.sent c.ask_made.new.link) (g.L.Link.received c.ask_made.new.link) (g.K.Sink.taken c.ask_made.new.sink) (g.S.Source.left c.ask_made.new.source) (g.L.Link.attached c.ask_made.new.link) in
     let b = faults (g.L.Link.faults c.attach.new.self) (g.K.Sink.faults c.args.sink.now) in
     let n = faults (g.L.Link.faults c.ask_made.new.link) (g.K.Sink.faults c.ask_made.new.sink) in
-    λ is. let last = client_link (client_with c.args.cluster c.args.id (vec_len c.args.peers.now) c.args.turns) o o' b n c.ask_made.result c.ask_made.ensures.ends is in
+    λ is. let last = client_link (client_with c.args.version c.args.cluster c.args.id (vec_len c.args.peers.now) c.args.turns) o o' b n c.ask_made.result c.ask_made.ensures.ends is in
     record {
       rose = omega (arith, c.attach.ensures.cause.later, last.0);
       last = inr (subst (λ got. EndsFailed got (g.L.Link.received c.ask_made.new.link)) c.attach.ensures.received last.1);
