@@ -1,12 +1,12 @@
 -- The whole run of a client.
-use Rattle.std.proofs.Common.{◌≡◌, ◌≤◌, ◌⊎◌, ◌+◌, ℕ, true, false, List, [], ◌∷◌, ◌++◌, Option, Ok, Err, refl, sym, subst, inl, inr, arith}
+use Rattle.std.proofs.Common.{◌≡◌, ◌⊎◌, ◌+◌, ℕ, true, false, List, [], ◌∷◌, ◌++◌, Option, Ok, Err, refl, sym, subst, inl, inr, arith}
 use Rattle.vr_ask.specs.Asking.{Client, Exchanges, Faults, HasNone, Stand, faults}
 use Rattle.vr_ask.specs.Run.{AreExchanged, ClientEnds, EndsAt, EndsAttached, EndsLines, EndsRun, Exchange, Outside, Reading, StopsAt, outside, reading_of, standing}
 use Rattle.vr_base.specs.Causes.{Rose, one_more}
 use Rattle.vr_client.specs.declared.answer.AskFault.TheVariants as fault
 use Rattle.vr_edge.specs.Attaching.{attach_of}
 use Rattle.vr_edge.specs.Datagrams.{Arrival}
-use Rattle.vr_edge.specs.Failing.{EndsFailed, LinkFailure}
+use Rattle.vr_edge.specs.Failing.{EndsFailed}
 use Rattle.vr_edge.specs.Told.{Grows}
 use Rattle.vr_edge.specs.declared.attach.Attach.{Attach}
 use Rattle.vr_edge.specs.declared.datagram.Datagram.{Datagram}

@@ -105,7 +105,9 @@ pub fn run_client<S: Source, K: Sink, L: Link>(
     ensures link { result ≡ Status.LinkFault → LinkFailure (L.faults link.old) (L.faults link.new) (L.attached link.old) (L.attached link.new) (L.received link.old) (L.received link.new) }
 {
     match link.attach("", peers) {
-        Ok(()) => ask_made(alloc, version, cluster, id, peers, turns, source, sink, link),
+        Ok(()) => ask_made(
+            alloc, version, cluster, id, peers, turns, source, sink, link,
+        ),
         Err(_) => Status::LinkFault,
     }
 }

@@ -26,6 +26,7 @@ pub struct Course {
 
 impl Course {
     /// Nothing was asked, and no member runs.
+    #[tactic(auto, using(std::proofs::lemmas::Grind::common_steps, vr_base::proofs::Members::is_sized))]
     pub fn new(alloc: Global, plan: &Plan) -> Result<Course, NoMemory>
         requires least { 2 ≤ vec_len plan.now.peers }
         requires most { vec_len plan.now.peers ≤ 6 }
@@ -39,13 +40,7 @@ impl Course {
         running.resize(n, None)?;
         Ok(Course {
             alloc,
-            core: ClientCore::new(
-                alloc,
-                plan.cluster,
-                CLIENT,
-                n as u8,
-                Version::new(VERSION),
-            )?,
+            core: ClientCore::new(alloc, plan.cluster, CLIENT, n as u8, Version::new(VERSION))?,
             running: Seq::from_vec(running),
         })
     }

@@ -1,7 +1,7 @@
-use Rattle.std.proofs.Common.{◌+◌, ◌≡◌, ◌∙◌, ap, refl, sym, subst, arith, inl}
+use Rattle.std.proofs.Common.{◌+◌, ◌≡◌, ◌∙◌, Err, ap, refl, sym, subst, arith, inl}
 use Rattle.vr_ask.specs.Asking.{client_of, faults, stand}
-use Rattle.vr_ask.specs.Run.{EndsLines, Hears, IsExchanged, StopsAt, reading}
-use Rattle.vr_ask.proofs.Exchanges.{ends_at, midst_more, one_too_many}
+use Rattle.vr_ask.specs.Run.{EndsLines, Hears, IsExchanged, StopsAt, Takes, reading}
+use Rattle.vr_ask.proofs.Exchanges.{ends_at, midst_more, one_too_many, stops_later}
 use Rattle.vr_ask.proofs.lines.ask_lines.Goals.{in-Err-next_operation, in-Ok}
 use Rattle.vr_ask.proofs.lines.ask_lines.Goals as goal
 
@@ -24,6 +24,25 @@ loop-done-preserved g c =
       attached = c.take_line.ensures.attached ∙ i.attached;
       sink = e.sink ∙ i.sink;
     }
+
+pub returns-in-Err-clause-ends : goal.returns-in-Err-clause-ends
+returns-in-Err-clause-ends g c =
+    let i = c.loop-done.invariant in
+    let client = client_of c.args.core.now c.args.turns in
+    let number = c.loop-done.done + 1 in
+    let before = reading c.loop-done.lines (g.S.Source.left c.loop-done.source) in
+    let after = reading c.take_line.new.lines (g.S.Source.left c.take_line.new.source) in
+    let began = stand c.args.core.now (g.L.Link.sent c.args.link.now) (g.L.Link.received c.args.link.now) (g.K.Sink.taken c.args.sink.now) in
+    let stood = stand c.loop-done.core (g.L.Link.sent c.loop-done.link) (g.L.Link.received c.loop-done.link) (g.K.Sink.taken c.loop-done.sink) in
+    let stands = stand c.take_line.new.core (g.L.Link.sent c.take_line.new.link) (g.L.Link.received c.take_line.new.link) (g.K.Sink.taken c.take_line.new.sink) in
+    let b = faults (g.L.Link.faults c.args.link.now) (g.K.Sink.faults c.args.sink.now) in
+    let m = faults (g.L.Link.faults c.loop-done.link) (g.K.Sink.faults c.loop-done.sink) in
+    let n = faults (g.L.Link.faults c.take_line.new.link) (g.K.Sink.faults c.take_line.new.sink) in
+    let status = c.in-Err.status in
+    let taken : Takes client number before stood after stands m n (Err status) =
+    subst (λ x. Takes x number before stood after stands m n (Err status)) i.client c.in-Err.ensures.taken in
+    ends_at client c.loop-done.done number (reading c.args.lines.now (g.S.Source.left c.args.source.now)) began before stood after stands b n status refl
+    (omega (arith, c.loop-done-test.true)) i.midst (stops_later client number before stood after stands b m n status i.link i.sink taken)
 
 pub returns-clause-ends : goal.returns-clause-ends
 returns-clause-ends g c =
