@@ -5,6 +5,8 @@ port=$((20000 + ($$ * 7) % 9000))
 # Over TCP where SCHEME is tcp: and over UDP without it.
 scheme=${SCHEME:-}
 addresses="${scheme}127.0.0.1:$port ${scheme}127.0.0.1:$((port + 1)) ${scheme}127.0.0.1:$((port + 2))"
+# On files of version 2 where V2 is set; a file that is found again says so itself.
+version=${V2:+--v2}
 members=([0]= [1]= [2]=)
 
 # Ends what was started, and removes the files.
@@ -26,6 +28,7 @@ fail() {
 start() {
     local r=$1
     shift
+    [ "$*" != --fresh ] || set -- --fresh $version
     "$program" node 5 "$r" "$folder/$r" 1000000000 $addresses "$@" >> "$folder/$r.text" 2>> "$folder/$r.err" &
     members[$r]=$!
 }
@@ -39,7 +42,7 @@ end() {
 
 # Asks the lines of its standard input as a client, and prints each answer. A turn is one receive, of at most ten milliseconds; while a view
 # changes the members answer at once by whom to ask, so turns go by much faster then.
-ask() { timeout 120 "$program" client 5 "$1" 1000000 $addresses; }
+ask() { timeout 120 "$program" client 5 "$1" 1000000 $addresses $version; }
 
 # Waits up to ten seconds until a member has put out a line.
 await() {
