@@ -4,7 +4,7 @@ use Rattle.std.specs.Prelude.{IfSome, nat_eq, replicate}
 use Rattle.std.specs.Option.{option_and_then, option_map, option_map_or}
 use Rattle.std.specs.Int.{from_be_bytes, w32}
 use Rattle.std.specs.Cmp.Lexicographic.{pointwise}
-use Rattle.std.proofs.lemmas.List.{drop-append-le, drop-replicate, length-replicate, replicate-append-replicate, take-append-le, take-replicate}
+use Rattle.std.proofs.lemmas.List.{drop-append-le, drop-replicate, replicate-append-replicate, take-append-le, take-replicate}
 use Rattle.std.proofs.lemmas.List.Folds.{list_all-append}
 use Rattle.std.proofs.lemmas.Slice.Eq.{bytes_eq-Decides}
 use Rattle.vr_base.specs.Bytes.{is_zeros, number, piece}
@@ -15,9 +15,9 @@ use Rattle.vr_disk.specs.Sectors.{behind, has, together}
 use Rattle.vr_disk.proofs.Faces.{there}
 use Rattle.vr_disk.proofs.Places.{counted, inside}
 use Rattle.vr_disk.proofs.Together.{has_is, together_cons}
-use Rattle.vr_header.specs.Made.{Whole, entry_of}
+use Rattle.vr_header.specs.Made.{entry_of}
 use Rattle.vr_rings.specs.Readings.{Begins, IsNothing}
-use Rattle.vr_rings.specs.Slots.{in_front, is_blank, padded, prepare_reading, size_at, whole_in, whole_of}
+use Rattle.vr_rings.specs.Slots.{in_front, padded, prepare_reading, size_at, whole_in, whole_of}
 
 -- ---- sectors of zeros
 
