@@ -7,7 +7,7 @@ pub struct Config {
     pub cluster: u64,
     /// The number of the member, below `n`.
     pub replica: u8,
-    /// How many members the group has, from 2 to 6.
+    /// How many members the group has, from 2 to 6, and from 1 where the files have version 2.
     pub n: u8,
 }
 

@@ -17,14 +17,14 @@ use Rattle.vr_words.specs.declared.command.Command.{Command}
 use Rattle.vr_words.specs.declared.command.WordsFault.{WordsFault}
 use Rattle.vr_words.specs.declared.command.WordsFault.TheVariants as words
 use Rattle.vr_words.specs.Asked.{asked, asked_at, entered_by, faults_in}
-use Rattle.vr_words.specs.Forms.{above, addresses, client, flag, form_of, making, node, peered, plain, replay, running, soak, taking, the_command, top, trial, wanted, wanting}
+use Rattle.vr_words.specs.Forms.{above, addresses, client, flag, form_of, making, migrate, node, peered, plain, replay, running, soak, taking, the_command, top, trial, wanted, wanting}
 
 simple : is_simple the_command ≡ true
-unfolding the_command running top trial client node making soak replay peered plain wanting flag addresses wanted above taking
+unfolding the_command running top migrate trial client node making soak replay peered plain wanting flag addresses wanted above taking
 simple = refl
 
 free : is_simple_and_free the_command ≡ true
-unfolding the_command running top trial client node making soak replay peered plain wanting flag addresses wanted above taking
+unfolding the_command running top migrate trial client node making soak replay peered plain wanting flag addresses wanted above taking
 free = refl
 
 -- an error of a parse by the command has one of the kinds of its fault

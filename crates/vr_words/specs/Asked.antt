@@ -7,14 +7,17 @@ use Rattle.clap.specs.Words.{Kinds, Row, Text, all_of, fault_of, first_of, subco
 use Rattle.vr_base.specs.Groups.{is_size}
 use Rattle.vr_base.specs.declared.kind.Kind.{Kind}
 use Rattle.vr_base.specs.declared.mode.Mode.TheVariants.{Careful, Strict}
+use Rattle.vr_base.specs.declared.table.Config.{Config}
 use Rattle.vr_lines.specs.Numbers.{number_below, number_of}
 use Rattle.vr_words.specs.Forms.{the_command}
 use Rattle.vr_words.specs.declared.asked.ClientTexts.{ClientTexts}
+use Rattle.vr_words.specs.declared.asked.MigrateTexts.{MigrateTexts}
 use Rattle.vr_words.specs.declared.asked.NodeTexts.{NodeTexts}
 use Rattle.vr_words.specs.declared.asked.TrialTexts.{TrialTexts}
 use Rattle.vr_words.specs.declared.command.ClientWords.{ClientWords}
 use Rattle.vr_words.specs.declared.command.Command.{Command}
 use Rattle.vr_words.specs.declared.command.Command.TheVariants as command
+use Rattle.vr_words.specs.declared.command.MigrateWords.{MigrateWords}
 use Rattle.vr_words.specs.declared.command.NodeWords.{NodeWords}
 use Rattle.vr_words.specs.declared.command.SoakWords.{SoakWords}
 use Rattle.vr_words.specs.declared.command.TrialWords.{TrialWords}
@@ -40,12 +43,17 @@ pub record TrialAsked : Type 0 where
   pub files : Text
   pub peers : List Text
 
+pub record MigrateAsked : Type 0 where
+  pub config : Config
+  pub file : Text
+
 pub data Asked : Type 0 where
   Replay : Asked
   Soak : SoakWords → Asked
   Node : NodeAsked → Asked
   Client : ClientAsked → Asked
   Trial : TrialAsked → Asked
+  Migrate : MigrateAsked → Asked
 
 -- what a command of the program asks for
 abbrev pub node_says : NodeWords → NodeAsked
@@ -64,12 +72,16 @@ client_says w = record { version = w.version; cluster = w.cluster; id = w.id; tu
 abbrev pub trial_says : TrialWords → TrialAsked
 trial_says w = record { cluster = w.cluster; turns = w.turns; files = string_bytes w.files; peers = map string_bytes w.peers.items }
 
+abbrev pub migrate_says : MigrateWords → MigrateAsked
+migrate_says w = record { config = w.config; file = string_bytes w.file }
+
 abbrev pub says : Command → Asked
 says command.Replay = Replay
 says (command.Soak w) = Soak w
 says (command.Node w) = Node (node_says w)
 says (command.Client w) = Client (client_says w)
 says (command.Trial w) = Trial (trial_says w)
+says (command.Migrate w) = Migrate (migrate_says w)
 
 -- the texts behind references
 abbrev pub texts_now : List (Bor Text) → List Text
@@ -91,6 +103,9 @@ client_texts_say t = record { version = t.version; cluster = t.cluster; id = t.i
 
 abbrev pub trial_texts_say : TrialTexts → TrialAsked
 trial_texts_say t = record { cluster = t.cluster; turns = t.turns; files = t.files.now; peers = texts_now t.peers.now }
+
+abbrev pub migrate_texts_say : MigrateTexts → MigrateAsked
+migrate_texts_say t = record { config = t.config; file = t.file.now }
 
 -- the number of an argument: decimal digits without sign or leading zeros, below 2 ^ 64
 abbrev pub number_at : Text → List Row → Option ℕ
@@ -191,6 +206,24 @@ trier_at peers rows =
 unfoldable pub trial_at : List Row → Option TrialAsked
 trial_at rows = option_and_then (λ peers. trier_at peers rows) (peers_at 1 rows)
 
+-- of how many members a group is, whose files are to be of version 2: from 1 to 6
+unfoldable pub n_at : List Row → Option ℕ
+n_at rows = option_and_then (λ n. if is_size 2 n then Some n else None) (number_at (codes "n") rows)
+
+-- the member whose file is to be migrated, of a group of so many
+unfoldable pub mover_at : ℕ → List Row → Option MigrateAsked
+mover_at n rows =
+    option_and_then
+    (λ cluster. option_and_then
+    (λ replica. option_map
+    (λ file. record { config = record { cluster = cluster; replica = replica; n = n }; file = file })
+    (first_of (codes "file") rows))
+    (below_at n (codes "replica") rows))
+    (number_at (codes "cluster") rows)
+
+unfoldable pub migrate_at : List Row → Option MigrateAsked
+migrate_at rows = option_and_then (λ n. mover_at n rows) (n_at rows)
+
 -- what a command with these values asks for
 unfoldable pub asked_at : Text → List Row → Option Asked
 asked_at name rows =
@@ -199,7 +232,8 @@ asked_at name rows =
     else (if bytes_eq name (codes "node") then option_map Node (node_at rows)
     else (if bytes_eq name (codes "client") then option_map Client (client_at rows)
     else (if bytes_eq name (codes "trial") then option_map Trial (trial_at rows)
-    else None))))
+    else (if bytes_eq name (codes "migrate") then option_map Migrate (migrate_at rows)
+    else None)))))
 
 -- the faults that clap finds in the words
 unfoldable pub faults_in : List Text → Kinds

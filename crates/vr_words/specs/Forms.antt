@@ -85,6 +85,10 @@ client = taking (peered (codes "client") (codes "cluster" ∷ codes "id" ∷ cod
 unfoldable pub trial : App
 trial = peered (codes "trial") (codes "cluster" ∷ codes "turns" ∷ codes "files" ∷ [])
 
+-- `migrate CLUSTER REPLICA N FILE`
+unfoldable pub migrate : App
+migrate = wanting (plain (codes "migrate")) (codes "cluster" ∷ codes "replica" ∷ codes "n" ∷ codes "file" ∷ [])
+
 -- the command line without its commands
 unfoldable pub top : App
 top = on_top (λ s. record s { no_binary_name = true; disable_help_subcommand = true; subcommand_required = true })
@@ -96,4 +100,4 @@ running = above (above top replay) soak
 
 -- the command line with all of its commands
 unfoldable pub the_command : App
-the_command = above (above (above running node) client) trial
+the_command = above (above (above (above running node) client) trial) migrate

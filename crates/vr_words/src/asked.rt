@@ -3,12 +3,12 @@ ghost use Rattle.std.specs.Prelude.{◌≡◌, ◌≤◌, IfOk, IfSome, codes, l
 ghost use Rattle.vr_base.specs.Groups.{is_size};
 ghost use Rattle.std.specs.Option.{option_map};
 ghost use Rattle.clap.specs.Words.{all_of, first_of, found_of, rows_of};
-ghost use Rattle.vr_words.specs.Asked.{asker_at, below_at, client_at, client_says, client_texts_say, flag_at, fresh_at, fresh_of, id_at, kind_of, least_by, member_at, node_at, node_says, node_texts_say, number_at, peers_at, soak_at, texts_now, trial_at, trial_says, trial_texts_say, trier_at, version_at, version_of};
+ghost use Rattle.vr_words.specs.Asked.{asker_at, below_at, client_at, client_says, client_texts_say, flag_at, fresh_at, fresh_of, id_at, kind_of, least_by, member_at, migrate_at, migrate_says, migrate_texts_say, mover_at, n_at, node_at, node_says, node_texts_say, number_at, peers_at, soak_at, texts_now, trial_at, trial_says, trial_texts_say, trier_at, version_at, version_of};
 
-use crate::command::{ClientWords, NodeWords, SoakWords, TrialWords};
+use crate::command::{ClientWords, MigrateWords, NodeWords, SoakWords, TrialWords};
 use clap::ArgMatches;
 use std::alloc::{AllocError, Global};
-use vr_base::{Kind, Mode, Version, is_size};
+use vr_base::{Config, Kind, Mode, Version, is_size};
 use vr_lines::{read_below, read_number};
 
 /// The text of an argument.
@@ -42,7 +42,7 @@ fn all_at<'m, 'a>(matches: &'m ArgMatches<'a>) -> Option<&'m [&'a str]>
 }
 
 /// Whether a group whose files are of this version has so many members.
-fn is_group(version: Version, n: usize) -> bool
+fn is_group(version: Version, n: u64) -> bool
     ensures value { result ≡ is_size version n }
     ensures few { result ≡ true → n ≤ 6 }
 {
@@ -56,7 +56,7 @@ fn peers_at<'m, 'a>(matches: &'m ArgMatches<'a>, version: Version) -> Option<&'m
     ensures few { IfSome result (λ peers. length peers.now ≤ 6) }
 {
     let peers = all_at(matches)?;
-    if is_group(version, peers.len()) {
+    if is_group(version, peers.len() as u64) {
         Some(peers)
     } else {
         None
@@ -182,6 +182,13 @@ struct TrialTexts<'m, 'a> {
     peers: &'m [&'a str],
 }
 
+/// The values of `migrate`, as they stand on the command line.
+#[derive(Clone, Copy)]
+struct MigrateTexts<'a> {
+    config: Config,
+    file: &'a str,
+}
+
 /// The values of `node` beside its addresses and what its file is made as.
 #[tactic(auto, using(std::proofs::lemmas::Grind::common_steps, crate::proofs::Rows::texts_length), unfolding(crate::specs::Asked::member_at))]
 fn member_at<'m, 'a>(
@@ -243,6 +250,35 @@ fn trier_at<'m, 'a>(matches: &ArgMatches<'a>, peers: &'m [&'a str]) -> Option<Tr
     })
 }
 
+/// Of how many members a group is, whose files are to be of version 2.
+#[tactic(auto, unfolding(crate::specs::Asked::n_at))]
+fn n_at(matches: &ArgMatches<'_>) -> Option<u8>
+    ensures { result ≡ n_at (rows_of (found_of matches.now)) }
+{
+    let n = number_at(matches, "n")?;
+    if is_group(Version::new(2), n) {
+        Some(n as u8)
+    } else {
+        None
+    }
+}
+
+/// The values of `migrate` beside the size of the group.
+#[tactic(auto, unfolding(crate::specs::Asked::mover_at))]
+fn mover_at<'a>(matches: &ArgMatches<'a>, n: u8) -> Option<MigrateTexts<'a>>
+    ensures { option_map migrate_texts_say result ≡ mover_at n (rows_of (found_of matches.now)) }
+{
+    let cluster = number_at(matches, "cluster")?;
+    let replica = below_at(matches, u64::from(n), "replica")? as u8;
+    let file = text_at(matches, "file")?;
+    let config = Config {
+        cluster,
+        replica,
+        n,
+    };
+    Some(MigrateTexts { config, file })
+}
+
 /// Texts of one's own.
 #[tactic(auto, using(std::proofs::lemmas::Grind::common_steps, crate::proofs::Rows::copied_more))]
 fn copied(alloc: Global, texts: &[&str]) -> Result<Vec<String>, AllocError>
@@ -282,6 +318,15 @@ fn trial_texts<'m, 'a>(matches: &'m ArgMatches<'a>) -> Option<TrialTexts<'m, 'a>
 {
     let peers = peers_at(matches, Version::new(1))?;
     trier_at(matches, peers)
+}
+
+/// The values of `migrate`, where they are in range.
+#[tactic(auto, unfolding(crate::specs::Asked::migrate_at))]
+fn migrate_texts<'a>(matches: &ArgMatches<'a>) -> Option<MigrateTexts<'a>>
+    ensures { option_map migrate_texts_say result ≡ migrate_at (rows_of (found_of matches.now)) }
+{
+    let n = n_at(matches)?;
+    mover_at(matches, n)
 }
 
 /// The same with texts of one's own.
@@ -329,5 +374,21 @@ pub fn trial_at(alloc: Global, matches: &ArgMatches<'_>) -> Result<Option<TrialW
         turns: texts.turns,
         files: String::from_str(alloc, texts.files)?,
         peers: copied(alloc, texts.peers)?,
+    }))
+}
+
+/// The same with texts of one's own.
+pub fn migrate_at(
+    alloc: Global,
+    matches: &ArgMatches<'_>,
+) -> Result<Option<MigrateWords>, AllocError>
+    ensures { IfOk result (λ words. option_map migrate_says words ≡ migrate_at (rows_of (found_of matches.now))) }
+{
+    let Some(texts) = migrate_texts(matches) else {
+        return Ok(None);
+    };
+    Ok(Some(MigrateWords {
+        config: texts.config,
+        file: String::from_str(alloc, texts.file)?,
     }))
 }

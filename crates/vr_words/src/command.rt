@@ -1,5 +1,5 @@
 //! What a command line asks for.
-use vr_base::{Kind, Version};
+use vr_base::{Config, Kind, Version};
 
 /// Why words are no command.
 #[derive(Clone, Copy, Debug, PartialEq, Eq)]
@@ -55,6 +55,14 @@ pub struct TrialWords {
     pub peers: Vec<String>,
 }
 
+/// `migrate CLUSTER REPLICA N FILE`.
+#[derive(Debug, Drop, PartialEq, Eq)]
+pub struct MigrateWords {
+    /// The number in it is below its size, which is from 1 to 6.
+    pub config: Config,
+    pub file: String,
+}
+
 /// A command.
 #[derive(Debug, Drop, PartialEq, Eq)]
 pub enum Command {
@@ -63,4 +71,5 @@ pub enum Command {
     Node(NodeWords),
     Client(ClientWords),
     Trial(TrialWords),
+    Migrate(MigrateWords),
 }

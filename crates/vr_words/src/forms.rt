@@ -1,7 +1,7 @@
 //! The forms of the command line, as `clap` takes them.
 ghost use Rattle.std.specs.Prelude.{◌≡◌, IfOk, IsOkAnd};
 ghost use Rattle.vr_words.specs.Asked.{texts_now};
-ghost use Rattle.vr_words.specs.Forms.{IsLocal, IsLocalArg, above, addresses, client, flag, form_of, making, node, peered, plain, replay, rule_in, running, soak, taking, the_command, top, trial, wanted, wanting};
+ghost use Rattle.vr_words.specs.Forms.{IsLocal, IsLocalArg, above, addresses, client, flag, form_of, making, migrate, node, peered, plain, replay, rule_in, running, soak, taking, the_command, top, trial, wanted, wanting};
 
 use clap::{Arg, ArgAction, Command};
 use std::alloc::{AllocError, Global};
@@ -157,6 +157,18 @@ fn trial<'a>(alloc: Global) -> Result<Command<'a>, AllocError>
     peered(alloc, "trial", &["cluster", "turns", "files"])
 }
 
+/// `migrate CLUSTER REPLICA N FILE`.
+fn migrate<'a>(alloc: Global) -> Result<Command<'a>, AllocError>
+    ensures form { IfOk result (λ c. form_of c ≡ migrate) }
+    ensures local { IfOk result (λ c. IsLocal c) }
+{
+    with_wanted(
+        alloc,
+        plain(alloc, "migrate"),
+        &["cluster", "replica", "n", "file"],
+    )
+}
+
 /// The command line without its commands.
 #[tactic(auto, unfolding(crate::specs::Forms::form_of, crate::specs::Forms::IsLocal, crate::specs::Forms::top))]
 fn top<'a>(alloc: Global) -> Command<'a>
@@ -184,5 +196,6 @@ pub fn command<'a>(alloc: Global) -> Result<Command<'a>, AllocError>
 {
     let command = with_command(running(alloc)?, node(alloc))?;
     let command = with_command(command, client(alloc))?;
-    with_command(command, trial(alloc))
+    let command = with_command(command, trial(alloc))?;
+    with_command(command, migrate(alloc))
 }

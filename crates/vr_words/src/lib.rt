@@ -1,4 +1,4 @@
-//! The command line: which of the five commands its words are, with their numbers, texts and addresses.
+//! The command line: which of the six commands its words are, with their numbers, texts and addresses.
 #![tactic(auto)]
 
 mod asked;
@@ -6,5 +6,7 @@ mod command;
 mod forms;
 mod reading;
 
-pub use command::{ClientWords, Command, NodeWords, SoakWords, TrialWords, WordsFault};
+pub use command::{
+    ClientWords, Command, MigrateWords, NodeWords, SoakWords, TrialWords, WordsFault,
+};
 pub use reading::parse;

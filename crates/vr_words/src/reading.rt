@@ -4,7 +4,7 @@ ghost use Rattle.std.specs.Option.{option_map};
 ghost use Rattle.clap.specs.Words.{FailsBy, found_of, kind_of, rows_of, subcommand_rows_of};
 ghost use Rattle.vr_words.specs.Asked.{asked, asked_at, entered_by, faults_in, says};
 
-use crate::asked::{client_at, node_at, soak_at, trial_at};
+use crate::asked::{client_at, migrate_at, node_at, soak_at, trial_at};
 use crate::forms::command;
 use crate::{Command, WordsFault};
 use clap::error::ErrorKind;
@@ -42,6 +42,9 @@ fn command_at(
     }
     if name == "trial" {
         return Ok(trial_at(alloc, matches)?.map(Command::Trial));
+    }
+    if name == "migrate" {
+        return Ok(migrate_at(alloc, matches)?.map(Command::Migrate));
     }
     Ok(None)
 }

@@ -1,5 +1,5 @@
 use Rattle.vr_words.proofs.Forming.{put_last, put_one}
-use Rattle.vr_words.specs.Forms.{above, client, form_of, node, running, the_command, trial}
+use Rattle.vr_words.specs.Forms.{above, client, form_of, migrate, node, running, the_command, trial}
 use Rattle.vr_words.proofs.forms.command.Goals as goal
 
 pub returns : goal.returns
@@ -9,5 +9,7 @@ returns c =
     c.in_ok-running.ensures.form c.in_ok-command.ensures.form c.node.ensures.form in
     let second = put_one (form_of c.in_ok-command-2.command) (form_of c.in_ok-command.command) (above running node) client c.client.result
     first c.in_ok-command-2.ensures.form c.client.ensures.form in
-    put_last c.with_command-3.result _ (above (above running node) client) trial c.trial.result
-    second c.with_command-3.ensures.form c.trial.ensures.form
+    let third = put_one (form_of c.in_ok-command-3.command) (form_of c.in_ok-command-2.command) (above (above running node) client) trial c.trial.result
+    second c.in_ok-command-3.ensures.form c.trial.ensures.form in
+    put_last c.with_command-4.result _ (above (above (above running node) client) trial) migrate c.migrate.result
+    third c.with_command-4.ensures.form c.migrate.ensures.form
