@@ -6,7 +6,6 @@ pub use Rattle.vr_journal.specs.Does
 pub use Rattle.vr_journal.specs.Fit
 pub use Rattle.vr_journal.specs.Formatting
 pub use Rattle.vr_journal.specs.Migrating
-pub use Rattle.vr_opening.specs.Migration
 pub use Rattle.vr_opening.specs.declared.new_member.FreshFault
 pub use Rattle.vr_journal.specs.Halt
 pub use Rattle.vr_opening.specs.Making
