@@ -76,6 +76,7 @@ grows_one version w (line.Deliver number) g of = grows_delivered w _
 grows_one version w (line.Tick replica) g of = grows_at w replica _
 grows_one version w (line.Stop replica) g of = grows_at w replica _
 grows_one version w (line.Start replica) g of = grows_at w replica _
+grows_one version w (line.Migrate replica) g of = grows_at w replica _
 grows_one version w (line.Fuse replica call code) g of = grows_at w replica _
 grows_one version w (line.Damage replica sector) g of = grows_at w replica _
 grows_one version w (line.Stale replica sector) g of = grows_at w replica _

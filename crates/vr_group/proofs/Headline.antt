@@ -26,6 +26,7 @@ line_of version n (line.Deliver number) some of asked = tt
 line_of version n (line.Tick replica) some of asked = tt
 line_of version n (line.Stop replica) some of asked = tt
 line_of version n (line.Start replica) some of asked = tt
+line_of version n (line.Migrate replica) some of asked = tt
 line_of version n (line.Fuse replica call code) some of asked = tt
 line_of version n (line.Damage replica sector) some of asked = on_disk version sector of.1
 line_of version n (line.Stale replica sector) some of asked = on_disk version sector of.1

@@ -1,8 +1,10 @@
 pub mod Letters
 pub mod Numbering
 pub mod Acts
+pub mod Asks
 pub mod Goings
 pub mod Sectors
 pub mod Steps
 pub mod Headline
+pub mod Migrates
 pub mod Tops

@@ -75,7 +75,7 @@ step_halts n index event r q d e o t one h = word_halts n index (Some r) (react 
 
 -- ---- a start
 
-opens_so : (n : ℕ) (d : Disk) (v : SuperValue) → opens_as (Some n) d.face ≡ Some v → (sectors_by n).opens d.face ≡ Some v
+pub opens_so : (n : ℕ) (d : Disk) (v : SuperValue) → opens_as (Some n) d.face ≡ Some v → (sectors_by n).opens d.face ≡ Some v
 opens_so n d v e = sym (opens_in n d.face) ∙ e
 
 starts_by : (n : ℕ) (index : ℕ) (d : Disk) (v : SuperValue) → (sectors_by n).opens d.face ≡ Some v → starts hazards index (host_on n None d) ≡ acts hazards index (host_on n None d) (opening v lying (blank v) (lying_in n d))

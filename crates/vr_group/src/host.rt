@@ -1,12 +1,15 @@
 //! What hosts a member of the group.
 ghost use Rattle.std.specs.Prelude.{◌≡◌, ◌-◌, ◌<◌, ◌≤◌, ◌∷◌, [], Some, None, IfOk, OnOk, is_some, true};
+ghost use Rattle.std.specs.Option.{option_map_or};
 ghost use Rattle.vr_base.specs.Groups.{is_size};
 ghost use Rattle.vr_lie.specs.Faults.{IsFault};
+ghost use Rattle.vr_lie.specs.Opens as superblock;
 ghost use Rattle.vr_lie.specs.Told.{version_by};
-ghost use Rattle.vr_lying.specs.Lying.{hazards};
+ghost use Rattle.vr_lying.specs.Lying.{hazards, settled};
 ghost use Rattle.vr_lying.specs.World.{asks, fresh_host, handles, lies, migrates, starts};
 ghost use Rattle.vr_msg.specs.declared.output.Output.TheVariants as output;
-ghost use Rattle.vr_lying.specs.Disks.{told_by};
+ghost use Rattle.vr_replica.specs.Fit.{IsAsked};
+ghost use Rattle.vr_lying.specs.Disks.{lying_of, told_by};
 ghost use Rattle.vr_lying.specs.Laws.{revived};
 ghost use Rattle.vr_lying.specs.Told.{IsTold};
 ghost use Rattle.vr_group.specs.Hosts.{HasActed, IsHost, host_of};
@@ -15,7 +18,7 @@ ghost use Rattle.vr_group.specs.Views.{view_of};
 use crate::asked::asked;
 use std::alloc::Global;
 use std::marker::Model;
-use vr_base::{Config, Kind, NoMemory};
+use vr_base::{Config, Kind, NoMemory, Version};
 use vr_lie::{Fault, Faulted, opens};
 use vr_lying::HostDisk;
 use vr_msg::{Event, Outbox, Output, Request};
@@ -155,12 +158,29 @@ fn start_on(
     recover_on(replica, disk, alloc, index, out)
 }
 
-// The version of a disk's file is that of the value that it opens as.
-fn settle(disk: &mut HostDisk) {
+// The version of the value that a disk opens as; that of its file, where it opens as none.
+#[tactic(auto, using(crate::proofs::Migrates::version_found))]
+fn version_in(disk: &mut HostDisk) -> Version
+    ensures value { result ≡ option_map_or (λ v. v.fields.version) (superblock.opens (told_by disk.old).face) (version_by disk.old.lie) }
+    ensures told { told_by disk.new ≡ told_by disk.old }
+    ensures version { version_by disk.new.lie ≡ version_by disk.old.lie }
+{
     match opens(disk) {
-        Some(found) => disk.set_version(found.version),
-        None => disk.set_version(disk.version()),
+        Some(found) => found.version,
+        None => disk.version(),
     }
+}
+
+// The file on a disk is of the version of the value that opens.
+#[tactic(auto, using(crate::proofs::Migrates::settles))]
+fn settle(disk: &mut HostDisk)
+    requires { IsTold (version_by disk.old.lie) (told_by disk.old) }
+    ensures lying { lying_of disk.new ≡ settled (lying_of disk.old) }
+    ensures fate { (told_by disk.new).fate ≡ (told_by disk.old).fate }
+    ensures told { IsTold (version_by disk.new.lie) (told_by disk.new) }
+{
+    let version = version_in(disk);
+    disk.set_version(version);
 }
 
 // The file of a stopped member becomes one of version 2, where a fuse lets it.
@@ -172,6 +192,7 @@ fn migrate_on(
     out: &mut Outbox,
 ) -> Result<(), NoMemory>
     requires stopped { replica.old ≡ None }
+    requires first { version_by disk.old.lie ≡ 1 }
     requires told { IsTold (version_by disk.old.lie) (told_by disk.old) }
     requires empty { out.old ≡ [] }
     ensures host { IsHost replica.new disk.new }
@@ -185,8 +206,9 @@ fn migrate_on(
         }
         Err(Refusal::Halted(Halt::NoMemory)) => Err(NoMemory),
         Err(Refusal::Halted(Halt::DiskFault)) => {
+            halt(replica, disk, index, out)?;
             settle(disk);
-            halt(replica, disk, index, out)
+            Ok(())
         }
         Err(Refusal::Lost(_)) => Ok(()),
         Err(Refusal::OtherMember(_)) => Ok(()),
@@ -255,12 +277,13 @@ impl Host {
         &mut self,
         alloc: Global,
         index: u8,
-        request: &Request,
+        request: Request,
         out: &mut Outbox,
     ) -> Result<(), NoMemory>
-        ensures { OnOk result (HasActed (asks hazards request.now index self.old) self.new out.new) }
+        requires { IsAsked request }
+        ensures { OnOk result (HasActed (asks hazards request index self.old) self.new out.new) }
     {
-        let event = asked(alloc, request, self.disk.version())?;
+        let event = asked(self.disk.version(), request);
         let handled = self.handle(alloc, index, &event, out);
         drop(event);
         handled

@@ -5,6 +5,7 @@ ghost use Rattle.vr_base.specs.Groups.{is_size};
 ghost use Rattle.vr_lie.specs.Faults.{IsFault};
 ghost use Rattle.vr_lying.specs.Lying.{hazards};
 ghost use Rattle.vr_lying.specs.World.{asks, fresh_host, fused, handles, lies, migrates, starts, stops};
+ghost use Rattle.vr_replica.specs.Fit.{IsAsked};
 ghost use Rattle.vr_group.specs.Hosts.{HaveActed};
 
 use crate::Host;
@@ -103,16 +104,18 @@ pub fn ask_at(
     hosts: &mut Vec<Host>,
     alloc: Global,
     replica: u8,
-    request: &Request,
+    request: Request,
     out: &mut Outbox,
 ) -> Result<(), NoMemory>
-    ensures { OnOk result (HaveActed (asks hazards request.now) hosts.old.items hosts.new.items replica out.new) }
+    requires { IsAsked request }
+    ensures { OnOk result (HaveActed (asks hazards request) hosts.old.items hosts.new.items replica out.new) }
 {
     let at = replica as usize;
     if at < hosts.len() {
         let host = &mut hosts[at];
         return host.ask(alloc, replica, request, out);
     }
+    drop(request);
     out.clear();
     Ok(())
 }

@@ -12,6 +12,7 @@ ghost use Rattle.vr_group.specs.Headline.{HasAsked};
 ghost use Rattle.vr_group.specs.Hosts.{HaveActed};
 ghost use Rattle.vr_group.specs.Lines.{happening};
 
+use crate::asked::copied;
 use crate::hosts::{ask_at, fuse_at, handle_at, lie_at, make_hosts, migrate_at, start_at, stop_at};
 use crate::outputs::record_outputs;
 use crate::{Host, Letter, Outputs};
@@ -143,12 +144,12 @@ impl Members {
         to: &mut Outputs,
     ) -> Result<(), NoMemory>
         ensures happened { OnOk result (HasHappened (happens hazards (world_of self.old) (AsksInVersion replica request.now)) (world_of self.old) (world_of self.new) to.old to.new) }
-        ensures asked { IsAsked request.now }
-        ensures cluster { request.now.cluster < 2 ^ 64 }
+        ensures asked { OnOk result (IsAsked request.now) }
+        ensures cluster { OnOk result (request.now.cluster < 2 ^ 64) }
     {
-        let _fields = request.fields();
+        let copy = copied(alloc, request)?;
         let mut out = Seq::new(alloc);
-        ask_at(&mut self.hosts, alloc, replica, request, &mut out)?;
+        ask_at(&mut self.hosts, alloc, replica, copy, &mut out)?;
         record_outputs(alloc, &mut self.sent, out, to)?;
         Ok(())
     }

@@ -3,7 +3,7 @@ use Rattle.std.proofs.Common.{ℕ, ◌≡◌, ◌∙◌, refl, sym, ap, List, Bo
 use Rattle.std.specs.Prelude.{IfSome}
 use Rattle.std.specs.Option.{option_and_then, option_map, option_map_or}
 use Rattle.vr_disk.specs.DiskState.{Disk, Face}
-use Rattle.vr_super.specs.Copies.{value_of, version_at}
+use Rattle.vr_super.specs.Copies.{SuperValue, value_of, version_at}
 use Rattle.vr_super.specs.Opens as superblock
 use Rattle.vr_super.specs.Opens.{good_copies, found_as, found_of, opened}
 use Rattle.vr_super.specs.declared.opening.Found.{Found}
@@ -17,18 +17,22 @@ abbrev other_found : Option ℕ → Option Found → Bool
 other_found wanted o = option_map_or (λ x. is_other wanted x.version) o false
 
 -- what is found has the version of the value
-other_some : (wanted : Option ℕ) (f : Face) (o : Option (List ℕ)) → opened (good_copies f) ≡ o
-    → other_found wanted (option_map (found_as (good_copies f)) o) ≡ option_map_or (is_left wanted) (option_and_then value_of o) false
-other_some wanted f None e = refl
-other_some wanted f (Some b) e =
-    elim (value_of b) as (λ w. value_of b ≡ w → is_other wanted (version_at b) ≡ option_map_or (is_left wanted) w false) [
+by_some : {X : Type 0} (p : ℕ → X) (none : X) (f : Face) (o : Option (List ℕ)) → opened (good_copies f) ≡ o
+    → option_map_or (λ (x : Found). p x.version) (option_map (found_as (good_copies f)) o) none ≡ option_map_or (λ (v : SuperValue). p v.fields.version) (option_and_then value_of o) none
+by_some p none f None e = refl
+by_some p none f (Some b) e =
+    elim (value_of b) as (λ w. value_of b ≡ w → p (version_at b) ≡ option_map_or (λ (v : SuperValue). p v.fields.version) w none) [
       | None ↦ λ w. absurd (among_good f b (opened_among b (good_copies f) e) w)
-      | Some v ↦ λ w. ap (is_other wanted) (sym (versioned b v w))
+      | Some v ↦ λ w. ap p (sym (versioned b v w))
     ] refl
 
-other_is : (wanted : Option ℕ) (f : Face) → other_found wanted (found_of (good_copies f)) ≡ is_left_in wanted f
+pub by_version : {X : Type 0} (p : ℕ → X) (none : X) (f : Face)
+    → option_map_or (λ (x : Found). p x.version) (found_of (good_copies f)) none ≡ option_map_or (λ (v : SuperValue). p v.fields.version) (superblock.opens f) none
 unfolding superblock.opens found_of
-other_is wanted f = other_some wanted f (opened (good_copies f)) refl
+by_version p none f = by_some p none f (opened (good_copies f)) refl
+
+other_is : (wanted : Option ℕ) (f : Face) → other_found wanted (found_of (good_copies f)) ≡ is_left_in wanted f
+other_is wanted f = by_version (is_other wanted) false f
 
 -- ---- of a disk that may tell
 
