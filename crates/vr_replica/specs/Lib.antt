@@ -9,6 +9,7 @@ pub use Rattle.vr_journal.specs.Migrating
 pub use Rattle.vr_opening.specs.declared.new_member.FreshFault
 pub use Rattle.vr_journal.specs.Halt
 pub use Rattle.vr_opening.specs.Making
+pub use Rattle.vr_opening.specs.Migration
 pub use Rattle.vr_journal.specs.Opening
 pub use Rattle.vr_journal.specs.Outputs
 pub use Rattle.vr_opening.specs.Recovering
