@@ -7,6 +7,8 @@ pub enum Act {
     Format,
     /// It is recovered from its disk, as the member of this number; a disk that a fuse has cut takes calls again.
     Start(u8),
+    /// It is stopped, and its file is migrated, as that of the member of this number; a disk that a fuse has cut takes calls again.
+    Migrate(u8),
     /// The client of this number registers.
     Register(u64),
     /// The prepare of this op arrives, with all before it committed.

@@ -1,8 +1,8 @@
 //! Each call of a step fails in turn. By the clauses `step` and `halt` of `Replica::step` a front of the step's calls was made then, the next
 //! one failed, and nothing is put out; which calls there are docs/FORMATS.md says.
 use crate::act::Act::{
-    Change, Damage, Fail as FailCall, Format, Prepare, Prepares, Rounds, Stale, Start, SyncView,
-    Tick, Ticks,
+    Change, Damage, Fail as FailCall, Format, Fuse, Migrate, Prepare, Prepares, Rounds, Stale,
+    Start, SyncView, Tick, Ticks,
 };
 use crate::member::check;
 use std::test::Fail;
@@ -43,6 +43,15 @@ const COPY: &str = "done\n\
     start 1 view 0 log_view 0 commit 0\n";
 
 const COPY_MENDED: &str = "done\n\
+    start 1 view 0 log_view 0 commit 0\n";
+
+const OLD_FILE: &str = "send 0 1 0 prepare_ok view 0 op 1 made 0\n\
+    halt\n\
+    start 1 view 0 log_view 0 commit 0\n\
+    send 1 1 0 prepare_ok view 0 op 1 made 0\n";
+
+const NEW_FILE: &str = "send 0 1 0 prepare_ok view 0 op 1 made 0\n\
+    halt\n\
     start 1 view 0 log_view 0 commit 0\n";
 
 #[test]
@@ -140,6 +149,55 @@ fn a_call_of_a_visit_fails(rt: HostRuntime) -> Result<(), Fail> {
             1,
             &acts,
             if call < 23 { COPY } else { COPY_MENDED },
+        )?;
+    }
+    Ok(())
+}
+
+#[test]
+fn a_call_of_a_migration_fails(rt: HostRuntime) -> Result<(), Fail> {
+    let alloc = rt.alloc();
+    // The prepares of 64 slots are written by eight sectors each, and synced; then a value is saved, of which the first sector alone is another
+    // one, so the new value opens once that of the second copy is written. On the new file no message of version 1 is heard.
+    for call in [1u64, 512, 513, 535, 536, 597] {
+        let acts = [
+            Format,
+            Prepare(1),
+            FailCall(call),
+            Migrate(1),
+            Start(1),
+            Prepare(1),
+        ];
+        check(
+            &rt,
+            alloc,
+            1,
+            &acts,
+            if call < 513 + 23 { OLD_FILE } else { NEW_FILE },
+        )?;
+    }
+    Ok(())
+}
+
+#[test]
+fn a_migration_is_cut(rt: HostRuntime) -> Result<(), Fail> {
+    let alloc = rt.alloc();
+    // What isn't synced is lost: the new value opens once two copies of it are synced.
+    for call in [1u64, 513, 555, 556, 597] {
+        let acts = [
+            Format,
+            Prepare(1),
+            Fuse(call, 0),
+            Migrate(1),
+            Start(1),
+            Prepare(1),
+        ];
+        check(
+            &rt,
+            alloc,
+            1,
+            &acts,
+            if call < 556 { OLD_FILE } else { NEW_FILE },
         )?;
     }
     Ok(())

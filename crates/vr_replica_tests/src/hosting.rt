@@ -4,7 +4,7 @@ ghost use Rattle.vr_base.specs.Groups.{is_size};
 ghost use Rattle.vr_lie.specs.Faults.{IsFault};
 
 use std::alloc::Global;
-use vr_base::{ByteList, Config, Kind, Mode, NoMemory, Seq, put};
+use vr_base::{ByteList, Config, Kind, Mode, NoMemory, Seq, Version, put};
 use vr_disk::{BLOCK_SECTORS, Sector, block_place, read_sectors, sector_at};
 use vr_lie::{Fault, Faulted, LieDisk};
 use vr_msg::{Event, Outbox};
@@ -26,6 +26,14 @@ fn told(halt: Halt) -> &'static str {
     match halt {
         Halt::DiskFault => "halt\n",
         Halt::NoMemory => "no memory\n",
+    }
+}
+
+fn refused(refusal: &Refusal) -> &'static str {
+    match refusal {
+        Refusal::Lost(_) => "lost\n",
+        Refusal::OtherMember(_) => "other member\n",
+        Refusal::Halted(halt) => told(*halt),
     }
 }
 
@@ -62,9 +70,25 @@ pub fn start(
             *replica = Some(recovered);
             ""
         }
-        Err(Refusal::Lost(_)) => "lost\n",
-        Err(Refusal::OtherMember(_)) => "other member\n",
-        Err(Refusal::Halted(halt)) => told(halt),
+        Err(refusal) => refused(&refusal),
+    }
+}
+
+/// The file of this member's disk is migrated, and no replica runs on it; what is told of it.
+pub fn migrate(
+    replica: &mut Option<Replica>,
+    disk: &mut LieDisk,
+    alloc: Global,
+    index: u8,
+) -> &'static str {
+    *replica = None;
+    disk.revive();
+    match Replica::migrate(alloc, disk, &one_of_three(index)) {
+        Ok(()) => {
+            disk.set_version(Version::new(2));
+            "migrated\n"
+        }
+        Err(refusal) => refused(&refusal),
     }
 }
 

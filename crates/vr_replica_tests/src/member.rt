@@ -3,7 +3,7 @@ use crate::act::Act;
 use crate::events::{
     change, give_block, heard, other_block, prepare, register, start_view, state_nothing, sync_view,
 };
-use crate::hosting::{fault, format, own_block, start, step};
+use crate::hosting::{fault, format, migrate, own_block, start, step};
 use std::alloc::Global;
 use std::process::Abort;
 use std::test::Fail;
@@ -112,6 +112,7 @@ impl Member {
     fn act(&mut self, alloc: Global, act: Act, text: &mut ByteList) -> Result<(), NoMemory> {
         let told = match act {
             Act::Format => format(&mut self.replica, &mut self.disk, alloc, self.index),
+            Act::Migrate(index) => migrate(&mut self.replica, &mut self.disk, alloc, index),
             Act::Start(index) => return self.start(alloc, index, text),
             Act::Prepares(count) => return self.prepares(alloc, count),
             Act::Ticks => return self.ticks(alloc, text),

@@ -1,8 +1,8 @@
 //! The worked schedules of examples/, as far as one member shows them, and openings. Messages are numbered by what the member alone sends.
 use crate::act::Act;
 use crate::act::Act::{
-    Change, Damage, Fail as FailCall, Format, Fuse, OtherBlock, OwnBlock, Prepare, Prepares,
-    Register, Rounds, Stale, Start, StartView, State, SyncView, Tick, Ticks, Unread,
+    Change, Damage, Fail as FailCall, Format, Fuse, Migrate, OtherBlock, OwnBlock, Prepare,
+    Prepares, Register, Rounds, Stale, Start, StartView, State, SyncView, Tick, Ticks, Unread,
 };
 use crate::member::check;
 use std::test::Fail;
@@ -281,6 +281,83 @@ fn openings(rt: HostRuntime) -> Result<(), Fail> {
              send 0 0 1 start_view_change view 2\n\
              send 1 0 2 start_view_change view 2\n\
              send 2 0 2 do_view_change view 2 log 1 commit 0 head 1 parts w\n",
+        ),
+    ];
+    for (index, acts, want) in rows {
+        check(&rt, rt.alloc(), index, acts, want)?;
+    }
+    Ok(())
+}
+
+// Of a migrated file the prepare of op 1 has the sectors from 1432 on. A replica on it leaves be what has version 1.
+#[test]
+fn migrations(rt: HostRuntime) -> Result<(), Fail> {
+    let rows: [(u8, &[Act], &str); 10] = [
+        // An entry is held at its new place, where it can be read; else it is lost, and asked for.
+        (
+            1,
+            &[Format, Prepare(1), Migrate(1), Start(1), Prepare(1), Tick],
+            "send 0 1 0 prepare_ok view 0 op 1 made 0\n\
+             migrated\n\
+             start 1 view 0 log_view 0 commit 0\n",
+        ),
+        (
+            1,
+            &[Format, Prepare(1), Migrate(1), Damage(1432), Start(1), Tick],
+            "send 0 1 0 prepare_ok view 0 op 1 made 0\n\
+             migrated\n\
+             done\n\
+             start 1 view 0 log_view 0 commit 0\n\
+             send 1 1 2 get_prepare op 1 made 0\n",
+        ),
+        // What can't be read at the old place is lost at the new one.
+        (
+            1,
+            &[Format, Prepare(1), Damage(148), Migrate(1), Start(1), Tick],
+            "send 0 1 0 prepare_ok view 0 op 1 made 0\n\
+             done\n\
+             migrated\n\
+             start 1 view 0 log_view 0 commit 0\n\
+             send 1 1 2 get_prepare op 1 made 0\n",
+        ),
+        (1, &[Migrate(1)], "lost\n"),
+        // Another member's file is mended, so that two more copies may be damaged, and goes on as one of version 1.
+        (
+            1,
+            &[
+                Format,
+                Damage(0),
+                Migrate(2),
+                Damage(20),
+                Damage(40),
+                Start(1),
+                Prepare(1),
+            ],
+            "done\n\
+             other member\n\
+             done\n\
+             done\n\
+             start 1 view 0 log_view 0 commit 0\n\
+             send 0 1 0 prepare_ok view 0 op 1 made 0\n",
+        ),
+        // Without mending there are 597 calls.
+        (1, &[Format, FailCall(597), Migrate(1)], "halt\n"),
+        (1, &[Format, FailCall(598), Migrate(1)], "migrated\n"),
+        // A file of version 2 is mended alone.
+        (
+            1,
+            &[Format, Migrate(1), FailCall(1), Migrate(1)],
+            "migrated\nmigrated\n",
+        ),
+        (
+            1,
+            &[Format, Migrate(1), Damage(0), FailCall(22), Migrate(1)],
+            "migrated\ndone\nhalt\n",
+        ),
+        (
+            1,
+            &[Format, Migrate(1), Damage(0), FailCall(23), Migrate(1)],
+            "migrated\ndone\nmigrated\n",
         ),
     ];
     for (index, acts, want) in rows {
