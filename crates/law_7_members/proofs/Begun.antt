@@ -4,6 +4,7 @@ use Rattle.std.specs.Prelude.{slice_get}
 use Rattle.std.specs.List.{AllByRecursion, range_with_len}
 use Rattle.std.proofs.lemmas.List.FromFn.{get_or-map-range_with_len, length-map-range_with_len}
 use Rattle.std.proofs.lemmas.Option.{slice_get_within, slice_get-get_or}
+use Rattle.vr_base.specs.Groups.{least_members}
 use Rattle.vr_base.specs.declared.kind.Kind.{Kind}
 use Rattle.vr_base.specs.declared.table.Config.{Config}
 use Rattle.vr_header.specs.Names.{root_header}
@@ -41,21 +42,21 @@ pub record IsNewHost (kind : Kind) (c : Config) (m : Host Lying) : Type 0 where
   pub is : m ≡ new_host kind c file
   pub new : IsNew kind c file
 
-begins_new : (kind : Kind) (c : Config) (m : Host Lying) (acts : List Act) → IsKind kind → c.cluster < 2 ^ 64 → 2 ≤ c.n → c.n ≤ 6 → c.replica < c.n → Begins kind c m acts → IsNewHost kind c m
+begins_new : (kind : Kind) (c : Config) (m : Host Lying) (acts : List Act) → IsKind kind → c.cluster < 2 ^ 64 → least_members kind.version ≤ c.n → c.n ≤ 6 → c.replica < c.n → Begins kind c m acts → IsNewHost kind c m
 begins_new kind c _ _ is number few many l (whole.makes d o o' run arrivals acts told unfinished size lives) =
     let good = (fresh_fits kind c.cluster c.n c.replica is number few many l).value in
-    record { file = made_on kind c d.face; is = refl; new = made_new kind c d.face number good (unfinished_plain c number few many l d.face unfinished) }
+    record { file = made_on kind c d.face; is = refl; new = made_new kind c d.face number good (unfinished_plain c number many l d.face unfinished) }
 begins_new kind c _ _ is number few many l (whole.stops_late f acts unfinished opened lives) =
-    record { file = unheld kind f; is = refl; new = late_new kind c f (unfinished_plain c number few many l f unfinished) opened }
+    record { file = unheld kind f; is = refl; new = late_new kind c f (unfinished_plain c number many l f unfinished) opened }
 begins_new kind c _ _ is number few many l whole.waits =
     let good = (fresh_fits kind c.cluster c.n c.replica is number few many l).value in
-    record { file = made_on kind c zero_face; is = refl; new = made_new kind c zero_face number good (unfinished_plain c number few many l zero_face whole.zeros) }
+    record { file = made_on kind c zero_face; is = refl; new = made_new kind c zero_face number good (unfinished_plain c number many l zero_face whole.zeros) }
 
 abbrev pub AreNew : (ℕ → Kind) → ℕ → ℕ → (ℕ → Host Lying) → Type 0
 AreNew kinds cluster n first = (i : ℕ) → i < n → IsNewHost (kinds i) (config_at cluster n i) (first i)
 
-pub begin_new : (kinds : ℕ → Kind) (cluster n : ℕ) (first : ℕ → Host Lying) (xs : List ActBy) → AreKinds kinds n → cluster < 2 ^ 64 → 2 ≤ n → n ≤ 6 → AreRuns kinds cluster n first xs → AreNew kinds cluster n first
-begin_new kinds cluster n first xs are number few many r i l = begins_new (kinds i) (config_at cluster n i) (first i) (own i xs) (are i l) number few many l (r.each i l)
+pub begin_new : (kinds : ℕ → Kind) (cluster n : ℕ) (first : ℕ → Host Lying) (xs : List ActBy) → AreKinds kinds n → cluster < 2 ^ 64 → 1 ≤ n → n ≤ 6 → AreRuns kinds cluster n first xs → AreNew kinds cluster n first
+begin_new kinds cluster n first xs are number few many r i l = begins_new (kinds i) (config_at cluster n i) (first i) (own i xs) (are i l).0 number (are i l).1 many l (r.each i l)
 
 -- ---- so they stand beside a group that was just made
 
@@ -108,7 +109,7 @@ module _ (kinds : ℕ → Kind) (cluster n : ℕ) (first : ℕ → Host Lying) (
     sent = λ number s e. absurd cc;
   }
 
-  module _ (are : AreKinds kinds n) (number : cluster < 2 ^ 64) (few : 2 ≤ n) (many : n ≤ 6) where
+  module _ (are : AreKinds kinds n) (number : cluster < 2 ^ 64) (few : 1 ≤ n) (many : n ≤ 6) where
     begun_unforged : (u : IsUnforgedBeside cluster (world_of first n) (fresh_group kinds cluster n)) × (u.past.run ≡ [])
     begun_unforged =
         let u = worlds_begin_unforged kinds cluster n are number few many in (
@@ -147,7 +148,7 @@ pub zeros_begin_the_first : ZerosBeginTheFirst
 unfolding world_of first_world
 zeros_begin_the_first kinds cluster n = refl
 
-pub begun_keep_one_log : (kinds : ℕ → Kind) (cluster n : ℕ) (first : ℕ → Host Lying) (xs : List ActBy) (h : Happened Lying) → AreKinds kinds n → cluster < 2 ^ 64 → 2 ≤ n → n ≤ 6 → length xs < 2 ^ 46 → AreNew kinds cluster n first → AtWork cluster (world_of first n) xs h
+pub begun_keep_one_log : (kinds : ℕ → Kind) (cluster n : ℕ) (first : ℕ → Host Lying) (xs : List ActBy) (h : Happened Lying) → AreKinds kinds n → cluster < 2 ^ 64 → 1 ≤ n → n ≤ 6 → length xs < 2 ^ 46 → AreNew kinds cluster n first → AtWork cluster (world_of first n) xs h
     → NoCollision (IsHashedOf cluster (world_of first n) (all_lines xs)) → KeepsLog kinds cluster n h
 begun_keep_one_log kinds cluster n first xs h are number few many short new work never =
     let w = world_of first n in

@@ -2,8 +2,8 @@
 use Rattle.std.proofs.Common.{ℕ, zero, suc, ◌+◌, ◌-◌, ◌*◌, ◌%◌, ◌<◌, ◌≤◌, ◌≡◌, arith, refl, sym, ap, ◌∙◌, subst, Bool, true, false, cond, inl, inr, List, [], ◌∷◌, ◌++◌, length, set, Option, Some, None}
 use Rattle.std.specs.Prelude.{slice_get, Ok}
 use Rattle.std.specs.List.{AllByRecursion}
-use Rattle.std.specs.Option.{option_map, option_map_or}
-use Rattle.std.proofs.lemmas.Bool.{cases_eq, lt-leb}
+use Rattle.std.specs.Option.{option_and_then, option_map, option_map_or}
+use Rattle.std.proofs.lemmas.Bool.{cases_eq, eq-eqb, lt-leb}
 use Rattle.std.proofs.lemmas.List.{append-nil, append_assoc, length-append}
 use Rattle.std.proofs.lemmas.Nat.{mod-mul-add}
 use Rattle.std.proofs.lemmas.Option.{slice_get_within}
@@ -16,14 +16,15 @@ use Rattle.vr_msg.specs.declared.output.Output.TheVariants as output
 use Rattle.vr_msg.specs.declared.output.Sent.{Sent}
 use Rattle.vr_super.specs.Copies.{SuperValue}
 use Rattle.vr_world.specs.Group.{Arrival, Asked, Message, Time, opening_script, resumed}
-use Rattle.vr_world.specs.Lying.{Lying, hazards, keeps_premise, lied_to, lying, unless_kept_out}
+use Rattle.vr_world.specs.Lying.{Lying, after_calls, cut_calls, hazards, keeps_premise, lied_to, lying, settled, unless_kept_out}
 use Rattle.vr_world.specs.Opening.{blank, opened, opening}
 use Rattle.vr_node.specs.Replica.{Replica, version}
 use Rattle.vr_node.specs.Rules.{react}
 use Rattle.vr_node.specs.Sectors.{script_calls, sectors_by}
-use Rattle.vr_world.specs.Steps.{Effect, Step, after_all, outputs}
+use Rattle.vr_world.specs.Steps.{Step, after_all, outputs}
 use Rattle.vr_world.specs.World as world
-use Rattle.vr_world.specs.World.{Acted, Happened, Happening, Host, World, Fuses, Lies, Starts, Stops, acts, at_member, delivered, handles, happen, happens, lied, nothing, starts, stays, stops, with_member}
+use Rattle.vr_world.specs.World.{Acted, Happened, Happening, Host, World, Fuses, Lies, Migrates, Starts, Stops, acts, at_member, delivered, handles, happen, happens, if_first, lied, migrated_or_halted, migrates, movable, nothing, starts, stays, stops, with_member}
+use Rattle.vr_node.specs.Migrating.{migration_calls}
 use Rattle.vr_node.specs.Outputs.{messages}
 use Rattle.vr_lie.specs.declared.fault.Fault.{Fault}
 use Rattle.vr_lie.specs.Faults.{faulted}
@@ -136,22 +137,22 @@ starts_as at fuse file v a o e =
     ap (λ (x : Option Step). option_map_or (acts hazards at h) x (stays h)) (opened_is v file o) ∙ e
 
 module _ (w : World Lying) (at : ℕ) (o : Option Replica) (file : Lying) (there : slice_get w.members at ≡ Some (on_file o file)) where
-  cut_left : (made code : ℕ) (script : List Effect) → with_member (with_fuse w at (on_file o file) there made code) at (record { member = on_file None (cut_in file script made code); outputs = output.Halted at ∷ [] })
-      ≡ left_at w at None (cut_in file script made code) (output.Halted at ∷ [])
-  cut_left made code script =
-      let a : Host Lying = on_file None (cut_in file script made code) in
+  cut_left : (made code : ℕ) (left : Lying) → with_member (with_fuse w at (on_file o file) there made code) at (record { member = on_file None left; outputs = output.Halted at ∷ [] })
+      ≡ left_at w at None left (output.Halted at ∷ [])
+  cut_left made code left =
+      let a : Host Lying = on_file None left in
       let os : List Output = output.Halted at ∷ [] in
       ap (λ (xs : List (Host Lying)). let h : Happened Lying = record { world = record { n = w.n; members = xs; sent = w.sent ++ messages os }; outputs = os } in h) (set_again w.members at (fused w at (on_file o file) there made code) a)
 
   -- two lines: a fuse, and what it cuts
-  cut_lines : (made code : ℕ) (script : List Effect) (y : Happening) (act : ℕ → Host Lying → Acted Lying) → happens hazards (with_fuse w at (on_file o file) there made code) y ≡ at_member (with_fuse w at (on_file o file) there made code) at act
-      → act at (fused w at (on_file o file) there made code) ≡ record { member = on_file None (cut_in file script made code); outputs = output.Halted at ∷ [] }
-      → happen hazards w (Fuses at made code ∷ y ∷ []) ≡ left_at w at None (cut_in file script made code) (output.Halted at ∷ [])
-  cut_lines made code script y act line acted =
+  cut_lines : (made code : ℕ) (left : Lying) (y : Happening) (act : ℕ → Host Lying → Acted Lying) → happens hazards (with_fuse w at (on_file o file) there made code) y ≡ at_member (with_fuse w at (on_file o file) there made code) at act
+      → act at (fused w at (on_file o file) there made code) ≡ record { member = on_file None left; outputs = output.Halted at ∷ [] }
+      → happen hazards w (Fuses at made code ∷ y ∷ []) ≡ left_at w at None left (output.Halted at ∷ [])
+  cut_lines made code left y act line acted =
       let v = with_fuse w at (on_file o file) there made code in
       let f = fused w at (on_file o file) there made code in
       let here : slice_get v.members at ≡ Some f = own_place w.members at (on_file o file) f there in
-      two_lines w v (Fuses at made code) y _ (fuse_line w at (on_file o file) there made code) (line ∙ (at_one v at f here act _ acted ∙ cut_left made code script))
+      two_lines w v (Fuses at made code) y _ (fuse_line w at (on_file o file) there made code) (line ∙ (at_one v at f here act _ acted ∙ cut_left made code left))
 
 -- an event is handled
 handled_told : (w : World Lying) (at : ℕ) (file : Lying) (e : Event) (d : Disk) (did : Did Node) (node : Node) → slice_get w.members at ≡ Some (on_file (Some node.replica.memory) file) → version node.replica.memory ≡ file.version → d.face ≡ file.face → steps node (Some d) e did.outputs did.after did.disk
@@ -186,6 +187,25 @@ found_told c w at file v d after first r there tells o opens_as =
     at_one w at (on_file None file) there (starts hazards) _ (starts_as at None file v _ (sym (ap (λ (f : Face). (sectors_by file.version).opens f) tells) ∙ o) refl)
     ∙ (ap (λ (q : Replica). left_at w at (Some q) there_after (outputs (opening_script v file))) replica_is ∙ ap (left_at w at (Some r) there_after) first_is)
 
+-- a file of version 1 is migrated
+movable_is : (fuse : Option Fuse) (file : Lying) (v : SuperValue) → (sectors_by file.version).opens file.face ≡ Some v → v.fields.version ≡ 1 → movable hazards (record { replica = None; disk = file; fuse = fuse }) ≡ Some v
+movable_is fuse file v o first = ap (option_and_then if_first) o ∙ ap (λ (t : Bool). cond t (Some v) None) (eq-eqb v.fields.version 1 first)
+
+moves_as : (at : ℕ) (fuse : Option Fuse) (file : Lying) (v : SuperValue) (a : Acted Lying) → (sectors_by file.version).opens file.face ≡ Some v → v.fields.version ≡ 1
+    → (let h : Host Lying = record { replica = None; disk = file; fuse = fuse } in migrated_or_halted hazards at h v fuse ≡ a → migrates hazards at h ≡ a)
+moves_as at fuse file v a o first e =
+    let h : Host Lying = record { replica = None; disk = file; fuse = fuse } in
+    ap (λ (x : Option SuperValue). option_map_or (λ v. migrated_or_halted hazards at h v fuse) x (stays h)) (movable_is fuse file v o first) ∙ e
+
+move_is_cut : (at made code : ℕ) (file : Lying) (v : SuperValue) → made < length (migration_calls v file.face)
+    → (let u : Fuse = record { calls = made; code = code } in let m : Host Lying = record { replica = None; disk = file; fuse = Some u } in
+    migrated_or_halted hazards at m v (Some u) ≡ record { member = on_file None (settled (cut_calls made code file (migration_calls v file.face))); outputs = output.Halted at ∷ [] })
+move_is_cut at made code file v l =
+    let u : Fuse = record { calls = made; code = code } in
+    let m : Host Lying = record { replica = None; disk = file; fuse = Some u } in
+    let rest : Fuse = record { calls = made - length (migration_calls v file.face); code = code } in
+    ap (λ (t : Bool). cond t (world.migrated_with hazards at m v (Some rest)) (world.migration_halted hazards at m v u)) (lt-leb (length (migration_calls v file.face)) made l)
+
 -- ---- what befalls a member
 
 -- a replica runs on a file of its version
@@ -201,12 +221,16 @@ becomes_lines c w at _ _ _ _ _ there own comes (files.breaks file arrival e made
     let v = with_fuse w at (on_file (Some r) file) there made code in
     let f = fused w at (on_file (Some r) file) there made code in
     let same : react e lying r file ≡ y = (a_react e).each r file in
-    cut_lines w at (Some r) file there made code y.script (line_of arrival at) (handles hazards e) (event_line v at arrival e comes) (ap (λ (s : Step). acts hazards at f s) same ∙ acts_cut at made code (Some r) file y within)
+    cut_lines w at (Some r) file there made code (cut_in file y.script made code) (line_of arrival at) (handles hazards e) (event_line v at arrival e comes) (ap (λ (s : Step). acts hazards at f s) same ∙ acts_cut at made code (Some r) file y within)
 becomes_lines c w at _ _ _ _ _ there own comes (files.ends file o) = one_line w (Stops at) _ (at_one w at (on_file o file) there stops _ refl)
 becomes_lines c w at _ _ _ _ _ there own comes (files.finds file d v after first r tells o opened) = one_line w (Starts at) _ (found_told c w at file v d after first r there tells o opened)
 becomes_lines c w at _ _ _ _ _ there own comes (files.half_finds file v made code o within) =
     let f = fused w at (on_file None file) there made code in
-    cut_lines w at None file there made code (opening_script v file) (Starts at) (starts hazards) refl (starts_as at f.fuse file v _ o (acts_cut at made code None file (whole v file) within))
+    cut_lines w at None file there made code (cut_in file (opening_script v file) made code) (Starts at) (starts hazards) refl (starts_as at f.fuse file v _ o (acts_cut at made code None file (whole v file) within))
+becomes_lines c w at _ _ _ _ _ there own comes (files.moves file v o first) = one_line w (Migrates at) _ (at_one w at (on_file None file) there (migrates hazards) _ (moves_as at None file v _ o first refl))
+becomes_lines c w at _ _ _ _ _ there own comes (files.half_moves file v made code o first within) =
+    let f = fused w at (on_file None file) there made code in
+    cut_lines w at None file there made code (settled (cut_calls made code file (migration_calls v file.face))) (Migrates at) (migrates hazards) refl (moves_as at f.fuse file v _ o first (move_is_cut at made code file v within))
 becomes_lines c w at _ _ _ _ _ there own comes (files.decays file o fault left within keeps) = one_line w (Lies at fault) _ (at_one w at (on_file o file) there (world.lies hazards fault) _ (ap (λ (x : Option Lying). lied (on_file o file) x) keeps))
 
 becomes_are_lines : (c : Config) (sent : List Sent) (at : ℕ) (act : Act) (o : Option Replica) (file : Lying) (next : Option Replica) (left : Lying) → Brings sent at act → Becomes c o file act next left
@@ -216,6 +240,8 @@ becomes_are_lines c sent at _ _ _ _ _ comes (files.breaks file arrival e made co
 becomes_are_lines c sent at _ _ _ _ _ comes (files.ends file o) = ((tt, tt), omega arith)
 becomes_are_lines c sent at _ _ _ _ _ comes (files.finds file d v after first r tells o opened) = ((tt, tt), omega arith)
 becomes_are_lines c sent at _ _ _ _ _ comes (files.half_finds file v made code o within) = ((tt, (tt, tt)), omega arith)
+becomes_are_lines c sent at _ _ _ _ _ comes (files.moves file v o first) = ((tt, tt), omega arith)
+becomes_are_lines c sent at _ _ _ _ _ comes (files.half_moves file v made code o first within) = ((tt, (tt, tt)), omega arith)
 becomes_are_lines c sent at _ _ _ _ _ comes (files.decays file o fault left within keeps) = ((within, tt), omega arith)
 
 -- ---- replicas go on running on files of their versions
@@ -252,6 +278,8 @@ runs_on c _ _ _ _ _ own (files.ends file o) = none_runs file
 runs_on c _ _ _ _ _ own (files.finds file d v after first r tells o opened) =
     some_runs r (after_all lying file (opening_script v file)) (opened_runs c file d v after first r o opened ∙ sym (same_version (opening_script v file) file))
 runs_on c _ _ _ _ _ own (files.half_finds file v made code o within) = none_runs (cut_in file (opening_script v file) made code)
+runs_on c _ _ _ _ _ own (files.moves file v o first) = none_runs (settled (after_calls file (migration_calls v file.face)))
+runs_on c _ _ _ _ _ own (files.half_moves file v made code o first within) = none_runs (settled (cut_calls made code file (migration_calls v file.face)))
 runs_on c _ _ _ _ _ own (files.decays file o fault left within keeps) = λ r e. own r e ∙ sym (lied_version file left fault keeps)
 
 abbrev pub AllRunOn : World Lying → Type 0

@@ -13,7 +13,6 @@ use Rattle.vr_world.specs.Opening.{blank, first_value, fresh, mending}
 use Rattle.vr_node.specs.Sectors.{sectors_by}
 use Rattle.vr_world.specs.Steps.{Mend, Step}
 use Rattle.vr_world.specs.World.{Happened, Host, Starts, happen}
-use Rattle.vr_world.proofs.FitGroups.{good_value}
 use Rattle.law_4_disks.specs.Beside.{AreMade}
 use Rattle.law_4_disks.specs.Worlds.{IsMatched, first_host, first_world, left}
 use Rattle.law_4_disks.proofs.Fresh.{some_world}
@@ -54,8 +53,7 @@ members_are_found cluster w g u few at m d there stopped tells =
     let v = o.0 in
     let off = o.1 in
     let unforged : AreMade g.made v (lying.after m.disk (Mend v)) = line_unforged w g u.beside u.fit u.stock u.bridged low u.sealed (Starts at) m v there stopped off.value in
-    let several : 2 ≤ v.fields.n = (let good = good_value cluster g.n at q v (u.fit.members at q y.1) off.may in subst (λ (k : ℕ). 2 ≤ k) (sym good.1.n) u.fit.several) in
-    let f = openings_find m.disk q v g.made several off unforged in
+    let f = openings_find m.disk q v g.made off unforged in
     record {
       member = q;
       value = v;
@@ -63,7 +61,7 @@ members_are_found cluster w g u few at m d there stopped tells =
       stopped = y.2.replica ∙ stopped;
       may = record {
         face = subst IsFace (sym tells) off.calm.face;
-        value = opens_value d.face v (ap opens tells ∙ off.value) several;
+        value = opens_value d.face v (ap opens tells ∙ off.value);
         may = off.may;
         sound = subst (AreSound v (kept_at q) g.made) (same_found v m.disk (opened_on v d) off.file (sym tells)) f.sound;
       };

@@ -41,6 +41,7 @@ use Rattle.vr_lie.specs.Slots.{IsWhole, header_of, header_reading, prepare_bytes
 use Rattle.vr_world.specs.Formatting.{format_calls, reserved_header, reserved_headers, zero_prepares, zero_sector}
 use Rattle.vr_world.specs.Group.{fresh_member}
 use Rattle.vr_world.specs.Lying.{Lying, zero_cell, zero_face}
+use Rattle.vr_base.specs.Groups.{least_members}
 use Rattle.vr_world.specs.Opening.{IsKind, first_value}
 use Rattle.vr_world.proofs.FitFresh.{fresh_fits}
 use Rattle.law_4_disks.specs.Beside.{IsCalm, IsOn}
@@ -289,7 +290,7 @@ fault_again f (fault.Misdirect i k) = refl
 -- attached again, it is the same
 again : (c : Config) (f : Face) → IsUnfinished c f → IsUnfinished c (after f Sync)
 again c _ whole.zeros = whole.zeros
-again c _ (whole.stopped kind file left k u s) = whole.stopped kind file left k u s
+again c _ (whole.stopped kind file left k least u s) = whole.stopped kind file left k least u s
 again c _ (whole.decays file x u within) = subst (IsUnfinished c) (fault_again file x) (whole.decays (after file Sync) x (again c file u) within)
 
 same_disk : (c : Config) (d : Disk) (d' : Option Disk) → IsUnfinished c d.face → d' ≡ Some d → LeavesUnfinished c d'
@@ -301,7 +302,7 @@ makings_leave kind c d d' status.NoMemory u h = same_disk c d d' u h.1.is.1
 makings_leave kind c d d' status.DiskFault u h =
     let cs = making kind c in
     let ran = h.1.is.1 in
-    record { disk = (runs cs d).disk; told = ran.0; unfinished = whole.stopped kind d.face (runs cs d).disk.face h.0 u (stops_are cs d (sym ran.1)) }
+    record { disk = (runs cs d).disk; told = ran.0; unfinished = whole.stopped kind d.face (runs cs d).disk.face (h.0.0, h.0.1) h.0.2 u (stops_are cs d (sym ran.1)) }
 makings_leave kind c d d' status.Done u h = absurd h
 makings_leave kind c d d' status.LinkFault u h = absurd h
 makings_leave kind c d d' status.WriteFault u h = absurd h
@@ -314,19 +315,19 @@ makings_leave kind c d d' (status.OtherMember found asked) u h = absurd h
 makings_leave kind c d d' status.NoAnswer u h = absurd h
 makings_leave kind c d d' status.SpawnFault u h = absurd h
 
-module _ (c : Config) (room : c.cluster < 2 ^ 64) (a : 2 ≤ c.n) (b : c.n ≤ 6) (l : c.replica < c.n) where
-  good : (kind : Kind) → IsKind kind → IsGood (first_value kind c.cluster c.n c.replica)
-  good kind is = (fresh_fits kind c.cluster c.n c.replica is room a b l).value
+module _ (c : Config) (room : c.cluster < 2 ^ 64) (b : c.n ≤ 6) (l : c.replica < c.n) where
+  good : (kind : Kind) → IsKind kind → least_members kind.version ≤ c.n → IsGood (first_value kind c.cluster c.n c.replica)
+  good kind is least = (fresh_fits kind c.cluster c.n c.replica is room least b l).value
 
   pub unfinished_plain : (f : Face) → IsUnfinished c f → IsPlain f
   unfinished_plain _ whole.zeros = zeros_plain
-  unfinished_plain _ (whole.stopped kind file left is u s) =
+  unfinished_plain _ (whole.stopped kind file left is least u s) =
       let p = unfinished_plain file u in
       let cs = making kind c in
       record {
-        face = face_after left Sync (stop_face cs file left s (format_are kind c.cluster c.n c.replica room (good kind is)) p.face) tt;
+        face = face_after left Sync (stop_face cs file left s (format_are kind c.cluster c.n c.replica room (good kind is least)) p.face) tt;
         rests = refl;
-        empty = has_after_all IsEmpty (Sync ∷ []) left (stop_empty cs file left s (put_format kind c.cluster c.n c.replica room (good kind is)) p.empty) (tt, tt);
+        empty = has_after_all IsEmpty (Sync ∷ []) left (stop_empty cs file left s (put_format kind c.cluster c.n c.replica room (good kind is least)) p.empty) (tt, tt);
       }
   unfinished_plain _ (whole.decays file x u within) =
       let p = unfinished_plain file u in

@@ -127,6 +127,8 @@ one_move cluster g _ _ h (deeds.half_found at v d effects m there stopped may) =
   file = refl;
   said = refl;
 }
+one_move cluster g _ _ h (deeds.migrated at v m may) = record { move = group.Migrates at v; moves = group.migrates at v m may; fits = tt; bytes = tt; file = tt; said = refl }
+one_move cluster g _ _ h (deeds.half_migrated at v effects m may) = record { move = group.MigratesCut at v effects; moves = group.migrates_cut at v effects m may; fits = tt; bytes = tt; file = tt; said = refl }
 
 -- ---- one after the other
 
@@ -162,8 +164,8 @@ runs cluster g (x ∷ xs) h w =
       said = ap (λ (os : List Output). os ++ run_outputs rest.run) one.said ∙ ap (λ (os : List Output). puts_out x.deed ++ os) rest.said;
     }
 
-pub one_run : (kinds : ℕ → Kind) (cluster n : ℕ) (xs : List By) → AreKinds kinds n → cluster < 2 ^ 64 → 2 ≤ n → n ≤ 6 → AtWork cluster (fresh_group kinds cluster n) xs → IsOneRun cluster n xs
+pub one_run : (kinds : ℕ → Kind) (cluster n : ℕ) (xs : List By) → AreKinds kinds n → cluster < 2 ^ 64 → 1 ≤ n → n ≤ 6 → AtWork cluster (fresh_group kinds cluster n) xs → IsOneRun cluster n xs
 one_run kinds cluster n xs are number few many w =
     let r = runs cluster (fresh_group kinds cluster n) xs (fresh_group_fits kinds cluster n are number few many) w in
-    let fit : IsFitRun cluster n r.run = record { number = number; few = few; many = many; moves = r.fits; files = r.files; kinds = kinds; are_kinds = are; of_run = r.is } in
+    let fit : IsFitRun cluster n r.run = record { number = number; some = few; many = many; moves = r.fits; files = r.files; kinds = kinds; are_kinds = are; of_run = r.is } in
     record { run = r.run; fit = fit; bytes = r.bytes; said = r.said; safe = runs_safe cluster n r.run fit }

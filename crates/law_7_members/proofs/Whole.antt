@@ -24,7 +24,6 @@ use Rattle.vr_world.specs.Steps.{Effect, Step, after_all}
 use Rattle.vr_world.specs.World as world
 use Rattle.vr_world.specs.World.{Happened, Host, World, nothing}
 use Rattle.vr_world.proofs.FitLies.{same_version}
-use Rattle.law_4_disks.specs.Worlds.{first_host, first_world}
 use Rattle.law_4_disks.proofs.Fresh.{some_world}
 use Rattle.law_4_disks.proofs.Lines.{other_place, own_place, some_member}
 use Rattle.law_4_disks.proofs.Starts.{opening_is}

@@ -6,7 +6,7 @@ use Rattle.vr_disk.specs.DiskState.{Disk, IsFace}
 use Rattle.vr_msg.specs.declared.event.Event.{Event}
 use Rattle.vr_msg.specs.declared.output.Output.{Output}
 use Rattle.vr_super.specs.Copies.{SuperValue}
-use Rattle.vr_world.specs.Group.{AreSound, Arrival, Group, IsArrival, MayOpen, Member, Moved, carried_out, cut_short, kept_at, once_mended, opening_script, recovered, resumed, start_cut, with_script}
+use Rattle.vr_world.specs.Group.{AreSound, Arrival, Group, IsArrival, MayOpen, Member, Movable, Moved, carried_out, cut_short, kept_at, move_cut, moved_over, once_mended, opening_script, recovered, resumed, start_cut, with_script}
 use Rattle.vr_world.specs.GroupFit.{IsFitArrival}
 use Rattle.vr_world.specs.Lying.{Lying}
 use Rattle.vr_node.specs.Replica.{Replica, version}
@@ -30,6 +30,10 @@ pub data Deed : Type 0 where
   Found : (value : SuperValue) (disk : Disk) (after : Option Disk) (first : List Output) (replica : Replica) → Deed
   -- it was ended while it was being found
   HalfFound : (value : SuperValue) (disk : Disk) (effects : ℕ) → Deed
+  -- its file, of version 1 and with this value, became one of version 2
+  Migrated : (value : SuperValue) → Deed
+  -- that was ended in its midst
+  HalfMigrated : (value : SuperValue) (effects : ℕ) → Deed
 
 -- by whom
 pub record By : Type 0 where
@@ -46,6 +50,8 @@ puts_out (Broke arrival event disk effects) = []
 puts_out Ended = []
 puts_out (Found value disk after first replica) = first
 puts_out (HalfFound value disk effects) = []
+puts_out (Migrated value) = []
+puts_out (HalfMigrated value effects) = []
 
 unfoldable pub all_put_out : List By → List Output
 all_put_out [] = []
@@ -109,6 +115,10 @@ pub data Leads (cluster : ℕ) (g : Group) : By → Moved → Type 0 where
   half_found : (at : ℕ) (v : SuperValue) (d : Disk) (effects : ℕ) (m : Member) → slice_get g.members at ≡ Some m → m.replica ≡ None
       → MayBeFound g m v d
       → Leads cluster g (by at (HalfFound v d effects)) (start_cut g at m v (opened_on v d) effects)
+  migrated : (at : ℕ) (v : SuperValue) (m : Member) → Movable g at m v
+      → Leads cluster g (by at (Migrated v)) (moved_over g at m v)
+  half_migrated : (at : ℕ) (v : SuperValue) (effects : ℕ) (m : Member) → Movable g at m v
+      → Leads cluster g (by at (HalfMigrated v effects)) (move_cut g at m v effects)
 
 -- one after the other, from a group on
 abbrev pub AtWork : ℕ → Group → List By → Type 0

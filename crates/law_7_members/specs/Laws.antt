@@ -26,7 +26,7 @@ pub record IsOneRun (cluster n : ℕ) (xs : List By) : Type 0 where
   pub said : run_outputs run ≡ all_put_out xs
   pub safe : Safe cluster n run
 
--- from a group of 2 to 6 on whose members were just made, each on a file of a kind of its own
+-- from a group of 1 to 6 on whose members were just made, each on a file of a kind of its own
 abbrev pub NodesAreOneRun : Type 0
 NodesAreOneRun = (kinds : ℕ → Kind) (cluster n : ℕ) (xs : List By) → AreKinds kinds n → cluster < 2 ^ 64 → 1 ≤ n → n ≤ 6 → AtWork cluster (fresh_group kinds cluster n) xs → IsOneRun cluster n xs
 

@@ -1,6 +1,7 @@
 -- Whole runs of the programs of a group's members, interleaved.
 use Rattle.std.specs.Prelude.{ℕ, ◌^◌, ◌<◌, ◌≤◌, ◌≡◌, ◌==◌, ⊤, List, [], ◌∷◌, ◌++◌, length, map, Option, Some, None, if◌then◌else◌}
 use Rattle.std.specs.List.{AllByRecursion, range_with_len}
+use Rattle.vr_base.specs.Groups.{least_members}
 use Rattle.vr_base.specs.declared.kind.Kind.{Kind}
 use Rattle.vr_base.specs.declared.table.Config.{Config}
 use Rattle.vr_disk.specs.DiskState.{Call, Disk, Face, Sync, after}
@@ -66,7 +67,7 @@ making kind c = format_calls kind c.cluster c.n c.replica
 -- cut, and the file was attached again; or one of these began to lie, by any fault.
 pub data IsUnfinished (c : Config) : Face → Type 0 where
   zeros : IsUnfinished c zero_face
-  stopped : (kind : Kind) (file left : Face) → IsKind kind → IsUnfinished c file → Stops (making kind c) file left → IsUnfinished c (after left Sync)
+  stopped : (kind : Kind) (file left : Face) → IsKind kind → least_members kind.version ≤ c.n → IsUnfinished c file → Stops (making kind c) file left → IsUnfinished c (after left Sync)
   decays : (file : Face) (fault : Fault) → IsUnfinished c file → IsFault fault → IsUnfinished c (faulted file fault)
 
 -- What a run leaves that was to make the member, and made none: once its file is attached again, it is such a one.

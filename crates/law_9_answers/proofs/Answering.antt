@@ -133,7 +133,7 @@ record IsMet (xs : List ActBy) (log : List Whole) (q : RequestFields) (r : Reply
   number : r.request ≡ q.request
   reached : HasReached xs log q
 
-module _ (kinds : ℕ → Kind) (cluster n : ℕ) (first : ℕ → Host Lying) (xs : List ActBy) (are : AreKinds kinds n) (number : cluster < 2 ^ 64) (few : 2 ≤ n) (many : n ≤ 6) (k : KeepOneLog kinds cluster n first xs) (own : List RequestFields) (never : NoCollision (IsNamed xs own)) where
+module _ (kinds : ℕ → Kind) (cluster n : ℕ) (first : ℕ → Host Lying) (xs : List ActBy) (are : AreKinds kinds n) (number : cluster < 2 ^ 64) (few : 1 ≤ n) (many : n ≤ 6) (k : KeepOneLog kinds cluster n first xs) (own : List RequestFields) (never : NoCollision (IsNamed xs own)) where
   abbrev log : List Whole
   log = k.log.safe.log
 
@@ -141,7 +141,7 @@ module _ (kinds : ℕ → Kind) (cluster n : ℕ) (first : ℕ → Host Lying) (
   run = k.log.matched.run
 
   fit : IsFitRun cluster n run
-  fit = record { number = number; few = few; many = many; moves = k.log.matched.reads; files = k.log.matched.files; kinds = kinds; are_kinds = are; of_run = k.log.matched.is }
+  fit = record { number = number; some = few; many = many; moves = k.log.matched.reads; files = k.log.matched.files; kinds = kinds; are_kinds = are; of_run = k.log.matched.is }
 
   rests_at : (place : ℕ) (o : Output) → slice_get (all_said xs) place ≡ Some o → RestsOn cluster n log run (take place (all_said xs)) o
   rests_at place o is =

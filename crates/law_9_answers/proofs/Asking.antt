@@ -82,7 +82,7 @@ fine_fits version (question.Get key) h = key_text key h
 
 -- ---- what was heard
 
-module _ (kinds : ℕ → Kind) (cluster n : ℕ) (hosts : ℕ → Host Lying) (xs : List ActBy) (are : AreKinds kinds n) (number : cluster < 2 ^ 64) (few : 2 ≤ n) (many : n ≤ 6) (k : KeepOneLog kinds cluster n hosts xs) (own : List RequestFields) (never : NoCollision (IsNamed xs own)) where
+module _ (kinds : ℕ → Kind) (cluster n : ℕ) (hosts : ℕ → Host Lying) (xs : List ActBy) (are : AreKinds kinds n) (number : cluster < 2 ^ 64) (few : 1 ≤ n) (many : n ≤ 6) (k : KeepOneLog kinds cluster n hosts xs) (own : List RequestFields) (never : NoCollision (IsNamed xs own)) where
   abbrev IsIts : Heard → Type 0
   IsIts t = IsOfLog cluster n xs k.log.safe.log k.log.matched.run t
 

@@ -179,6 +179,8 @@ act_traced c sent at _ _ _ _ _ free brings (files.finds file d v after first r t
     let es = (opening u s (blank u) d.face).script in
     found_traced (act_by at (files.Finds after first r)) es left.1 (λ (w : Whole). ⊥) ((tr_opening {W = λ (w : Whole). ⊥} {Q = λ (b : Asker). ⊥} u).every s (blank u) d.face)
 act_traced c sent at _ _ _ _ _ free brings (files.half_finds file v made code is_open within) = silent_traced (act_by at (files.HalfFinds made code)) (λ s i. elim i [ inl z ↦ cc | inr n ↦ n ]) (λ a i. elim i [ inl z ↦ cc | inr n ↦ n ])
+act_traced c sent at _ _ _ _ _ free brings (files.moves file v o first) = silent_traced (act_by at files.Moves) (λ s i. elim i [ inl z ↦ cc | inr n ↦ n ]) (λ a i. elim i [ inl z ↦ cc | inr n ↦ n ])
+act_traced c sent at _ _ _ _ _ free brings (files.half_moves file v made code o first within) = silent_traced (act_by at (files.HalfMoves made code)) (λ s i. elim i [ inl z ↦ cc | inr n ↦ n ]) (λ a i. elim i [ inl z ↦ cc | inr n ↦ n ])
 act_traced c sent at _ _ _ _ _ free brings (files.decays file o fault left is kept) = silent_traced (act_by at (files.Decays fault)) (λ s i. elim i [ inl z ↦ cc | inr n ↦ n ]) (λ a i. elim i [ inl z ↦ cc | inr n ↦ n ])
 
 -- ---- members at work

@@ -17,7 +17,7 @@ use Rattle.vr_msg.specs.declared.output.Sent.{Sent}
 use Rattle.vr_msg.specs.declared.request.RequestFields.{RequestFields}
 use Rattle.vr_world.specs.Asker.{Asker}
 use Rattle.vr_world.specs.Group as group
-use Rattle.vr_world.specs.Group.{Arrival, Asked, IsArrival, Member, Message, Move, Moved, Moves, Played, Runs, Time, fresh_group, made_by_effect, made_in, opening_script, stepped}
+use Rattle.vr_world.specs.Group.{Arrival, Asked, IsArrival, Member, Message, Move, Moved, Moves, Played, Runs, Time, fresh_group, made_by_effect, made_in, migration, opening_script, stepped}
 use Rattle.vr_world.specs.Lying.{Lying, lying}
 use Rattle.vr_world.specs.Opening.{blank}
 use Rattle.vr_world.specs.Replica.{Replica, header_at, part_at}
@@ -158,12 +158,17 @@ module _ (u : Setup) (g : group.Group) (s : Group Header) (b : Bridges u g s) (a
       subst (λ (x : Step). Traced (λ (w : Whole). ⊥) (λ (b : Asker). ⊥) x.script) (opening_in_two v d) ((tr_opening {W = λ (w : Whole). ⊥} {Q = λ (b : Asker). ⊥} v).every lying (blank v) d) in
       t.writes again w i
 
+  migration_writes : (v : SuperValue) (again : Bool) (w : Whole) → In (Write again w) (migration v) → ⊥
+  migration_writes v again w i = elim i [ inl a ↦ cc | inr r ↦ elim r [ inl b ↦ cc | inr n ↦ n ] ]
+
   move_asked : (move : Move) (moved : Moved) → Moves g move moved → (again : Bool) (w : Whole) → In (Write again w) moved.script → IsOfRequest w.header
   move_asked _ _ (group.steps at arrival e d m r runs i) again w within = step_asked at m r runs arrival e d i again w within
   move_asked _ _ (group.cuts at arrival e d effects m r runs i) again w within = step_asked at m r runs arrival e d i again w (in_take (effects + 1) (stepped e r d).script (Write again w) within)
   move_asked _ _ (group.crashes at m there) again w within = absurd within
   move_asked _ _ (group.recovers at v d m o) again w within = absurd (opening_writes v d again w within)
   move_asked _ _ (group.recovers_cut at v d effects m o) again w within = absurd (opening_writes v d again w (in_take (effects + 1) (opening_script v d) (Write again w) within))
+  move_asked _ _ (group.migrates at v m may) again w within = absurd (migration_writes v again w within)
+  move_asked _ _ (group.migrates_cut at v effects m may) again w within = absurd (migration_writes v again w (in_take (effects + 1) (migration v) (Write again w) within))
 
 -- ---- a run
 

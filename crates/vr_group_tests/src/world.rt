@@ -5,7 +5,7 @@ ghost use Rattle.vr_group.specs.Lines.{AreLinesOf};
 use std::alloc::Global;
 use std::process::Abort;
 use std::test::Fail;
-use vr_base::{ByteList, Kind, Mode, Version};
+use vr_base::{ByteList, Kind, Mode, Version, is_size};
 use vr_group::World;
 use vr_lines::{Line, parse_line};
 
@@ -29,7 +29,7 @@ fn run(
     kind: Kind,
     texts: &[&str],
 ) -> Result<ByteList, Fail> {
-    assert!(rt; 2 <= n && n <= 6);
+    assert!(rt; is_size(kind.version, n));
     let mut world = World::new(alloc, n, kind)?;
     let lines = spelled(alloc, n, kind.version, texts)?;
     assert!(rt; world.live() && world.size() == n);
@@ -123,5 +123,37 @@ fn and_one_on_files_of_version_2(rt: HostRuntime) -> Result<(), Fail> {
          start 1 view 0 log_view 0 commit 0\n\
          send 1 1 0 prepare_ok view 0 op 1 made 0\n\
          done\n",
+    )
+}
+
+/// A group of one: the sync behind its prepare is cut, and then one call behind that sync. What it has then it chooses at a tick.
+#[test]
+fn and_a_group_of_one(rt: HostRuntime) -> Result<(), Fail> {
+    check(
+        &rt,
+        rt.alloc(),
+        1,
+        Kind {
+            mode: Mode::Careful,
+            version: Version::new(2),
+        },
+        &[
+            "fuse 0 9 0",
+            "request 0 7 0 register",
+            "start 0",
+            "tick 0",
+            "fuse 0 10 0",
+            "request 0 7 0 register",
+            "start 0",
+            "tick 0",
+        ],
+        "halt 0\n\
+         start 0 view 1 log_view 0 commit 0\n\
+         choose 0 view 1 log 0 commit 0 head 0 own -\n\
+         halt 0\n\
+         start 0 view 2 log_view 1 commit 0\n\
+         choose 0 view 2 log 1 commit 0 head 1 own h\n\
+         commit 0 op 1 view 1 client 7 request 0 register\n\
+         reply 0 client 7 request 0 op 1 session\n",
     )
 }

@@ -5,16 +5,18 @@ use Rattle.std.proofs.lemmas.Bool.{le-leb, lt-leb}
 use Rattle.vr_disk.specs.DiskState as disk
 use Rattle.vr_disk.specs.DiskState.{Call, Disk, Face, Fuse, Runs, runs}
 use Rattle.vr_disk.proofs.Together.{after_all_append}
+use Rattle.vr_lie.specs.Copies.{SuperValue}
 use Rattle.vr_lie.specs.Faults.{held_at}
 use Rattle.vr_msg.specs.declared.output.Output.{Output}
 use Rattle.vr_lie.specs.Held.{held_after_all}
-use Rattle.vr_world.specs.Lying.{Lying, after_calls, hazards, lying}
+use Rattle.vr_world.specs.Lying.{Lying, after_calls, hazards, lying, settled}
+use Rattle.vr_world.specs.Migrating.{migration_calls}
 use Rattle.vr_world.specs.Replica.{Replica}
 use Rattle.vr_world.specs.Sectors.{calls_by, script_calls}
 use Rattle.vr_world.specs.Steps.{Effect, Step, after_all, outputs}
-use Rattle.vr_world.specs.World.{Acted, Host, halted, went, went_or_halted}
+use Rattle.vr_world.specs.World.{Acted, Host, halted, migrated_or_halted, migrated_with, migration_halted, went, went_or_halted}
 use Rattle.vr_lying.specs.Told.{burnt, host_on, lying_in}
-use Rattle.vr_lying.specs.Laws.{ActsGo, ActsHalt, WasCut, Went}
+use Rattle.vr_lying.specs.Laws.{ActsGo, ActsHalt, MigrationsGo, MigrationsHalt, WasCut, Went}
 use Rattle.vr_lying.proofs.Runs.{at_slot, no_calls, runs_cut, runs_went, same_rows, slots_count, with_held}
 
 -- ---- the calls of effects
@@ -80,5 +82,44 @@ acts_halt v index r d e s t h =
       acted = ap (λ o. went_or_halted hazards index m s o) w.armed ∙ cut_halted index m s u w.within
           ∙ ap (λ x. member_left None x None os) (sym w.lying)
           ∙ ap (λ fuse. member_left None (lying_in v e) fuse os) (sym w.spent);
+      told = record { alive = refl; sure = w.sure; count = w.count; next = w.next };
+    }
+
+-- ---- a migration
+
+migration_fits : (index : ℕ) (m : Host Lying) (v : SuperValue) (o : Option Fuse) → IfSome o (λ u. length (migration_calls v m.disk.face) ≤ u.calls)
+    → migrated_or_halted hazards index m v o ≡ migrated_with hazards index m v (burnt (length (migration_calls v m.disk.face)) o)
+migration_fits index m v None l = refl
+migration_fits index m v (Some u) l = rw (le-leb (length (migration_calls v m.disk.face)) u.calls l) refl
+
+migration_cut : (index : ℕ) (m : Host Lying) (v : SuperValue) (u : Fuse) → u.calls < length (migration_calls v m.disk.face) → migrated_or_halted hazards index m v (Some u) ≡ migration_halted hazards index m v u
+migration_cut index m v u l = rw (lt-leb (length (migration_calls v m.disk.face)) u.calls l) refl
+
+pub migrations_go : MigrationsGo
+migrations_go n index r d e v t h =
+    let cs = migration_calls v d.face in
+    let same : e ≡ (runs cs d).disk = let x = h.0 in cc in
+    let w : Went n cs d e = subst (λ (e : Disk). Went n cs d e) (sym same) (runs_went n cs d t (sym h.1)) in
+    let m = host_on n r d in
+    let os = (migrated_with hazards index m v None).outputs in
+    record {
+      acted = migration_fits index m v d.fate.fuse w.reach
+          ∙ ap (λ fuse. member_left None (settled (after_calls m.disk cs)) fuse os) (sym w.fuse)
+          ∙ ap (λ x. member_left None (settled x) e.fate.fuse os) (sym w.lying);
+      told = w.told;
+    }
+
+pub migrations_halt : MigrationsHalt
+migrations_halt n index r d e v t h =
+    let cs = migration_calls v d.face in
+    let same : e ≡ (runs cs d).disk = let x = h.0 in cc in
+    let w : WasCut n cs d e = subst (λ (e : Disk). WasCut n cs d e) (sym same) (runs_cut n cs d t (sym h.1)) in
+    let m = host_on n r d in
+    let u = w.fuse in
+    let os = (migration_halted hazards index m v u).outputs in
+    record {
+      acted = ap (λ o. migrated_or_halted hazards index m v o) w.armed ∙ migration_cut index m v u w.within
+          ∙ ap (λ x. member_left None (settled x) None os) (sym w.lying)
+          ∙ ap (λ fuse. member_left None (settled (lying_in n e)) fuse os) (sym w.spent);
       told = record { alive = refl; sure = w.sure; count = w.count; next = w.next };
     }

@@ -95,12 +95,6 @@ fault_kept_out ver d old x never =
       | false ↦ λ e. refl
     ] refl
 
--- ---- a file of another version
-
-pub told_later : (ver v later : ℕ) (d e : Disk) (old new : List (Option (List ℕ))) → later ≡ v → e ≡ d → length new ≡ 64 → HeldLooked v d.face old new → lying_in later (with_table later e new) ≡ in_edition v (lying_in ver (with_table ver d old))
-told_later ver v later d e old new is same n h =
-    ap (λ k. with_held k e.face new) is ∙ ap (λ (e : Disk). with_held v e.face new) same ∙ ap (with_held v d.face) (rows_are new (λ slot. looked v d.face slot (held_at old slot)) n h.each)
-
 -- ---- a disk of zeros
 
 pub zeros_lie : (ver later : ℕ) (d : Disk) (held : List (Option (List ℕ))) → later ≡ ver → d.face ≡ record { cells = copies sectors mem.zero_cell; waiting = [] } → held ≡ replicate 64 None → lying_in later (with_table later d held) ≡ blank_lying ver
@@ -108,3 +102,11 @@ unfolding copies mem.zero_cell
 zeros_lie ver later d held is e h =
     let rows : replicate 64 None ≡ each_slot (λ slot. None) = rows_are (replicate 64 None) (λ slot. None) (length-replicate {A = Option (List ℕ)} 64 None) (λ slot l. get_or-replicate 64 slot None None l) in
     ap (λ v. with_held v d.face held) is ∙ ap (λ f. with_held ver f held) e ∙ ap (with_held ver zero_face) (h ∙ rows)
+
+-- ---- a file of another version
+
+pub edition_set : (ver later version : ℕ) (d e : Disk) (old new : List (Option (List ℕ))) → later ≡ version → length new ≡ 64 → e ≡ d → HeldLooked version d.face old new
+    → lying_in later (with_table later e new) ≡ in_edition version (lying_in ver (with_table ver d old))
+edition_set ver later version d e old new is n same h =
+    let rows = rows_are new (λ slot. looked version d.face slot (held_at old slot)) n h.each in
+    ap (λ v. with_held v e.face new) is ∙ ap (λ (e : Disk). with_held version e.face new) same ∙ ap (with_held version d.face) rows

@@ -86,3 +86,7 @@ version_told n m l t = one_version (version_by m.lie) n m.version l t.next
 
 pub lying_told : (n : ℕ) (m : HostDisk) → (1 ≤ n) × (n ≤ 2) → IsTold n (told_by m) → lying_of m ≡ lying_in n (told_by m)
 lying_told n m l t = ap (λ v. lying_in v (told_by m)) (version_told n m l t)
+
+-- one that goes on, and of which no call fails but by its fuse, tells them as a file of its version has them
+pub told_so : (m : HostDisk) → (told_by m).fate.dead ≡ false → (told_by m).fate.failing ≡ [] → IsTold (version_by m.lie) (told_by m)
+told_so m alive sure = record { alive = alive; sure = sure; count = m.lie.table.count; next = refl }

@@ -5,13 +5,14 @@ use Rattle.vr_msg.specs.declared.event.Event.{Event}
 use Rattle.vr_msg.specs.declared.output.Output.TheVariants as output
 use Rattle.vr_lie.specs.Copies.{SuperValue}
 use Rattle.vr_world.specs.Lying.{Lying, after_calls, cut_calls, hazards, lying}
+use Rattle.vr_world.specs.Migrating.{migration_calls}
 use Rattle.vr_world.specs.Opening.{blank, opening}
 use Rattle.vr_world.specs.Replica.{Replica}
 use Rattle.vr_world.specs.Rules.{react}
 use Rattle.vr_world.specs.Sectors.{script_calls, sectors_by}
 use Rattle.vr_world.specs.Steps.{Step, outputs}
-use Rattle.vr_world.specs.World.{acts}
-use Rattle.vr_lying.specs.Told.{IsTold, burnt, host_on, lying_in, next_held}
+use Rattle.vr_world.specs.World.{acts, migrated_or_halted}
+use Rattle.vr_lying.specs.Told.{IsTold, burnt, host_on, lying_in, next_held, settled_on}
 
 abbrev pub StepsAreOfSectors : Type 0
 StepsAreOfSectors = (e : Event) (r : Replica) (d : Lying) → react e lying r d ≡ react e (sectors_by d.version) r d.face
@@ -64,3 +65,21 @@ pub record HaltedAt (version index : ℕ) (r : Option Replica) (d e : Disk) (s :
 
 abbrev pub ActsHalt : Type 0
 ActsHalt = (version index : ℕ) (r : Option Replica) (d e : Disk) (s : Step) → IsTold version d → Runs (script_calls version s.script d.face) (Some d) (Some e) false → HaltedAt version index r d e s
+
+-- ---- a member is migrated
+
+-- a migration of the value whose calls all go well
+pub record MigratedOn (version index : ℕ) (r : Option Replica) (d e : Disk) (v : SuperValue) : Type 0 where
+  pub acted : migrated_or_halted hazards index (host_on version r d) v d.fate.fuse ≡ record { member = settled_on version e; outputs = output.Migrated index ∷ [] }
+  pub told : IsTold version e
+
+abbrev pub MigrationsGo : Type 0
+MigrationsGo = (version index : ℕ) (r : Option Replica) (d e : Disk) (v : SuperValue) → IsTold version d → Runs (migration_calls v d.face) (Some d) (Some e) true → MigratedOn version index r d e v
+
+-- one of which a call doesn't
+pub record MigrationHalted (version index : ℕ) (r : Option Replica) (d e : Disk) (v : SuperValue) : Type 0 where
+  pub acted : migrated_or_halted hazards index (host_on version r d) v d.fate.fuse ≡ record { member = settled_on version e; outputs = output.Halted index ∷ [] }
+  pub told : IsTold version (revived e)
+
+abbrev pub MigrationsHalt : Type 0
+MigrationsHalt = (version index : ℕ) (r : Option Replica) (d e : Disk) (v : SuperValue) → IsTold version d → Runs (migration_calls v d.face) (Some d) (Some e) false → MigrationHalted version index r d e v

@@ -2,7 +2,7 @@
 use Rattle.std.specs.Prelude.{ℕ, ◌-◌, ◌≡◌, false, List, [], length, Option, Some, None}
 use Rattle.vr_disk.specs.DiskState.{Beside, Call, CallVerdict, Disk, Face, Fuse}
 use Rattle.vr_lie.specs.Faults.{held_as, held_at}
-use Rattle.vr_world.specs.Lying.{Lying, each_slot}
+use Rattle.vr_world.specs.Lying.{Lying, each_slot, settled}
 use Rattle.vr_world.specs.Replica.{Replica}
 use Rattle.vr_world.specs.World.{Host}
 
@@ -33,3 +33,7 @@ burnt n (Some u) = Some (record { calls = u.calls - n; code = u.code })
 -- what hosts a member, by what its disk tells
 abbrev pub host_on : ℕ → Option Replica → Disk → Host Lying
 host_on version r d = record { replica = r; disk = lying_in version d; fuse = d.fate.fuse }
+
+-- of a stopped member, once the version of its file is that of the value that it opens as
+abbrev pub settled_on : ℕ → Disk → Host Lying
+settled_on version d = record { replica = None; disk = settled (lying_in version d); fuse = d.fate.fuse }

@@ -1,5 +1,5 @@
 //! Replicas on disks that lie: laws, over the definitions. Each function is a law: its contract is the statement, and it does nothing.
-ghost use Rattle.vr_lying.specs.Laws.{ActsGo, ActsHalt, CutsTell, OpeningsAreOfSectors, RunsTell, StepsAreOfSectors};
+ghost use Rattle.vr_lying.specs.Laws.{ActsGo, ActsHalt, CutsTell, MigrationsGo, MigrationsHalt, OpeningsAreOfSectors, RunsTell, StepsAreOfSectors};
 
 /// A step on a disk that lies is that of its sectors, and an opening too: what the slots hold is never read.
 pub fn steps_read_sectors()
@@ -19,4 +19,11 @@ pub fn runs_tell()
 pub fn members_act()
     ensures go { ActsGo }
     ensures halt { ActsHalt }
+{}
+
+/// And so does one whose file is migrated: where all calls go well, and where the fuse cuts one. The file is of the version of the value that
+/// it opens as then.
+pub fn members_migrate()
+    ensures go { MigrationsGo }
+    ensures halt { MigrationsHalt }
 {}

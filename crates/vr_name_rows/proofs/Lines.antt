@@ -34,7 +34,7 @@ pub strict_kind : IsKind strict
 strict_kind = (omega arith, omega arith)
 
 pub beside : AreBeside (fresh_world hazards strict 3) (fresh_group (λ i. strict) 0 3)
-beside = subst (λ (w : World Lying). AreBeside w (fresh_group (λ i. strict) 0 3)) (sym (schedules_begin strict 3)) (fresh_beside (λ i. strict) 0 3 (λ i l. strict_kind) (omega arith) (omega arith) (omega arith))
+beside = subst (λ (w : World Lying). AreBeside w (fresh_group (λ i. strict) 0 3)) (sym (schedules_begin strict 3)) (fresh_beside (λ i. strict) 0 3 (λ i l. (strict_kind, omega arith)) (omega arith) (omega arith))
 
 face_of : (i : ℕ) → slice_get (fresh_world hazards strict 3).members i ≡ Some (fresh_host hazards strict 3 i) → IsFace (blank_disk i).face
 face_of i at = (((beside.each i (fresh_host hazards strict 3 i) at).2).running (fresh strict 0 3 i) refl).0.calm.face

@@ -1,5 +1,6 @@
 -- A member is made, or found again, on its disk.
 use Rattle.std.specs.Prelude.{◌≡◌, ◌≤◌, List, [], Option, Some, None, Result, Ok, Err}
+use Rattle.vr_base.specs.Groups.{least_members}
 use Rattle.vr_base.specs.declared.kind.Kind.{Kind}
 use Rattle.vr_base.specs.declared.table.Config.{Config}
 use Rattle.vr_disk.specs.DiskState.{Disk}
@@ -15,20 +16,20 @@ use Rattle.vr_status.specs.declared.status.Status.TheVariants.{SuperLost, OtherM
 use Rattle.vr_replica.specs.Halt.TheVariants as halt
 use Rattle.vr_super.specs.declared.recovering.CopyVerdict.{CopyVerdict}
 
--- files of a kind are of version 1 or 2
-abbrev pub HasVersion : Kind → Type 0
-HasVersion kind = (1 ≤ kind.version) × (kind.version ≤ 2)
+-- files of a kind are of version 1 or 2, and of groups of so many members as that version allows
+abbrev pub MayMake : Kind → Config → Type 0
+MayMake kind c = (1 ≤ kind.version) × (kind.version ≤ 2) × (least_members kind.version ≤ c.n)
 
 -- the member of a disk, made anew as a file of this kind, or found again, and what its opening puts out: one that is made puts out nothing
 abbrev pub Opens : Option Kind → Config → Option Disk → Option Disk → List Output → Replica → Type 0
-Opens (Some kind) c d d' first r = (HasVersion kind × Made kind c d d' (Ok r)) × (first ≡ [])
+Opens (Some kind) c d d' first r = (MayMake kind c × Made kind c d d' (Ok r)) × (first ≡ [])
 Opens None c d d' first r = Recovered c d d' [] first (Ok r)
 
 -- why there is none: anew, or not
 abbrev pub MakesNone : Kind → Config → Option Disk → Option Disk → Status → Type 0
-MakesNone kind c d d' Occupied = HasVersion kind × Made kind c d d' (Err made.Occupied)
-MakesNone kind c d d' DiskFault = HasVersion kind × Made kind c d d' (Err made.DiskFault)
-MakesNone kind c d d' NoMemory = HasVersion kind × Made kind c d d' (Err made.NoMemory)
+MakesNone kind c d d' Occupied = MayMake kind c × Made kind c d d' (Err made.Occupied)
+MakesNone kind c d d' DiskFault = MayMake kind c × Made kind c d d' (Err made.DiskFault)
+MakesNone kind c d d' NoMemory = MayMake kind c × Made kind c d d' (Err made.NoMemory)
 MakesNone kind c d d' _ = ⊥
 
 abbrev pub FindsNone : Config → Option Disk → Option Disk → Status → Type 0

@@ -116,7 +116,7 @@ member_asks version n word words =
 
 cluster_asks : (words : List (List ℕ)) → IfSome (cluster_line words) HasAsked
 cluster_asks [] = tt
-cluster_asks (size ∷ words) = through HasAsked (kind_words words) _ (λ kind e. mapped HasAsked (size_of size) (λ n. Cluster n kind) (λ n h. tt))
+cluster_asks (size ∷ words) = through HasAsked (kind_words words) _ (λ kind e. mapped HasAsked (size_of kind.version size) (λ n. Cluster n kind) (λ n h. tt))
 
 deliver_asks : (words : List (List ℕ)) → IfSome (deliver_line words) HasAsked
 deliver_asks words = through HasAsked (only_word words) (λ a. option_map Deliver (number_of a)) (λ a e. mapped HasAsked (number_of a) Deliver (λ x k. tt))

@@ -2,6 +2,7 @@
 use Rattle.std.proofs.Common.{List, [], ◌∷◌, ℕ, ◌+◌, ◌<◌, ◌≤◌, ◌≡◌, Bool, true, false, cond, ltb, refl, arith, Option, None, Some}
 use Rattle.std.specs.Prelude.{IfSome}
 use Rattle.std.specs.Option.{option_map_or}
+use Rattle.vr_base.specs.Groups.{least_members}
 use Rattle.vr_base.specs.declared.kind.Kind.{Kind}
 use Rattle.vr_lines.specs.Cuts.{lines_of}
 use Rattle.vr_lines.specs.Fits.{IsLineOf}
@@ -19,7 +20,7 @@ use Rattle.vr_replay.proofs.Plays.{line_at_fits}
 
 -- what the grammar gives of the lines of a schedule, where a group is made
 record IsRead (s : Schedule) : Type 0 where
-  few : 0 < s.n → 2 ≤ s.n
+  few : 0 < s.n → least_members s.kind.version ≤ s.n
   many : s.n ≤ 6
   version : (1 ≤ s.kind.version) × (s.kind.version ≤ 2)
   of : AreLinesOf s.kind.version s.n s.lines
@@ -54,7 +55,7 @@ none_made : IsRead (no_group (Some 1))
 unfolding AreLinesOf
 none_made = record { few = λ some. absurd (omega (arith, some)); many = omega arith; version = (omega arith, omega arith); of = tt; asked = tt }
 
-group_made : (kind : Kind) (n : ℕ) (texts : List (List ℕ)) → 2 ≤ n → n ≤ 6 → (1 ≤ kind.version) × (kind.version ≤ 2) → IsRead (of_group kind n (accepted kind.version n 1 texts))
+group_made : (kind : Kind) (n : ℕ) (texts : List (List ℕ)) → least_members kind.version ≤ n → n ≤ 6 → (1 ≤ kind.version) × (kind.version ≤ 2) → IsRead (of_group kind n (accepted kind.version n 1 texts))
 group_made kind n texts few many files = record { few = λ some. few; many = many; version = files; of = accepted_of kind.version n 1 texts; asked = accepted_asked kind.version n 1 texts files }
 
 first_read : (texts : List (List ℕ)) (l : Line) → IsLineOf 1 0 l → IsRead (begun texts l)

@@ -3,6 +3,7 @@ use Rattle.std.proofs.Common.{◌≡◌, ◌<◌, ℕ, ◌+◌, List, [], ◌∷
 use Rattle.std.specs.Option.{option_map_or}
 use Rattle.std.proofs.lemmas.List.{append-nil}
 use Rattle.vr_base.specs.declared.kind.Kind.{Kind}
+use Rattle.vr_base.proofs.Members.{least_of}
 use Rattle.vr_base.proofs.Versions.{between}
 use Rattle.vr_lines.specs.Fits.{IsLineOf}
 use Rattle.vr_lines.specs.Grammar.{parse}
@@ -180,7 +181,8 @@ show_first : (text : List ℕ) (texts : List (List ℕ)) (l : Line) → IsLineOf
 unfolding comes numbered
 show_first text texts (line.Cluster n kind) h =
     let least = h.1 in
-    let f = plays_follow (record { world = fresh_world hazards kind n; version = kind.version }) 1 texts (positive kind n (omega (arith, least))) in
+    let some = (least_of kind.version).0 in
+    let f = plays_follow (record { world = fresh_world hazards kind n; version = kind.version }) 1 texts (positive kind n (omega (arith, least, some))) in
     record {
       refused = f.refused ∙ ap (λ m. (accepted kind.version m 1 texts).refused) (fresh_size kind n);
       outputs = f.outputs ∙ numbered_fresh kind n texts;

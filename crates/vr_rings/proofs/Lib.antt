@@ -5,6 +5,7 @@ pub mod Lasting
 pub mod Leaving
 pub mod Moving
 pub mod Relocated
+pub mod Short
 pub mod Spelling
 pub mod Standing
 pub mod Stops

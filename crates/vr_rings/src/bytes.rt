@@ -1,9 +1,8 @@
 //! The sectors of a slot, both ways.
-ghost use Rattle.std.specs.Prelude.{◌≡◌, ◌≤◌, ◌+◌, length, min, replicate, take};
+ghost use Rattle.std.specs.Prelude.{◌≡◌, ◌≤◌, ◌+◌, drop, length, min, replicate, take};
 ghost use Rattle.std.specs.Option.{option_map};
 ghost use Rattle.std.specs.Result.{result_ok};
 ghost use Rattle.vr_base.specs.Bytes.{IsBytes};
-ghost use Rattle.vr_base.specs.Versions.{body_limit};
 ghost use Rattle.vr_header.specs.Made.{entry_bytes, entry_of};
 ghost use Rattle.vr_header.specs.Spelling.{IsHeader, decoded};
 ghost use Rattle.vr_rings.specs.Held.{header_sector};
@@ -53,17 +52,29 @@ pub fn header_sector(prepare: &[u8]) -> Sector
     sector
 }
 
+// Puts the spelling of an entry in front; the other bytes stay.
+fn put_entry(entry: &Entry, to: &mut [u8])
+    requires { entry.now.header.size ≤ length to.old }
+    ensures front { take (length (entry_bytes entry.now)) to.new ≡ entry_bytes entry.now }
+    ensures back { drop (length (entry_bytes entry.now)) to.new ≡ drop (length (entry_bytes entry.now)) to.old }
+    ensures size { length (entry_bytes entry.now) ≤ length to.old }
+    ensures whole { IsWhole entry.now }
+{
+    put(to, 0, &spelled(&entry.header(), entry.name()));
+    entry.operation().put_body(to, 128);
+}
+
 /// Puts the prepare of an entry into zeros: as much of it as they are, which is all of the entry.
 #[tactic(auto, using(crate::proofs::Spelling::spelled_prepare))]
 pub fn put_prepare(entry: &Entry, to: &mut [u8])
     requires zeros { to.old ≡ replicate (length to.old) 0 }
-    requires least { 128 + body_limit entry.now.header.version ≤ length to.old }
+    requires least { entry.now.header.size ≤ length to.old }
     requires most { length to.old ≤ 4096 }
     ensures bytes { to.new ≡ take (length to.old) (prepare_bytes entry.now) }
     ensures size { length (entry_bytes entry.now) ≤ length to.old }
     ensures whole { IsWhole entry.now }
 {
-    entry.put(to);
+    put_entry(entry, to);
 }
 
 /// The header that a header sector's bytes are, `None` exactly where they aren't a valid header and zeros.

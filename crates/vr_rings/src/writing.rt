@@ -1,10 +1,11 @@
 //! Writing a slot.
-ghost use Rattle.std.specs.Prelude.{ℕ, ◌≡◌, ◌≤◌, ◌*◌, [], IfSome, is_ok, length, replicate, take};
+ghost use Rattle.std.specs.Prelude.{ℕ, ◌≡◌, ◌≤◌, ◌<◌, ◌+◌, ◌*◌, [], IfSome, is_ok, length, replicate, take};
+ghost use Rattle.vr_base.specs.Bytes.{piece};
 ghost use Rattle.vr_base.specs.Causes.{HasCause};
 ghost use Rattle.vr_disk.specs.DiskState.{Runs};
-ghost use Rattle.vr_disk.specs.Regions.{prepare_sectors};
+ghost use Rattle.vr_disk.specs.Sectors.{writes};
 ghost use Rattle.vr_header.specs.Made.{entry_bytes};
-ghost use Rattle.vr_rings.specs.Slots.{IsWhole, Takes, prepare_bytes, sector_of};
+ghost use Rattle.vr_rings.specs.Slots.{IsWhole, Takes, in_front, prepare_bytes, sector_of};
 ghost use Rattle.vr_rings.specs.Calls.{again_calls, header_calls, new_calls, prepare_calls};
 ghost use Rattle.vr_rings.specs.Laws.{AgainLeaves, HeaderLeaves, NewLeaves};
 
@@ -12,27 +13,61 @@ use crate::bytes::{header_sector, put_prepare, sector_by};
 use crate::slot::slot_of;
 use vr_base::Version;
 use vr_disk::{
-    DiskFailed, DiskFault, Room, Sector, SectorDisk, header_place, prepare_place, prepare_sectors,
-    write_sectors,
+    DiskFailed, DiskFault, Room, SECTOR_SIZE, SECTORS, Sector, SectorDisk, header_place,
+    prepare_place, prepare_sectors, sector_at,
 };
 use vr_header::{Entry, Header};
 
+// A sector of these bytes in front of zeros, of which so many sectors are given.
+fn sector_in(bytes: &[u8], filled: u32, k: u32) -> Sector
+    requires size { length bytes.now ≡ 512 * filled }
+    requires k { k < 8 }
+    ensures { result.bytes ≡ piece (512 * k) 512 (in_front bytes.now) }
+{
+    if k < filled {
+        sector_at(bytes, SECTOR_SIZE * k as usize)
+    } else {
+        Sector { bytes: [0; 512] }
+    }
+}
+
+// Writes these bytes, so many sectors of them, and zeros behind them to so many sectors from one on.
+fn write_front<D: SectorDisk>(
+    disk: &mut D,
+    at: u32,
+    count: u32,
+    bytes: &[u8],
+    filled: u32,
+) -> Result<(), DiskFailed>
+    requires within { at + count ≤ SECTORS }
+    requires count { count ≤ 8 }
+    requires size { length bytes.now ≡ 512 * filled }
+    ensures runs { Runs (writes at count (in_front bytes.now)) (D.told disk.old) (D.told disk.new) (is_ok result) }
+    ensures cause { HasCause (D.faults disk.old) (D.faults disk.new) result }
+{
+    for k in 0..count {
+        disk.write(at + k, &sector_in(bytes, filled, k))?;
+    }
+    Ok(())
+}
+
 // Writes the sectors of an entry, whose prepare begins with these bytes, and syncs them.
-#[tactic(auto, using(vr_disk::proofs::Running::Runs_then, vr_disk::proofs::Running::Runs_stopped, crate::proofs::Spelling::front_written), unfolding(crate::specs::Calls::prepare_calls))]
+#[tactic(auto, using(vr_disk::proofs::Running::Runs_then, vr_disk::proofs::Running::Runs_stopped), unfolding(crate::specs::Calls::prepare_calls))]
 fn write_prepare<D: SectorDisk>(
     disk: &mut D,
     entry: &Entry,
     bytes: &[u8],
+    filled: u32,
     version: Version,
 ) -> Result<(), DiskFailed>
-    requires bytes { bytes.now ≡ take (512 * prepare_sectors version) (prepare_bytes entry.now) }
-    requires size { length bytes.now ≡ 512 * prepare_sectors version }
+    requires bytes { in_front bytes.now ≡ prepare_bytes entry.now }
+    requires size { length bytes.now ≡ 512 * filled }
     ensures runs { Runs (prepare_calls version entry.now) (D.told disk.old) (D.told disk.new) (is_ok result) }
     ensures cause { HasCause (D.faults disk.old) (D.faults disk.new) result }
 {
     let at = prepare_place(slot_of(&entry.header()), version);
     let count = prepare_sectors(version);
-    write_sectors(disk, at, count, bytes)?;
+    write_front(disk, at, count, bytes, filled)?;
     disk.sync()?;
     Ok(())
 }
@@ -69,23 +104,27 @@ fn note<D: SectorDisk>(disk: &mut D, entry: &Entry, bytes: &[u8])
     disk.keep_name(Room::Body(slot_of(&header)), body, header.body);
 }
 
-// Writes an entry to its slot, the prepare first, over this room for as much of it as the slot takes.
+// Writes an entry to its slot, the prepare first, over this room of so many sectors, which
+// take all of it but zeros.
 #[tactic(auto, using(vr_disk::proofs::Running::Runs_then, vr_disk::proofs::Running::Runs_stopped, crate::proofs::Leaving::new_leaves))]
 fn new_over<D: SectorDisk>(
     disk: &mut D,
     entry: &Entry,
     version: Version,
+    filled: u32,
     bytes: &mut [u8],
 ) -> Result<(), DiskFault>
     requires takes { Takes version entry.now }
-    requires zeros { bytes.old ≡ replicate (512 * prepare_sectors version) 0 }
+    requires zeros { bytes.old ≡ replicate (512 * filled) 0 }
+    requires least { entry.now.header.size ≤ 512 * filled }
+    requires most { filled ≤ 8 }
     ensures runs { Runs (new_calls version entry.now) (D.told disk.old) (D.told disk.new) (is_ok result) }
     ensures cause { HasCause (D.faults disk.old) (D.faults disk.new) result }
     ensures stop { IfSome (D.told disk.old) (λ d. d.face.waiting ≡ [] → NewLeaves version entry.now d.face) }
 {
     put_prepare(entry, bytes);
     note(disk, entry, bytes);
-    write_prepare(disk, entry, bytes, version)?;
+    write_prepare(disk, entry, bytes, filled, version)?;
     put_header(disk, &entry.header(), &header_sector(bytes))?;
     Ok(())
 }
@@ -105,23 +144,29 @@ pub fn write_new<D: SectorDisk>(
     // prepare synced already; and the premise on slots is kept.
     ensures stop { IfSome (D.told disk.old) (λ d. d.face.waiting ≡ [] → NewLeaves version entry.now d.face) }
 {
-    if version.get() == 2 {
-        new_over(disk, entry, version, &mut [0; 4096])
+    if entry.header().size.get() <= 512 {
+        new_over(disk, entry, version, 1, &mut [0; 512])
+    } else if version.get() == 2 {
+        new_over(disk, entry, version, 8, &mut [0; 4096])
     } else {
-        new_over(disk, entry, version, &mut [0; 2048])
+        new_over(disk, entry, version, 4, &mut [0; 2048])
     }
 }
 
-// Writes an entry to its slot, the header sector first, over this room for as much of its prepare as the slot takes.
+// Writes an entry to its slot, the header sector first, over this room of so many
+// sectors, which take all of its prepare but zeros.
 #[tactic(auto, using(vr_disk::proofs::Running::Runs_then, vr_disk::proofs::Running::Runs_stopped, crate::proofs::Leaving::again_leaves))]
 fn again_over<D: SectorDisk>(
     disk: &mut D,
     entry: &Entry,
     version: Version,
+    filled: u32,
     prepare: &mut [u8],
 ) -> Result<(), DiskFault>
     requires takes { Takes version entry.now }
-    requires zeros { prepare.old ≡ replicate (512 * prepare_sectors version) 0 }
+    requires zeros { prepare.old ≡ replicate (512 * filled) 0 }
+    requires least { entry.now.header.size ≤ 512 * filled }
+    requires most { filled ≤ 8 }
     ensures runs { Runs (again_calls version entry.now) (D.told disk.old) (D.told disk.new) (is_ok result) }
     ensures cause { HasCause (D.faults disk.old) (D.faults disk.new) result }
     ensures stop { IfSome (D.told disk.old) (λ d. d.face.waiting ≡ [] → AgainLeaves version entry.now d.face) }
@@ -130,7 +175,7 @@ fn again_over<D: SectorDisk>(
     note(disk, entry, prepare);
     let sector = header_sector(prepare);
     put_header(disk, &entry.header(), &sector)?;
-    write_prepare(disk, entry, prepare, version)?;
+    write_prepare(disk, entry, prepare, filled, version)?;
     Ok(())
 }
 
@@ -148,10 +193,12 @@ pub fn write_again<D: SectorDisk>(
     // sector synced already; and the premise on slots is kept.
     ensures stop { IfSome (D.told disk.old) (λ d. d.face.waiting ≡ [] → AgainLeaves version entry.now d.face) }
 {
-    if version.get() == 2 {
-        again_over(disk, entry, version, &mut [0; 4096])
+    if entry.header().size.get() <= 512 {
+        again_over(disk, entry, version, 1, &mut [0; 512])
+    } else if version.get() == 2 {
+        again_over(disk, entry, version, 8, &mut [0; 4096])
     } else {
-        again_over(disk, entry, version, &mut [0; 2048])
+        again_over(disk, entry, version, 4, &mut [0; 2048])
     }
 }
 

@@ -208,6 +208,28 @@ turns_back : map (λ t. (step (storing (h1 ∷ [])) (record (with_parts (Here h1
 unfolding after_fresh
 turns_back = refl
 
+-- ---- a replica alone asks nobody, whatever it lacks
+
+abbrev alone : Replica
+alone = with_parts (Here h1 ∷ Lost h2 ∷ []) (record primary { n = 1 })
+
+lacks_alone : map (λ r. said (storing (h1 ∷ [])) r Tick) (alone ∷ record alone { missing = root_name (bare_at 32) ∷ [] } ∷ []) ≡ [] ∷ [] ∷ []
+unfolding after_fresh
+lacks_alone = refl
+
+-- in a view that isn't started it begins that with what it has stored, all of which is committed then; the choice waits with what it has lost
+begins_alone : map (λ p. said both (record (in_view 1 0 (with_parts (Here h1 ∷ p ∷ []) primary)) { n = 1; heard = with_replica no_replicas 0 }) Tick) (Here h2 ∷ Lost h2 ∷ [])
+    ≡ (
+    codes "choose 0 view 1 log 0 commit 1 head 2 own h"
+    ∷ codes "commit 0 op 2 view 0 client 7 request 1 get a"
+    ∷ codes "reply 0 client 7 request 1 op 2 absent"
+    ∷ []
+    )
+    ∷ (codes "wait 0 view 1 op 2" ∷ [])
+    ∷ []
+unfolding after_fresh
+begins_alone = refl
+
 -- ---- an entry that comes late is told of, and makes no commit in its step, though a quorum has it
 
 abbrev lacking : Replica → Replica

@@ -1,5 +1,6 @@
--- Rows of groups by the version of their files: what they are asked, when a session goes, and what is written to a disk before they begin.
-use Rattle.std.proofs.Common.{ℕ, ◌+◌, ◌-◌, ◌*◌, ◌≡◌, List, [], ◌∷◌, ◌++◌, map, drop, take, slice_get, Option, Some, None, codes, refl}
+-- Rows of groups by the version of their files: what they are asked, when a session goes, how a file is migrated, and what is written to a disk
+-- before they begin.
+use Rattle.std.proofs.Common.{ℕ, ◌+◌, ◌-◌, ◌*◌, ◌≡◌, List, [], ◌∷◌, ◌++◌, map, drop, take, replicate, slice_get, Option, Some, None, codes, refl}
 use Rattle.std.specs.List.{flat_map, range_with_len}
 use Rattle.vr_base.specs.Bytes.{bytes16, bytes32, bytes64, digest_bytes, name_of, sha256}
 use Rattle.vr_base.specs.declared.kind.Kind.{Kind}
@@ -9,11 +10,12 @@ use Rattle.vr_disk.specs.Sectors.{writes}
 use Rattle.vr_header.specs.declared.operation.Operation.{Operation}
 use Rattle.vr_header.specs.declared.operation.Operation.TheVariants.{Register, Get}
 use Rattle.vr_header.specs.Spelling as header
+use Rattle.vr_msg.specs.declared.request.RequestFields.{RequestFields}
 use Rattle.vr_super.specs.Calls.{copy_calls, save_from}
 use Rattle.vr_super.specs.Copies as super
 use Rattle.vr_rules.specs.Formatting.{format_calls, reserved_header}
 use Rattle.vr_rules.specs.Opening.{first_value}
-use Rattle.vr_world.specs.World.{Happening, Asks, Arrives, Ticks, Stops, Starts, fresh_world, happen}
+use Rattle.vr_world.specs.World.{Happening, Asks, AsksInVersion, Arrives, Ticks, Stops, Starts, Migrates, Fuses, fresh_world, happen}
 use Rattle.vr_rule_rows.proofs.Plain.{after_fresh, hazards, lines}
 
 -- a strict file of this version
@@ -23,8 +25,11 @@ kind_of v = record { mode = Strict; version = v }
 -- ---- groups of two
 
 -- a client asks replica 0 in a request of this version
+abbrev request_by : (version client request : ℕ) → Operation → RequestFields
+request_by version client request operation = record { version = version; cluster = 0; client = client; request = request; operation = operation }
+
 abbrev asks_by : (version client request : ℕ) → Operation → Happening
-asks_by version client request operation = Asks 0 (record { version = version; cluster = 0; client = client; request = request; operation = operation })
+asks_by version client request operation = Asks 0 (request_by version client request operation)
 
 -- the lines of a group of n, whose files are of this version
 unfoldable lines_of : (version n : ℕ) → List Happening → List (List ℕ)
@@ -58,6 +63,14 @@ own_version : map (λ v. lines_on v both_ask) (1 ∷ 2 ∷ [])
     ∷ []
 unfolding lines_on
 own_version = refl
+
+-- a request of an earlier version than the files is made in theirs, where that is asked for; one of a later version stays as it is
+in_own_version : map (λ v. lines_on v (AsksInVersion 0 (request_by 1 7 0 Register) ∷ AsksInVersion 0 (request_by 2 8 0 Register) ∷ [])) (1 ∷ 2 ∷ [])
+    ≡ (codes "send 0 0 1 prepare view 0 op 1 made 0 commit 0" ∷ [])
+    ∷ (codes "send 0 0 1 prepare view 0 op 1 made 0 commit 0" ∷ codes "send 1 0 1 prepare view 0 op 2 made 0 commit 0" ∷ [])
+    ∷ []
+unfolding lines_on
+in_own_version = refl
 
 -- so many clients register, and both messages of each arrive
 abbrev register_all : (version n : ℕ) → List Happening
@@ -97,6 +110,28 @@ alone : lines_of 2 1 (asks_by 2 7 0 Register ∷ Stops 0 ∷ Starts 0 ∷ Ticks 
     ∷ []
 unfolding lines_of
 alone = refl
+
+-- ---- files of version 1 that become those of version 2
+
+-- a replica has stored an entry, is stopped, and is started again after what happens to its file; then the entry's prepare comes again
+abbrev stored_before : List Happening → List (List ℕ)
+stored_before xs = drop 2 (lines_on 1 (asks_by 1 7 0 Register ∷ Arrives 0 ∷ Stops 1 ∷ xs ++ Starts 1 ∷ Arrives 0 ∷ []))
+
+-- A migrated replica leaves messages of version 1 be. Nothing happens to the file of one that runs, nor to a file that was migrated.
+migrates : stored_before (Migrates 0 ∷ Migrates 1 ∷ Migrates 1 ∷ []) ≡ codes "migrated 1" ∷ codes "start 1 view 0 log_view 0 commit 0" ∷ []
+unfolding lines_on
+migrates = refl
+
+-- a migration that is cut after so many calls
+abbrev cut_after : ℕ → List (List ℕ)
+cut_after calls = stored_before (Fuses 1 calls 0 ∷ Migrates 1 ∷ [])
+
+-- of its 597 calls those before the first sector of the third copy of the new value leave the old one, of which the entry is held
+cut_migrations : map cut_after (0 ∷ 512 ∷ 554 ∷ []) ++ map cut_after (555 ∷ 596 ∷ [])
+    ≡ replicate 3 (codes "halt 1" ∷ codes "start 1 view 0 log_view 0 commit 0" ∷ codes "send 2 1 0 prepare_ok view 0 op 1 made 0" ∷ [])
+    ++ replicate 2 (codes "halt 1" ∷ codes "start 1 view 0 log_view 0 commit 0" ∷ [])
+unfolding lines_on
+cut_migrations = refl
 
 -- ---- what is written to a disk before a group begins
 

@@ -42,6 +42,7 @@ use Rattle.vr_rules.specs.Words.{value_of, save, entered, enter, write, accept, 
 use Rattle.vr_rules.specs.Deciding.{first_of, is_in_flight}
 use Rattle.vr_rules.specs.Rules.{next_entry, make, on_request, on_prepare, on_prepare_ok, on_commit, on_start_view_change, on_do_view_change, acknowledge_stored, on_start_view, on_get_view, on_get_prepare, on_give_prepare, on_get_block, put_block, on_give_block, on_get_sync, on_sync_view, on_tick, react, rule_for}
 use Rattle.vr_rules.specs.Opening.{blank, first_value, recover_op, recover_old, clouded, recover_parts, opening, opened}
+use Rattle.vr_rules.specs.Migrating.{migrated}
 use Rattle.vr_world.specs.World.{Hazards, Happened, Happening, Asks, at_member, fresh_world, happen}
 use Rattle.vr_rules.specs.Outputs.{message_of, messages}
 
@@ -210,12 +211,23 @@ unfoldable pub count : List Effect → ℕ
 count [] = 0
 count (e ∷ es) = calls e + count es
 
+-- ---- migrations: each slot's prepare is written in eight sectors at its new place, and all are synced; then the new value is saved
+
+abbrev pub moves : ℕ
+moves = 64 * 8 + 1
+
+abbrev pub cut_migration : ℕ → ℕ → SuperValue → Plain → Plain
+cut_migration call code v f = if nat_lt call moves then f else cut_value (call - moves) code (migrated v) f
+
 abbrev pub hazards : Hazards Plain
 hazards = record {
   setting = plain;
   formatted = formatted;
   count = λ f script. count script;
   cut = cut;
+  migration = λ v f. moves + 84;
+  migrated = λ v f. record f { value = migrated v };
+  migration_cut = cut_migration;
   faulted = faulted;
 }
 

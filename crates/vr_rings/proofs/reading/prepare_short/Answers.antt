@@ -1,0 +1,26 @@
+use Rattle.std.proofs.Common.{◌≡◌, ◌∙◌, arith, length, rules, sym, subst}
+use Rattle.vr_header.specs.declared.header.Header.{Header}
+use Rattle.vr_header.specs.Same.{same_header}
+use Rattle.vr_header.proofs.SameHeaders.{same_header_is}
+use Rattle.vr_rings.specs.Readings.{BeginsWith}
+use Rattle.vr_rings.specs.Slots.{in_front}
+use Rattle.vr_rings.proofs.Fronts.{length_in_front}
+use Rattle.vr_rings.proofs.Spelling.{begins, found_front, found_is}
+use Rattle.vr_rings.proofs.reading.prepare_short.Goals as goal
+
+pub returns-in-Ok-clause-value : goal.returns-in-Ok-clause-value
+unfolding same_header
+returns-in-Ok-clause-value g c =
+    let same = same_header_is c.in-Ok.found c.args.header.now (sym c.eq.ensures ∙ c.if-eq.true) in
+    found_is c.args.version (g.D.SectorDisk.told c.args.disk.now) c.args.slot c.in-Ok.found c.args.header.now same c.in-Ok.ensures.value
+
+pub returns-in-Ok-clause-whole : goal.returns-in-Ok-clause-whole
+unfolding same_header
+returns-in-Ok-clause-whole g c =
+    let same = same_header_is c.in-Ok.found c.args.header.now (sym c.eq.ensures ∙ c.if-eq.true) in
+    let size : length c.args.first.now.bytes ≡ 512 = search rules in
+    subst (λ (h : Header). BeginsWith h c.put_front.new.to) same
+    (begins c.in-Ok.found (in_front c.args.first.now.bytes) c.put_front.new.to c.in-Ok.ensures.each (length_in_front c.args.first.now.bytes (omega (arith, size))) c.put_front.ensures c.in-Ok.ensures.whole)
+
+pub returns-in-Ok-clause-bytes : goal.returns-in-Ok-clause-bytes
+returns-in-Ok-clause-bytes g c = found_front c.args.version (g.D.SectorDisk.told c.args.disk.now) c.args.slot (in_front c.args.first.now.bytes) c.put_front.new.to c.put_front.ensures c.in-Ok.ensures.bytes
