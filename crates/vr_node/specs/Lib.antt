@@ -1,3 +1,4 @@
+pub mod Moving
 pub mod Opening
 pub mod Running
 pub mod Steps
