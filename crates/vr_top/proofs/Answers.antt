@@ -9,6 +9,7 @@ use Rattle.vr_disk.specs.DiskState.{Disk}
 use Rattle.vr_header.specs.declared.operation.Operation.{Operation}
 use Rattle.vr_header.specs.declared.operation.Operation.TheVariants.{Register}
 use Rattle.vr_msg.specs.declared.output.Output.{Output}
+use Rattle.vr_node.specs.Moving.{MigrationEnds, MovesFile}
 use Rattle.vr_node.specs.Opening.{FindsNone, MakesNone}
 use Rattle.vr_node.specs.Running as node
 use Rattle.vr_node.specs.declared.node.Node.{Node as Member}
@@ -18,7 +19,7 @@ use Rattle.vr_soak.specs.Ends.{SoakEnds}
 use Rattle.vr_spawn.specs.declared.spawner.SpawnCall.{SpawnCall}
 use Rattle.vr_status.specs.declared.status.Status.{Status}
 use Rattle.vr_status.specs.declared.status.Status.TheVariants as status
-use Rattle.vr_top.specs.Answers.{client_gives, node_gives, replay_gives, soak_gives, trial_gives}
+use Rattle.vr_top.specs.Answers.{client_gives, migrate_gives, node_gives, replay_gives, soak_gives, trial_gives}
 use Rattle.vr_trial.specs.Run as trial
 use Rattle.vr_trial.specs.Script.{number_of, script}
 use Rattle.vr_trial.specs.Told as told
@@ -134,6 +135,28 @@ pub of_node : (s : Status) (fresh : Option Kind) (c : Config) (file : List ℕ) 
     → node.NodeEnds fresh c file peers turns o o' b n s → node_gives s ≡ true
 of_node s fresh c file peers turns o o' b n (inl x) = it_may node_gives s status.DiskFault x.is refl
 of_node s fresh c file peers turns o o' b n (inr x) = attached s fresh c peers turns (node.on_disk x.0 o) o' b n x.2
+
+-- ---- a migration
+
+moved : (s : Status) (c : Config) (d d' : Option Disk) → MovesFile c d d' s → migrate_gives s ≡ true
+moved status.Done c d d' e = refl
+moved status.SuperLost c d d' e = refl
+moved (status.OtherMember found asked) c d d' e = refl
+moved status.DiskFault c d d' e = refl
+moved status.NoMemory c d d' e = refl
+moved status.Usage c d d' e = absurd e
+moved (status.Refused line) c d d' e = absurd e
+moved status.SessionLost c d d' e = absurd e
+moved status.ReadFault c d d' e = absurd e
+moved status.WriteFault c d d' e = absurd e
+moved status.LinkFault c d d' e = absurd e
+moved status.Occupied c d d' e = absurd e
+moved status.NoAnswer c d d' e = absurd e
+moved status.SpawnFault c d d' e = absurd e
+
+pub of_migrate : (s : Status) (c : Config) (file : List ℕ) (d d' : Option Disk) → MigrationEnds c file d d' s → migrate_gives s ≡ true
+of_migrate s c file d d' (inl x) = it_may migrate_gives s status.DiskFault x.0 refl
+of_migrate s c file d d' (inr x) = moved s c x.0 d' x.2
 
 -- ---- an ask, of a client or of a trial
 

@@ -9,6 +9,7 @@ use Rattle.vr_base.proofs.Members.{sized}
 use Rattle.vr_base.specs.declared.kind.Kind.{Kind}
 use Rattle.vr_base.specs.declared.table.Config.{Config}
 use Rattle.vr_edge.specs.Failing.{LinkFailure}
+use Rattle.vr_node.specs.Moving.{MigrationEnds}
 use Rattle.vr_node.specs.Running as node
 use Rattle.vr_node.specs.Stops.{disk_after}
 use Rattle.vr_replay.specs.Run as replay
@@ -19,15 +20,15 @@ use Rattle.vr_status.proofs.Counting.{links_kept}
 use Rattle.vr_status.specs.Counts.{links_after, reads_after, writes_after}
 use Rattle.vr_status.specs.declared.status.Status.{Status}
 use Rattle.vr_status.specs.declared.status.Status.TheVariants as status
-use Rattle.vr_top.proofs.Answers.{not_given, of_client, of_node, of_replay, of_soak, of_trial}
-use Rattle.vr_top.proofs.Counts.{no_disk, no_read}
-use Rattle.vr_top.specs.Answers.{client_gives, gives, node_gives, replay_gives, soak_gives, trial_gives}
+use Rattle.vr_top.proofs.Answers.{not_given, of_client, of_migrate, of_node, of_replay, of_soak, of_trial}
+use Rattle.vr_top.proofs.Counts.{no_disk, no_read, no_write}
+use Rattle.vr_top.specs.Answers.{client_gives, gives, migrate_gives, node_gives, replay_gives, soak_gives, trial_gives}
 use Rattle.vr_top.specs.Ends.{Ends, client_counts, member_counts, of_client as client_outside, of_member, of_trial as trial_outside, trial_counts}
 use Rattle.vr_top.specs.Outside.{Outside}
 use Rattle.vr_top.specs.Roles.{IsGood, client_of, config_of, trial_of}
 use Rattle.vr_trial.specs.Run as trial
 use Rattle.vr_trial.specs.Told as told
-use Rattle.vr_words.specs.Asked.{Asked, Client, ClientAsked, Node, NodeAsked, Replay, Soak, Trial, TrialAsked, client_says, least_by, node_says, trial_says}
+use Rattle.vr_words.specs.Asked.{Asked, Client, ClientAsked, Migrate, MigrateAsked, Node, NodeAsked, Replay, Soak, Trial, TrialAsked, client_says, least_by, node_says, trial_says}
 use Rattle.vr_words.specs.declared.command.ClientWords.{ClientWords}
 use Rattle.vr_words.specs.declared.command.NodeWords.{NodeWords}
 use Rattle.vr_words.specs.declared.command.SoakWords.{SoakWords}
@@ -115,6 +116,9 @@ by_plan p q o o' b n s same e = subst (λ t. trial.TrialEnds t o o' b n s) same 
 
 abbrev of_source : {S K D L C P : Type 0} → Outside S K D L C P → ℕ
 of_source o = o.source.faults
+
+abbrev of_sink : {S K D L C P : Type 0} → Outside S K D L C P → ℕ
+of_sink o = o.sink.faults
 
 abbrev of_disk : {S K D L C P : Type 0} → Outside S K D L C P → ℕ
 of_disk o = o.disk.faults
@@ -240,6 +244,24 @@ tries a o o' s e w k l p same =
       };
     }
 
+pub moves : {S K D L C P : Type 0} (a : MigrateAsked) (o o' : Outside S K D L C P) (s : Status)
+    → MigrationEnds a.config a.file o.disk.told o'.disk.told s → o'.disk.faults ≡ disk_after s o.disk.faults
+    → o' ≡ record o { disk = o'.disk } → Ends (Some (Migrate a)) o o' s
+moves a o o' s e d same =
+    let may = of_migrate s a.config a.file o.disk.told o'.disk.told e in
+    record {
+      does = inl (record { ends = e; others = same });
+      answer = may;
+      causes = record {
+        read = ap of_source same ∙ no_read s o.source.faults (not_given migrate_gives s status.ReadFault may refl);
+        write = ap of_sink same ∙ no_write s o.sink.faults (not_given migrate_gives s status.WriteFault may refl);
+        disk = d;
+        links = links_kept s o.link.faults o'.link.faults (ap of_link same) (not_given migrate_gives s status.LinkFault may refl);
+        link = λ is. absurd (not_given migrate_gives s status.LinkFault may refl is);
+        spawn = λ is. absurd (not_given migrate_gives s status.SpawnFault may refl is);
+      };
+    }
+
 -- ---- the words
 
 pub ends_by : {S K D L C P : Type 0} (a : Asked) (asked : Option Asked) (o o' : Outside S K D L C P) (s : Status) → asked ≡ Some a → Ends (Some a) o o' s → Ends asked o o' s
@@ -262,6 +284,7 @@ may_be_short (Some (Soak w)) = refl
 may_be_short (Some (Node a)) = refl
 may_be_short (Some (Client a)) = refl
 may_be_short (Some (Trial a)) = refl
+may_be_short (Some (Migrate a)) = refl
 
 pub ends_short : {S K D L C P : Type 0} (asked : Option Asked) (o : Outside S K D L C P) → Ends asked o o status.NoMemory
 ends_short asked o = record {

@@ -9,7 +9,7 @@ use Rattle.vr_base.specs.Groups.{is_size}
 use Rattle.vr_base.specs.declared.kind.Kind.{Kind}
 use Rattle.vr_top.specs.Roles.{IsGood}
 use Rattle.vr_lines.specs.Numbers.{number_below, number_of}
-use Rattle.vr_words.specs.Asked.{Asked, Client, ClientAsked, Node, NodeAsked, Replay, Soak, asked, asked_at, asker_at, below_at, client_at, entered_by, fresh_at, id_at, is_taken, least_by, member_at, node_at, number_at, peers_at, soak_at, Trial, TrialAsked, trial_at, trier_at, version_at}
+use Rattle.vr_words.specs.Asked.{Asked, Client, ClientAsked, Migrate, MigrateAsked, Node, NodeAsked, Replay, Soak, asked, asked_at, asker_at, below_at, client_at, entered_by, fresh_at, id_at, is_taken, least_by, member_at, migrate_at, mover_at, n_at, node_at, number_at, peers_at, soak_at, Trial, TrialAsked, trial_at, trier_at, version_at}
 use Rattle.vr_words.specs.declared.command.SoakWords.{SoakWords}
 
 -- ---- tests
@@ -184,10 +184,55 @@ soak_good : (rows : List Row) (w : SoakWords) → soak_at rows ≡ Some w → Is
 unfolding soak_at
 soak_good rows w e = below_text 1000000 (first_of (codes "count") rows) w.count (soak_by (number_at (codes "seed") rows) (below_at 1000000 (codes "count") rows) w e)
 
+n_by : (x : Option ℕ) (n : ℕ) → option_and_then (λ n. if is_size 2 n then Some n else None) x ≡ Some n → is_size 2 n ≡ true
+n_by None n e = absurd (cc e)
+n_by (Some a) n e =
+    let b = if_some (is_size 2 a) (Some a) n e in
+    let same : a ≡ n = cc (b.1) in
+    subst (λ x. is_size 2 x ≡ true) same b.0
+
+n_good : (rows : List Row) (n : ℕ) → n_at rows ≡ Some n → is_size 2 n ≡ true
+unfolding n_at
+n_good rows n e = n_by (number_at (codes "n") rows) n e
+
+mover_by : (n : ℕ) (cluster replica : Option ℕ) (file : Option Text) (a : MigrateAsked)
+    → option_and_then
+    (λ cluster. option_and_then
+    (λ replica. option_map (λ file. record { config = record { cluster = cluster; replica = replica; n = n }; file = file }) file)
+    replica)
+    cluster
+    ≡ Some a → (a.config.n ≡ n) × (replica ≡ Some a.config.replica)
+mover_by n None replica file a e = absurd (cc e)
+mover_by n (Some c) None file a e = absurd (cc e)
+mover_by n (Some c) (Some r) None a e = absurd (cc e)
+mover_by n (Some c) (Some r) (Some f) a e =
+    let same : record { config = record { cluster = c; replica = r; n = n }; file = f } ≡ a = cc e in
+    (sym (ap (λ (x : MigrateAsked). x.config.n) same), ap (λ (x : MigrateAsked). Some x.config.replica) same)
+
+mover_good : (n : ℕ) (rows : List Row) (a : MigrateAsked) → mover_at n rows ≡ Some a → (a.config.n ≡ n) × (a.config.replica < n)
+unfolding mover_at
+mover_good n rows a e =
+    let m = mover_by n (number_at (codes "cluster") rows) (below_at n (codes "replica") rows) (first_of (codes "file") rows) a e in
+    (m.0, below_text n (first_of (codes "replica") rows) a.config.replica m.1)
+
+migrate_by : (rows : List Row) (x : Option ℕ) → ((n : ℕ) → x ≡ Some n → is_size 2 n ≡ true) → (a : MigrateAsked)
+    → option_and_then (λ n. mover_at n rows) x ≡ Some a → IsGood (Migrate a)
+migrate_by rows None h a e = absurd (cc e)
+migrate_by rows (Some n) h a e =
+    let m = mover_good n rows a e in
+    (subst (λ x. is_size 2 x ≡ true) (sym m.0) (h n refl), subst (λ x. a.config.replica < x) (sym m.0) m.1)
+
+migrate_good : (rows : List Row) (a : MigrateAsked) → migrate_at rows ≡ Some a → IsGood (Migrate a)
+unfolding migrate_at
+migrate_good rows a e = migrate_by rows (n_at rows) (n_good rows) a e
+
 -- ---- commands
 
+abbrev at_migrate : Text → List Row → Option Asked
+at_migrate name rows = if bytes_eq name (codes "migrate") then option_map Migrate (migrate_at rows) else None
+
 abbrev at_trial : Text → List Row → Option Asked
-at_trial name rows = if bytes_eq name (codes "trial") then option_map Trial (trial_at rows) else None
+at_trial name rows = if bytes_eq name (codes "trial") then option_map Trial (trial_at rows) else at_migrate name rows
 
 abbrev at_client : Text → List Row → Option Asked
 at_client name rows = if bytes_eq name (codes "client") then option_map Client (client_at rows) else at_trial name rows
@@ -198,11 +243,17 @@ at_node name rows = if bytes_eq name (codes "node") then option_map Node (node_a
 abbrev at_soak : Text → List Row → Option Asked
 at_soak name rows = if bytes_eq name (codes "soak") then option_map Soak (soak_at rows) else at_node name rows
 
-fifth : (b : Bool) (rows : List Row) (a : Asked) → (if b then option_map Trial (trial_at rows) else None) ≡ Some a → IsGood a
-fifth b rows a e =
-    let x = if_some b (option_map Trial (trial_at rows)) a e in
-    let y = map_some Trial (trial_at rows) a x.1 in
+sixth : (b : Bool) (rows : List Row) (a : Asked) → (if b then option_map Migrate (migrate_at rows) else None) ≡ Some a → IsGood a
+sixth b rows a e =
+    let x = if_some b (option_map Migrate (migrate_at rows)) a e in
+    let y = map_some Migrate (migrate_at rows) a x.1 in
+    subst IsGood y.2 (migrate_good rows y.0 y.1)
+
+fifth : (b : Bool) (rows : List Row) (a : Asked) (z : Option Asked) → (z ≡ Some a → IsGood a) → (if b then option_map Trial (trial_at rows) else z) ≡ Some a → IsGood a
+fifth true rows a z later e =
+    let y = map_some Trial (trial_at rows) a e in
     subst IsGood y.2 (trial_good rows y.0 y.1)
+fifth false rows a z later e = later e
 
 fourth : (b : Bool) (rows : List Row) (a : Asked) (z : Option Asked) → (z ≡ Some a → IsGood a) → (if b then option_map Client (client_at rows) else z) ≡ Some a → IsGood a
 fourth true rows a z later e =
@@ -232,7 +283,8 @@ command_good name rows a e =
     first (bytes_eq name (codes "replay")) a (at_soak name rows)
     (λ x. second (bytes_eq name (codes "soak")) rows a (at_node name rows)
     (λ y. third (bytes_eq name (codes "node")) rows a (at_client name rows)
-    (λ z. fourth (bytes_eq name (codes "client")) rows a (at_trial name rows) (λ w. fifth (bytes_eq name (codes "trial")) rows a w) z) y) x) e
+    (λ z. fourth (bytes_eq name (codes "client")) rows a (at_trial name rows)
+    (λ w. fifth (bytes_eq name (codes "trial")) rows a (at_migrate name rows) (λ v. sixth (bytes_eq name (codes "migrate")) rows a v) w) z) y) x) e
 
 taken_good : (x : Option (Text × List Row)) (a : Asked) → option_and_then (λ p. asked_at p.0 p.1) x ≡ Some a → IsGood a
 taken_good None a e = absurd (cc e)

@@ -6,7 +6,7 @@ use Rattle.vr_soak.proofs.Headline.{headline as of_soak}
 use Rattle.vr_top.specs.Ends.{HasOneLog}
 use Rattle.vr_top.specs.Roles.{IsGood}
 use Rattle.vr_top.proofs.Good.{asked_good}
-use Rattle.vr_words.specs.Asked.{Asked, Client, Node, Replay, Soak, Trial, asked}
+use Rattle.vr_words.specs.Asked.{Asked, Client, Migrate, Node, Replay, Soak, Trial, asked}
 
 one_log : (o : Option Asked) (left : Option (List ℕ)) → ((a : Asked) → o ≡ Some a → IsGood a) → HasOneLog o left
 one_log None left good = tt
@@ -15,6 +15,7 @@ one_log (Some (Soak w)) left good = of_soak w.seed w.count (let few : w.count < 
 one_log (Some (Node a)) left good = tt
 one_log (Some (Client a)) left good = tt
 one_log (Some (Trial a)) left good = tt
+one_log (Some (Migrate a)) left good = tt
 
 pub words_have_one_log : (words : List Text) (left : Option (List ℕ)) → HasOneLog (asked words) left
 words_have_one_log words left = one_log (asked words) left (asked_good words)

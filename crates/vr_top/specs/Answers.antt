@@ -2,7 +2,7 @@
 use Rattle.std.specs.Prelude.{Bool, true, false, Option, Some, None}
 use Rattle.vr_status.specs.declared.status.Status.{Status}
 use Rattle.vr_status.specs.declared.status.Status.TheVariants.{Done, Usage, Refused, SessionLost, ReadFault, WriteFault, DiskFault, LinkFault, SuperLost, OtherMember, NoMemory, Occupied, NoAnswer, SpawnFault}
-use Rattle.vr_words.specs.Asked.{Asked, Client, Node, Replay, Soak, Trial}
+use Rattle.vr_words.specs.Asked.{Asked, Client, Migrate, Node, Replay, Soak, Trial}
 
 abbrev pub replay_gives : Status → Bool
 replay_gives Done = true
@@ -50,6 +50,14 @@ trial_gives SessionLost = true
 trial_gives NoMemory = true
 trial_gives _ = false
 
+abbrev pub migrate_gives : Status → Bool
+migrate_gives Done = true
+migrate_gives DiskFault = true
+migrate_gives SuperLost = true
+migrate_gives (OtherMember found asked) = true
+migrate_gives NoMemory = true
+migrate_gives _ = false
+
 -- words that are no command
 abbrev pub none_gives : Status → Bool
 none_gives Usage = true
@@ -63,3 +71,4 @@ gives (Some (Soak words)) = soak_gives
 gives (Some (Node a)) = node_gives
 gives (Some (Client a)) = client_gives
 gives (Some (Trial a)) = trial_gives
+gives (Some (Migrate a)) = migrate_gives

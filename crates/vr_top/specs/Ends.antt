@@ -3,6 +3,7 @@ use Rattle.std.specs.Prelude.{ℕ, ◌≡◌, ◌⊎◌, ⊤, true, List, Option
 use Rattle.vr_ask.specs.Asking as ask
 use Rattle.vr_ask.specs.Run as client
 use Rattle.vr_base.specs.Causes.{Rose}
+use Rattle.vr_node.specs.Moving.{MigrationEnds}
 use Rattle.vr_node.specs.Running as node
 use Rattle.vr_replay.specs.Headline.{ScheduleHasOneLog}
 use Rattle.vr_replay.specs.Run as replay
@@ -18,7 +19,7 @@ use Rattle.vr_top.specs.Causes.{HasCauses}
 use Rattle.vr_top.specs.Outside.{Outside}
 use Rattle.vr_top.specs.Roles.{client_of, config_of, trial_of}
 use Rattle.vr_trial.specs.Run as trial
-use Rattle.vr_words.specs.Asked.{Asked, Client, ClientAsked, Node, NodeAsked, Replay, Soak, Trial, TrialAsked}
+use Rattle.vr_words.specs.Asked.{Asked, Client, ClientAsked, Migrate, MigrateAsked, Node, NodeAsked, Replay, Soak, Trial, TrialAsked}
 use Rattle.vr_words.specs.declared.command.SoakWords.{SoakWords}
 
 -- ---- what of the outside a member, a client and a trial have
@@ -71,6 +72,11 @@ pub record Tries {S K D L C P : Type 0} (a : TrialAsked) (o o' : Outside S K D L
   pub ends : trial.TrialEnds (trial_of a) (of_trial o) (of_trial o') (trial_counts o) (trial_counts o') status
   pub others : o' ≡ record o { sink = o'.sink; link = o'.link; spawner = o'.spawner }
 
+-- `migrate ..`: the file of that name becomes one of version 2, and no object is called but its disk
+pub record Moves {S K D L C P : Type 0} (a : MigrateAsked) (o o' : Outside S K D L C P) (status : Status) : Type 0 where
+  pub ends : MigrationEnds a.config a.file o.disk.told o'.disk.told status
+  pub others : o' ≡ record o { disk = o'.disk }
+
 -- ---- all of them
 
 -- words that are none of the forms, and nothing was called
@@ -81,6 +87,7 @@ Does (Some (Soak words)) o o' status = Soaks words o o' status
 Does (Some (Node a)) o o' status = Serves a o o' status
 Does (Some (Client a)) o o' status = Asks a o o' status
 Does (Some (Trial a)) o o' status = Tries a o o' status
+Does (Some (Migrate a)) o o' status = Moves a o o' status
 
 -- memory was short for the words, and nothing was called
 pub record IsShort {S K D L C P : Type 0} (o o' : Outside S K D L C P) (status : Status) : Type 0 where

@@ -5,7 +5,7 @@ use Rattle.vr_ask.specs.Run.{client_with}
 use Rattle.vr_base.specs.Groups.{is_size}
 use Rattle.vr_base.specs.declared.table.Config.{Config}
 use Rattle.vr_trial.specs.Told.{Trial as Plan}
-use Rattle.vr_words.specs.Asked.{Asked, Client, ClientAsked, Node, NodeAsked, Replay, Soak, Trial, TrialAsked, least_by}
+use Rattle.vr_words.specs.Asked.{Asked, Client, ClientAsked, Migrate, Node, NodeAsked, Replay, Soak, Trial, TrialAsked, least_by}
 
 abbrev pub config_of : NodeAsked → Config
 config_of a = record { cluster = a.cluster; replica = a.replica; n = length a.peers }
@@ -18,10 +18,12 @@ abbrev pub trial_of : TrialAsked → Plan
 trial_of a = record { client = client_with 1 a.cluster 1 (length a.peers) a.turns; files = a.files; peers = a.peers }
 
 -- A number of lines is below a million. A member is one of its group, which has from 2 to 6; one alone may have a file of version 2, one that is found
--- again, whose file decides, and a client of version 2 may ask it. A client isn't 0. A group that is tried has files of version 1.
+-- again, whose file decides, and a client of version 2 may ask it. A client isn't 0. A group that is tried has files of version 1. A
+-- member whose file is migrated is one of its group, which has from 1 to 6.
 abbrev pub IsGood : Asked → Type 0
 IsGood Replay = ⊤
 IsGood (Soak words) = words.count < 1000000
 IsGood (Node a) = (is_size (least_by a.fresh) (length a.peers) ≡ true) × (a.replica < length a.peers)
 IsGood (Client a) = (is_size a.version (length a.peers) ≡ true) × (a.id ≢ 0)
 IsGood (Trial a) = is_size 1 (length a.peers) ≡ true
+IsGood (Migrate a) = (is_size 2 a.config.n ≡ true) × (a.config.replica < a.config.n)

@@ -9,6 +9,7 @@ use crate::roles::{ask_group, serve_role, try_group};
 use std::alloc::Global;
 use vr_disk::SectorDisk;
 use vr_edge::{Clock, Link, Sink, Source};
+use vr_node::run_migration;
 use vr_replay::replay;
 use vr_soak::soak;
 use vr_spawn::Spawner;
@@ -16,7 +17,7 @@ use vr_status::Status;
 use vr_words::{Command, WordsFault, parse};
 
 /// Does what a command asks for.
-#[tactic(auto, using(crate::proofs::Coming::replays, crate::proofs::Coming::soaks, crate::proofs::Coming::serves, crate::proofs::Coming::asks, crate::proofs::Coming::tries))]
+#[tactic(auto, using(crate::proofs::Coming::replays, crate::proofs::Coming::soaks, crate::proofs::Coming::serves, crate::proofs::Coming::asks, crate::proofs::Coming::tries, crate::proofs::Coming::moves))]
 fn obey<S: Source, K: Sink, D: SectorDisk, L: Link, C: Clock, P: Spawner>(
     alloc: Global,
     command: Command,
@@ -37,11 +38,12 @@ fn obey<S: Source, K: Sink, D: SectorDisk, L: Link, C: Clock, P: Spawner>(
         Command::Node(words) => serve_role(alloc, words, sink, disk, link, clock),
         Command::Client(words) => ask_group(alloc, &words, source, sink, link),
         Command::Trial(words) => try_group(alloc, words, sink, link, spawner),
+        Command::Migrate(words) => run_migration(alloc, &words.config, words.file.as_str(), disk),
     }
 }
 
 /// Does what the words of the command line ask for: `replay` plays the schedule of the source, `soak` one that a number makes, `node` serves as a
-/// member of a group, `client` asks one, and `trial` starts one and tries it.
+/// member of a group, `client` asks one, `trial` starts one and tries it, and `migrate` makes a member's file one of version 2.
 #[tactic(auto, using(crate::proofs::Good::asked_good, crate::proofs::Coming::ends_by, crate::proofs::Coming::ends_none, crate::proofs::Coming::ends_short, crate::proofs::OneLog::words_have_one_log))]
 pub fn run<S: Source, K: Sink, D: SectorDisk, L: Link, C: Clock, P: Spawner>(
     alloc: Global,

@@ -1,4 +1,4 @@
-//! The commands over the outside that is handed in, each by its words: a replay, a summary, a member, a client, and a trial; and how a program says
+//! The commands over the outside that is handed in, each by its words: a replay, a summary, a member, a client, a trial, and a file's migration; and how a program says
 //! its end.
 #![tactic(auto)]
 
