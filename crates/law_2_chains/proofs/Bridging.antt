@@ -1,9 +1,9 @@
 -- Each move of a group is a chain of the machine's moves.
 use Rattle.std.proofs.Common.{ℕ, zero, suc, ◌+◌, ◌-◌, ◌%◌, ◌≤◌, ◌<◌, ◌≡◌, ◌≢◌, ◌∙◌, ◌⊎◌, inl, inr, arith, refl, sym, ap, subst, Bool, List, [], ◌∷◌, ◌++◌, length, take, drop, Option, Some, None}
-use Rattle.std.specs.Prelude.{All, slice_get, slice_set}
+use Rattle.std.specs.Prelude.{All, slice_get}
 use Rattle.std.specs.Option.{option_map_or}
 use Rattle.std.proofs.lemmas.Bool.{cases_lt, le-ltb, lt-ltb}
-use Rattle.std.proofs.lemmas.List.{append_assoc, drop_all, take-append-drop, take_all, take-append-le, take-take}
+use Rattle.std.proofs.lemmas.List.{drop_all, take-append-drop, take_all, take-append-le, take-take}
 use Rattle.std.proofs.Math.Seq.{take-append-add}
 use Rattle.std.proofs.lemmas.List.Elements.{All-nil, All-cons, All-head, All-tail, All-append, All-weaker, All-contains}
 use Rattle.vr_header.specs.declared.header.Header.{Header}
@@ -49,6 +49,7 @@ use Rattle.law_2_chains.specs.ChainLaws.{MayArrive}
 use Rattle.law_2_chains.proofs.Finishing.{committed_more, sent_more, true_more}
 use Rattle.law_2_chains.proofs.Grounds.{own_later}
 use Rattle.law_2_chains.proofs.Holding.{holds_same, tables_hold}
+use Rattle.law_2_chains.proofs.Lists.{all_made, at_place, at_set, in_every, made_append, set_place}
 use Rattle.law_2_chains.proofs.Lone.{ended, saved_views, vouches_at_end}
 use Rattle.law_2_chains.proofs.LoneSteps.{begins_held, in_order, none_stored}
 use Rattle.law_2_chains.proofs.LoneEvents.{lone_react}
@@ -66,39 +67,6 @@ use Rattle.law_2_chains.proofs.Migrating.{Migrated, migrates}
 use Rattle.law_2_chains.specs.Bridge.{Bridges, Chained, ChoosesWell, Follows, IsGround, IsMember, IsOwnVouch, IsRunning, IsSent, ServesWell}
 use Rattle.law_2_chains.specs.Lone.{CountsNoMore, IsStored, LoneChooses, Vouched, counted_by, vouch_for}
 use Rattle.std.proofs.lemmas.Option.{slice_get_within}
-
--- ---- lists
-
-in_every : {X : Type 0} (P : X → Type 0) (xs : List X) (x : X) → In x xs → Every P xs → P x
-in_every P [] x i h = absurd i
-in_every P (y ∷ ys) x (inl e) h = subst P (sym e) h.0
-in_every P (y ∷ ys) x (inr i) h = in_every P ys x i h.1
-
-at_place : {X : Type 0} (P : X → Type 0) (xs : List X) (i : ℕ) (x : X) → All P xs → slice_get xs i ≡ Some x → P x
-at_place P [] i x h e = absurd cc
-at_place P (y ∷ ys) zero x h e = let same : y ≡ x = cc in subst P same (All-head P y ys h)
-at_place P (y ∷ ys) (suc i) x h e = at_place P ys i x (All-tail P y ys h) e
-
-set_place : {X : Type 0} (xs : List X) (i j : ℕ) (y x : X) → slice_get (slice_set xs i y) j ≡ Some x → ((i ≡ j) × (y ≡ x)) ⊎ ((j ≢ i) × (slice_get xs j ≡ Some x))
-set_place [] i j y x e = absurd cc
-set_place (z ∷ zs) zero zero y x e = inl (refl, cc)
-set_place (z ∷ zs) zero (suc j) y x e = inr (λ t. omega (arith, t), e)
-set_place (z ∷ zs) (suc i) zero y x e = inr (λ t. omega (arith, t), e)
-set_place (z ∷ zs) (suc i) (suc j) y x e = elim (set_place zs i j y x e) [ inl p ↦ inl (ap suc p.0, p.1) | inr q ↦ inr (λ t. q.0 (omega (arith, t)), q.1) ]
-
-at_set : {X : Type 0} (xs : List X) (i : ℕ) (y : X) → i < length xs → slice_get (slice_set xs i y) i ≡ Some y
-at_set [] i y l = absurd (omega arith)
-at_set (x ∷ xs) zero y l = refl
-at_set (x ∷ xs) (suc i) y l = at_set xs i y (omega arith)
-
-made_append : (a b : List Effect) → made_in (a ++ b) ≡ made_in a ++ made_in b
-unfolding made_in
-made_append [] b = refl
-made_append (e ∷ es) b = ap (λ hs. group.made_by_effect e ++ hs) (made_append es b) ∙ sym (append_assoc (group.made_by_effect e) (made_in es) (made_in b))
-
-all_made : (P : Header → Type 0) (hs : List Header) → Every P hs → All P hs
-all_made P [] h = All-nil P
-all_made P (x ∷ xs) h = All-cons P x xs h.0 (all_made P xs h.1)
 
 sent_told : (u : Setup) (before : List (machine.Message Header)) (a : Group Header) (os : List Output) → Every (IsTrue u before a.sent) os → All (IsSent u a) (messages os)
 unfolding messages

@@ -51,6 +51,7 @@ pub mod Opening
 pub mod Sizes
 pub mod Fresh
 pub mod Grounds
+pub mod Lists
 pub mod Bridging
 pub mod Waking
 pub mod Facts
