@@ -7,12 +7,12 @@ use Rattle.std.proofs.lemmas.Bool.Decides.{nat_tests}
 use Rattle.vr_header.specs.Bodies.{IsOperation}
 use Rattle.vr_header.specs.declared.operation.Operation.{Operation}
 use Rattle.vr_header.specs.declared.operation.Operation.TheVariants as operation
-use Rattle.vr_lines.specs.Grammar.{asked_by, behind_asked, cluster_line, damage_line, deliver_line, fuse_line, is_fitting, line_behind, line_words, longest, lost_words, member_line, misdirect_line, kind_words, parse, replica_word, request_for, request_line, sector_of, sector_words, size_of, stale_line, start_line, stop_line, tick_line, unread_line}
+use Rattle.vr_lines.specs.Grammar.{asked_by, behind_asked, cluster_line, damage_line, deliver_line, fuse_line, is_fitting, line_behind, line_words, longest, lost_words, member_line, migrate_line, misdirect_line, kind_words, parse, replica_word, request_for, request_line, sector_of, sector_words, size_of, stale_line, start_line, stop_line, tick_line, unread_line}
 use Rattle.vr_lines.specs.Numbers.{digits_on, number_below, number_of, with_digit}
 use Rattle.vr_lines.specs.Operations.{operation_words}
 use Rattle.vr_lines.specs.Words.{only_word, words_of}
 use Rattle.vr_lines.specs.declared.line.Line.{Line}
-use Rattle.vr_lines.specs.declared.line.Line.TheVariants.{Cluster, Request, Deliver, Tick, Stop, Start, Fuse, Misdirect}
+use Rattle.vr_lines.specs.declared.line.Line.TheVariants.{Cluster, Request, Deliver, Tick, Stop, Start, Migrate, Fuse, Misdirect}
 use Rattle.vr_lines.specs.declared.member.Place.{Place}
 use Rattle.vr_lines.specs.declared.request.Asked.{Asked}
 use Rattle.vr_lines.proofs.Answers.{below, either, it_is, mapped, through}
@@ -110,7 +110,8 @@ member_asks : (version n : ℕ) (word : List ℕ) (words : List (List ℕ)) → 
 member_asks version n word words =
     either HasAsked (bytes_eq word (codes "tick")) (tick_line n words) _ (λ e. replica_asks n words Tick (λ r. tt))
     (λ e. either HasAsked (bytes_eq word (codes "stop")) (stop_line n words) _ (λ e. replica_asks n words Stop (λ r. tt))
-    (λ e. either HasAsked (bytes_eq word (codes "start")) (start_line n words) (lost_words version n word words) (λ e. replica_asks n words Start (λ r. tt)) (λ e. lost_asks version n word words)))
+    (λ e. either HasAsked (bytes_eq word (codes "start")) (start_line n words) _ (λ e. replica_asks n words Start (λ r. tt))
+    (λ e. either HasAsked (bytes_eq word (codes "migrate")) (migrate_line n words) (lost_words version n word words) (λ e. replica_asks n words Migrate (λ r. tt)) (λ e. lost_asks version n word words))))
 
 -- ---- all lines
 

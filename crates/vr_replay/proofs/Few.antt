@@ -26,6 +26,7 @@ begun_few texts (line.Deliver number) = omega arith
 begun_few texts (line.Tick replica) = omega arith
 begun_few texts (line.Stop replica) = omega arith
 begun_few texts (line.Start replica) = omega arith
+begun_few texts (line.Migrate replica) = omega arith
 begun_few texts (line.Fuse replica call code) = omega arith
 begun_few texts (line.Damage replica sector) = omega arith
 begun_few texts (line.Stale replica sector) = omega arith

@@ -65,6 +65,7 @@ first_read texts (line.Deliver number) of = none_made
 first_read texts (line.Tick replica) of = none_made
 first_read texts (line.Stop replica) of = none_made
 first_read texts (line.Start replica) of = none_made
+first_read texts (line.Migrate replica) of = none_made
 first_read texts (line.Fuse replica call code) of = none_made
 first_read texts (line.Damage replica sector) of = none_made
 first_read texts (line.Stale replica sector) of = none_made

@@ -118,6 +118,7 @@ version_after w (line.Deliver number) some of = refl
 version_after w (line.Tick replica) some of = refl
 version_after w (line.Stop replica) some of = refl
 version_after w (line.Start replica) some of = refl
+version_after w (line.Migrate replica) some of = refl
 version_after w (line.Fuse replica call code) some of = refl
 version_after w (line.Damage replica sector) some of = refl
 version_after w (line.Stale replica sector) some of = refl
@@ -192,6 +193,7 @@ show_first text texts (line.Deliver number) h = absurd (omega (arith, h))
 show_first text texts (line.Tick replica) h = absurd (omega (arith, h))
 show_first text texts (line.Stop replica) h = absurd (omega (arith, h))
 show_first text texts (line.Start replica) h = absurd (omega (arith, h))
+show_first text texts (line.Migrate replica) h = absurd (omega (arith, h))
 show_first text texts (line.Fuse replica call code) h = absurd (let z = h.0 in omega (arith, z))
 show_first text texts (line.Damage replica sector) h = absurd (let z = h.0 in omega (arith, z))
 show_first text texts (line.Stale replica sector) h = absurd (let z = h.0 in omega (arith, z))
