@@ -1,5 +1,5 @@
 -- Commands, each against its run.
-use Rattle.std.proofs.Common.{◌≡◌, ◌≤◌, ◌<◌, ◌⊎◌, ◌∙◌, zero, suc, ℕ, List, [], ◌∷◌, true, Option, Some, None, length, map, refl, ap, subst, sym, inl, inr, arith}
+use Rattle.std.proofs.Common.{◌≡◌, ◌≤◌, ◌<◌, ◌⊎◌, ◌∙◌, suc, ℕ, List, [], ◌∷◌, true, Option, Some, None, length, map, refl, ap, subst, sym, inl, inr, arith}
 use Rattle.std.specs.Prelude.{◌≢◌, IfSome, string_bytes, vec_len}
 use Rattle.vr_ask.specs.Asking as ask
 use Rattle.vr_ask.specs.Run as run
