@@ -22,9 +22,9 @@ use Rattle.vr_rules.specs.Rules as rules
 use Rattle.vr_rules.specs.Rules.{react}
 use Rattle.vr_rules.specs.Opening.{blank, opened}
 use Rattle.vr_world.specs.Lying.{Lying, hazards, lying}
-use Rattle.vr_world.specs.World.{Arrives, Asks, Happening, Host, Lies, Starts, Stops, Ticks, World, fresh_world, happens}
+use Rattle.vr_world.specs.World.{Arrives, AsksInVersion, Happening, Host, Lies, Starts, Stops, Ticks, World, fresh_world, happens}
 use Rattle.law_4_disks.specs.Naming.{IsHashedAfter}
-use Rattle.law_4_disks.specs.Worlds.{IsHashedAt, Work, begun_of, opening_as, read_of, work_of}
+use Rattle.law_4_disks.specs.Worlds.{IsHashedAt, Work, begun_in, opening_as, read_of, work_of}
 use Rattle.law_6_one_log.specs.Schedules.{IsHashed, IsUsedAt}
 use Rattle.law_6_one_log.proofs.Names.{contains_none}
 use Rattle.vr_name_rows.proofs.Happenings.{acknowledged, registers}
@@ -33,7 +33,7 @@ use Rattle.vr_name_rows.proofs.Disks.{IsOf, Plain, plain_all}
 use Rattle.vr_name_rows.proofs.Entries.{first, first_header}
 use Rattle.vr_name_rows.proofs.Lines.{Hashes, HashesAt, IsText, blank_disk, blank_plain, header, host, line_text, none_left, operation, root, then_lines}
 use Rattle.vr_name_rows.proofs.Lost.{Half, Lost, fault_text, half_slot, halved, lost, once, reads_once, reads_twice, twice}
-use Rattle.vr_name_rows.proofs.Path.{begins, goes_0, goes_1, quiet_host, sent_1, sent_2}
+use Rattle.vr_name_rows.proofs.Path.{asks_0, begins, goes_0, goes_1, quiet_host, sent_1, sent_2}
 use Rattle.vr_name_rows.proofs.Names.{both, tells_apart}
 use Rattle.vr_name_rows.proofs.Taken.{first_taken}
 use Rattle.vr_name_rows.proofs.Starts.{but_first, kept_slot, lost_slot, starts_0, starts_1, wakes_0, wakes_1}
@@ -45,20 +45,20 @@ use Rattle.vr_name_rows.proofs.Waits.{chooses_at_1, enters_at_1, enters_at_2, li
 
 -- ---- lines that begin nothing
 
-pub none_used : (w : World Lying) (x : Happening) → work_of w x ≡ None → (b : List ℕ) → IsUsedAt w x b → ⊥
-none_used w x none b (inl u) = contains_none u.0 (subst (λ (o : Option Work). Contains (read_of o) u.0) none u.1)
-none_used w x none b (inr u) = contains_none u.0 (subst (λ (o : Option Work). Contains (begun_of o) u.0) none u.1)
+pub none_used : (w : World Lying) (x : Happening) → work_of w x ≡ None → begun_in w x ≡ [] → (b : List ℕ) → IsUsedAt w x b → ⊥
+none_used w x none starts b (inl u) = contains_none u.0 (subst (λ (o : Option Work). Contains (read_of o) u.0) none u.1)
+none_used w x none starts b (inr u) = contains_none u.0 (subst (λ (es : List Effect). Contains es u.0) starts u.1)
 
-pub idle_text : (w : World Lying) (x : Happening) → work_of w x ≡ None → (b : List ℕ) → HashesAt w x b → IsText one b
-idle_text w x none b (inl h) = let bad : None ≡ Some h.0 = sym none ∙ h.1 in absurd cc
-idle_text w x none b (inr u) = absurd (none_used w x none b u)
+pub idle_text : (w : World Lying) (x : Happening) → work_of w x ≡ None → begun_in w x ≡ [] → (b : List ℕ) → HashesAt w x b → IsText one b
+idle_text w x none starts b (inl h) = let bad : None ≡ Some h.0 = sym none ∙ h.1 in absurd cc
+idle_text w x none starts b (inr u) = absurd (none_used w x none starts b u)
 
 same_host : (m q : Host Lying) → Some m ≡ Some q → m ≡ q
 same_host m q e = cc
 
 fault_line : (w : World Lying) (m : Host Lying) (i : ℕ) → slice_get w.members 1 ≡ Some m → ((b : List ℕ) → IsHashedAfter m.disk (Damage i) b → IsText one b) → (b : List ℕ) → IsHashedAt w (Lies 1 (Damage i)) b ⊎ IsUsedAt w (Lies 1 (Damage i)) b → IsText one b
 fault_line w m i at texts b (inl h) = texts b (subst (λ (q : Host Lying). IsHashedAfter q.disk (Damage i) b) (sym (same_host m h.0 (sym at ∙ h.1))) h.2)
-fault_line w m i at texts b (inr u) = absurd (none_used w (Lies 1 (Damage i)) refl b u)
+fault_line w m i at texts b (inr u) = absurd (none_used w (Lies 1 (Damage i)) refl refl b u)
 
 -- ---- lines at which a host acts
 
@@ -205,14 +205,14 @@ hashed =
     let h9 : Hashes (IsText one) w9 (drop 9 xs) = then_lines (IsText one) w9 w10 (Ticks 1) (drop 10 xs) (ticks_at_1 (off x1) c_first (waiting 2) (waiting 3) y4 (ticks_2 y4)) (step_line w9 (Ticks 1) event.Tick (waiting 2) (waiting 3) y4 [] refl (ticks_2 y4) plain_y4 tt) h10 in
     let h8 : Hashes (IsText one) w8 (drop 8 xs) = then_lines (IsText one) w8 w9 (Ticks 1) (drop 9 xs) (ticks_at_1 (off x1) c_first (waiting 1) (waiting 2) y4 (ticks_1 y4)) (step_line w8 (Ticks 1) event.Tick (waiting 1) (waiting 2) y4 [] refl (ticks_1 y4) plain_y4 tt) h9 in
     let h7 : Hashes (IsText one) w7 (drop 7 xs) = then_lines (IsText one) w7 w8 (Ticks 1) (drop 8 xs) (ticks_at_1 (off x1) c_first m0 (waiting 1) y4 (ticks_0 y4)) (step_line w7 (Ticks 1) event.Tick m0 (waiting 1) y4 [] refl (ticks_0 y4) plain_y4 tt) h8 in
-    let h6 : Hashes (IsText one) w6 (drop 6 xs) = then_lines (IsText one) w6 w7 (Stops 0) (drop 7 xs) (stops_0 (host m0 y4) c_first p1 x1) (idle_text w6 (Stops 0) refl) h7 in
+    let h6 : Hashes (IsText one) w6 (drop 6 xs) = then_lines (IsText one) w6 w7 (Stops 0) (drop 7 xs) (stops_0 (host m0 y4) c_first p1 x1) (idle_text w6 (Stops 0) refl refl) h7 in
     let start_1 = starts_1 y3 lost_y3.opens lost_y3.looks in
     let h5 : Hashes (IsText one) w5 (drop 5 xs) = then_lines (IsText one) w5 w6 (Starts 1) (drop 6 xs) (wakes_at_1 (host p1 x1) c_first y3 start_1) (start_line_text w5 (Starts 1) m0 y3 wakes_1 refl start_1 lost_y3.plain wakes_1_one) h6 in
     let h4 : Hashes (IsText one) w4 (drop 4 xs) = then_lines (IsText one) w4 w5 (Lies 1 (Damage 148)) (drop 5 xs) (lies_1 (host p1 x1) c_first y2 y3 148 (done y2 148 half_y2.plain.version (inr refl) half_y2.face (gone_148 y2.face half_y2.gone))) (fault_line w4 (off y2) 148 refl (fault_text y2 148 half_y2.plain.version (reads_twice (value 1) y2 half_y2) half_y2.held)) h5 in
     let h3 : Hashes (IsText one) w3 (drop 3 xs) = then_lines (IsText one) w3 w4 (Lies 1 (Damage 81)) (drop 4 xs) (lies_1 (host p1 x1) c_first y1 y2 81 (done y1 81 sits_y1.plain.version (inl refl) sits_y1.face (gone_81 y1.face sits_y1.plain.count sits_y1.header))) (fault_line w3 (off y1) 81 refl (fault_text y1 81 sits_y1.plain.version (reads_once y1 sits_y1.plain) sits_y1.held)) h4 in
-    let h2 : Hashes (IsText one) w2 (drop 2 xs) = then_lines (IsText one) w2 w3 (Stops 1) (drop 3 xs) (stops_1 (host p1 x1) c_first b1 y1) (idle_text w2 (Stops 1) refl) h3 in
+    let h2 : Hashes (IsText one) w2 (drop 2 xs) = then_lines (IsText one) w2 w3 (Stops 1) (drop 3 xs) (stops_1 (host p1 x1) c_first b1 y1) (idle_text w2 (Stops 1) refl refl) h3 in
     let h1 : Hashes (IsText one) w1 (drop 1 xs) = then_lines (IsText one) w1 w2 (Arrives 0) (drop 2 xs) (goes_1 x1 (blank_disk 1)) (step_line w1 (Arrives 0) (event.Deliver (prepare first p1)) b0 b1 (blank_disk 1) (stores first b1) refl (step_1 (blank_disk 1)) (blank_plain one).1 stores_one) h2 in
-    let h0 : Hashes (IsText one) w0 xs = then_lines (IsText one) w0 w1 (Asks 0 registers) (drop 1 xs) (goes_0 (blank_disk 0) (host b0 (blank_disk 1))) (step_line w0 (Asks 0 registers) (event.Request registers) p0 p1 (blank_disk 0) (makes first p1) refl (step_0 (blank_disk 0)) (blank_plain one).0 makes_one) h1 in
+    let h0 : Hashes (IsText one) w0 xs = then_lines (IsText one) w0 w1 (AsksInVersion 0 registers) (drop 1 xs) (goes_0 (blank_disk 0) (host b0 (blank_disk 1))) (step_line w0 (AsksInVersion 0 registers) (event.Request registers) p0 p1 (blank_disk 0) (makes first p1) (asks_0 (blank_disk 0)) (step_0 (blank_disk 0)) (blank_plain one).0 makes_one) h1 in
     subst (λ (w : World Lying). Hashes (IsText one) w xs) (sym begins) h0
 
 pub also : (b : List ℕ) → IsText one b → IsText both b

@@ -6,7 +6,7 @@ use Rattle.vr_msg.specs.declared.request.RequestFields.{RequestFields}
 use Rattle.vr_lines.specs.declared.line.Line.{Line}
 use Rattle.vr_lines.specs.declared.line.Line.TheVariants as line
 use Rattle.vr_lie.specs.declared.fault.Fault.TheVariants.{Damage}
-use Rattle.vr_world.specs.World.{Happening, Asks, Arrives, Ticks, Stops, Starts, Fuses, Lies}
+use Rattle.vr_world.specs.World.{Happening, AsksInVersion, Arrives, Ticks, Stops, Starts, Fuses, Lies}
 
 -- client 7 asks, with a number of its own
 abbrev asked : ℕ → Operation → RequestFields
@@ -22,7 +22,7 @@ abbrev pub plain_lines : List Line
 plain_lines = line.Request 0 registers ∷ line.Deliver 0 ∷ line.Deliver 2 ∷ line.Request 0 puts ∷ line.Deliver 3 ∷ line.Deliver 5 ∷ []
 
 abbrev pub plain : List Happening
-plain = Asks 0 registers ∷ Arrives 0 ∷ Arrives 2 ∷ Asks 0 puts ∷ Arrives 3 ∷ Arrives 5 ∷ []
+plain = AsksInVersion 0 registers ∷ Arrives 0 ∷ Arrives 2 ∷ AsksInVersion 0 puts ∷ Arrives 3 ∷ Arrives 5 ∷ []
 
 abbrev pub acknowledged_lines : List Line
 acknowledged_lines =
@@ -31,7 +31,7 @@ acknowledged_lines =
 
 abbrev pub acknowledged : List Happening
 acknowledged =
-    Asks 0 registers ∷ Arrives 0 ∷ Stops 1 ∷ Lies 1 (Damage 81) ∷ Lies 1 (Damage 148) ∷ Starts 1 ∷ Stops 0 ∷ Ticks 1 ∷ Ticks 1 ∷ Ticks 1 ∷ Ticks 1 ∷ Ticks 1
+    AsksInVersion 0 registers ∷ Arrives 0 ∷ Stops 1 ∷ Lies 1 (Damage 81) ∷ Lies 1 (Damage 148) ∷ Starts 1 ∷ Stops 0 ∷ Ticks 1 ∷ Ticks 1 ∷ Ticks 1 ∷ Ticks 1 ∷ Ticks 1
     ∷ Arrives 4 ∷ Arrives 7 ∷ Starts 0 ∷ Arrives 3 ∷ Arrives 10 ∷ Ticks 1 ∷ []
 
 abbrev pub torn_lines : List Line
@@ -39,4 +39,4 @@ torn_lines =
     line.Request 0 registers ∷ line.Fuse 1 3 26 ∷ line.Deliver 0 ∷ line.Start 1 ∷ line.Tick 1 ∷ line.Tick 1 ∷ line.Tick 1 ∷ line.Tick 1 ∷ line.Tick 1 ∷ line.Deliver 3 ∷ line.Deliver 6 ∷ []
 
 abbrev pub torn_prepare : List Happening
-torn_prepare = Asks 0 registers ∷ Fuses 1 2 26 ∷ Arrives 0 ∷ Starts 1 ∷ Ticks 1 ∷ Ticks 1 ∷ Ticks 1 ∷ Ticks 1 ∷ Ticks 1 ∷ Arrives 3 ∷ Arrives 6 ∷ []
+torn_prepare = AsksInVersion 0 registers ∷ Fuses 1 2 26 ∷ Arrives 0 ∷ Starts 1 ∷ Ticks 1 ∷ Ticks 1 ∷ Ticks 1 ∷ Ticks 1 ∷ Ticks 1 ∷ Arrives 3 ∷ Arrives 6 ∷ []

@@ -13,7 +13,7 @@ use Rattle.vr_rules.specs.Steps.{Effect}
 use Rattle.vr_rules.specs.Opening.{IsKind, fresh}
 use Rattle.vr_world.specs.Lying.{Lying, hazards}
 use Rattle.vr_world.specs.Group.{fresh_group}
-use Rattle.vr_world.specs.World.{Happening, Host, World, fresh_host, fresh_world, happens}
+use Rattle.vr_world.specs.World.{Arrives, Asks, AsksInVersion, Begins, Fuses, Happening, Host, Lies, Migrates, Starts, Stops, Ticks, World, fresh_host, fresh_world, happens}
 use Rattle.vr_world.specs.Safe as safe
 use Rattle.vr_rings.specs.Slots.{whole_in}
 use Rattle.vr_world.specs.Safe.{IsRead, IsWritten}
@@ -98,6 +98,19 @@ used_text entries w x m es reads begins p a b (inr u) =
     let i = contains_in u.0 es (subst (λ (fs : List Effect). Contains fs u.0) begins u.1) in
     written_text entries u.0 b (all_of entries es u.0 a i) u.2
 
+-- a line that gives a host work isn't a migration
+begins_so : (w : World Lying) (x : Happening) (k : Work) → work_of w x ≡ Some k → begun_in w x ≡ begun_of (work_of w x)
+begins_so w (Begins kind n) k e = refl
+begins_so w (Asks i q) k e = refl
+begins_so w (AsksInVersion i q) k e = refl
+begins_so w (Arrives x) k e = refl
+begins_so w (Ticks i) k e = refl
+begins_so w (Stops i) k e = refl
+begins_so w (Starts i) k e = refl
+begins_so w (Migrates i) k e = absurd cc
+begins_so w (Fuses i calls code) k e = refl
+begins_so w (Lies i fault) k e = refl
+
 pub line_text : (entries : List Whole) (w : World Lying) (x : Happening) (m : Host Lying) (script : List Effect) → m.fuse ≡ None → work_of w x ≡ Some (record { host = m; script = script }) → Plain entries m.disk → AllByRecursion (IsOf entries) script
     → (b : List ℕ) → HashesAt w x b → IsText entries b
 line_text entries w x m script free is p a b (inl h) =
@@ -106,7 +119,7 @@ line_text entries w x m script free is p a b (inl h) =
     let bad : None ≡ Some cut.0 = sym free ∙ cut.1 in
     absurd cc
 line_text entries w x m script free is p a b (inr u) =
-    used_text entries w x m script (ap read_of is) (ap begun_of is ∙ ap (λ o. begun_by o script m.disk) free) p a b u
+    used_text entries w x m script (ap read_of is) (begins_so w x (record { host = m; script = script }) is ∙ ap begun_of is ∙ ap (λ o. begun_by o script m.disk) free) p a b u
 
 -- ---- of lines
 

@@ -9,13 +9,15 @@ use Rattle.vr_msg.specs.declared.event.Event.TheVariants as event
 use Rattle.vr_msg.specs.declared.output.Sent.{Sent}
 use Rattle.vr_state.specs.Folds as state
 use Rattle.vr_state.specs.Sessions as sess
-use Rattle.vr_rules.specs.Replica.{Replica}
+use Rattle.vr_msg.specs.declared.request.RequestFields.{RequestFields}
+use Rattle.vr_rules.specs.Replica.{Replica, version}
 use Rattle.vr_rules.specs.Outputs.{messages, prepare, prepare_ok, commit_line}
 use Rattle.vr_rules.specs.Steps.{Say, Step, after_all, outputs}
 use Rattle.vr_rules.specs.Rules.{react}
 use Rattle.vr_rules.specs.Opening.{blank, fresh}
 use Rattle.vr_world.specs.Lying.{Lying, hazards, lying}
-use Rattle.vr_world.specs.World.{Arrives, Asks, Host, World, at_member, fresh_world, happens}
+use Rattle.vr_world.specs.World.{Arrives, AsksInVersion, Host, World, at_member, fresh_world, happens, in_version}
+use Rattle.law_4_disks.specs.Worlds.{stepping}
 use Rattle.law_6_one_log.specs.Schedules.{IsHashed}
 use Rattle.vr_name_rows.proofs.Happenings.{plain, registers, puts}
 use Rattle.vr_name_rows.proofs.Disks.{IsOf, Plain, entry_there, plain_all, written_apart, written_there}
@@ -57,7 +59,7 @@ pub begins : fresh_world hazards strict 3 ≡ group_of (host p0 (blank_disk 0)) 
 unfolding fresh_world
 begins = refl
 
-pub goes_0 : (x : Lying) (b : Host Lying) → (happens hazards (group_of (host p0 x) b []) (Asks 0 registers)).world ≡ group_of (host p1 (after_all lying x (makes first p1))) b sent_1
+pub goes_0 : (x : Lying) (b : Host Lying) → (happens hazards (group_of (host p0 x) b []) (AsksInVersion 0 registers)).world ≡ group_of (host p1 (after_all lying x (makes first p1))) b sent_1
 unfolding at_member outputs messages blank
 goes_0 x b = ap (λ (s : Step). group_of (host s.replica (after_all lying x s.script)) b (messages (outputs s.script))) (step_0 x)
 
@@ -69,7 +71,7 @@ goes_2 : (x : Lying) (b : Host Lying) → lying.entry x 1 ≡ Some first → (ha
 unfolding at_member outputs messages blank
 goes_2 x b reads = ap (λ (s : Step). group_of (host s.replica (after_all lying x s.script)) b (sent_2 ++ messages (outputs s.script))) (step_2 x reads)
 
-goes_3 : (x : Lying) (b : Host Lying) → (happens hazards (group_of (host p2 x) b sent_2) (Asks 0 puts)).world ≡ group_of (host p3 (after_all lying x (makes second p3))) b sent_4
+goes_3 : (x : Lying) (b : Host Lying) → (happens hazards (group_of (host p2 x) b sent_2) (AsksInVersion 0 puts)).world ≡ group_of (host p3 (after_all lying x (makes second p3))) b sent_4
 unfolding at_member outputs messages blank
 goes_3 x b = ap (λ (s : Step). group_of (host s.replica (after_all lying x s.script)) b (sent_2 ++ messages (outputs s.script))) (step_3 x)
 
@@ -91,8 +93,20 @@ answers_second : AllByRecursion (IsOf both) (answers second p3c)
 unfolding blank state.applied state.answered state.executed sess.checked
 answers_second = (tt, (tt, tt))
 
-line_0 : (x : Lying) (b : Host Lying) → Plain both x → (t : List ℕ) → HashesAt (group_of (host p0 x) b []) (Asks 0 registers) t → IsText both t
-line_0 x b p = line_text both (group_of (host p0 x) b []) (Asks 0 registers) (host p0 x) (react (event.Request registers) lying p0 x).script refl refl p (subst (λ (s : Step). AllByRecursion (IsOf both) s.script) (sym (step_0 x)) ((inl refl, first_taken), (tt, (tt, tt))))
+-- a replica of version 1 is asked as the line says
+asks_of : (q : RequestFields) (r : Replica) (x : Lying) → in_version (version r) q ≡ q → Some (stepping (event.Request (in_version (version r) q)) (host r x) r) ≡ Some (stepping (event.Request q) (host r x) r)
+asks_of q r x e = ap (λ (f : RequestFields). Some (stepping (event.Request f) (host r x) r)) e
+
+pub asks_0 : (x : Lying) → Some (stepping (event.Request (in_version (version p0) registers)) (host p0 x) p0) ≡ Some (stepping (event.Request registers) (host p0 x) p0)
+unfolding blank
+asks_0 x = asks_of registers p0 x refl
+
+asks_3 : (x : Lying) → Some (stepping (event.Request (in_version (version p2) puts)) (host p2 x) p2) ≡ Some (stepping (event.Request puts) (host p2 x) p2)
+unfolding blank
+asks_3 x = asks_of puts p2 x refl
+
+line_0 : (x : Lying) (b : Host Lying) → Plain both x → (t : List ℕ) → HashesAt (group_of (host p0 x) b []) (AsksInVersion 0 registers) t → IsText both t
+line_0 x b p = line_text both (group_of (host p0 x) b []) (AsksInVersion 0 registers) (host p0 x) (react (event.Request registers) lying p0 x).script refl (asks_0 x) p (subst (λ (s : Step). AllByRecursion (IsOf both) s.script) (sym (step_0 x)) ((inl refl, first_taken), (tt, (tt, tt))))
 
 line_1 : (x y : Lying) → Plain both y → (t : List ℕ) → HashesAt (group_of (host p1 x) (host b0 y) sent_1) (Arrives 0) t → IsText both t
 line_1 x y p = line_text both (group_of (host p1 x) (host b0 y) sent_1) (Arrives 0) (host b0 y) (react (event.Deliver (prepare first p1)) lying b0 y).script refl refl p (subst (λ (s : Step). AllByRecursion (IsOf both) s.script) (sym (step_1 y)) ((inl refl, first_taken), (tt, tt)))
@@ -100,8 +114,8 @@ line_1 x y p = line_text both (group_of (host p1 x) (host b0 y) sent_1) (Arrives
 line_2 : (x : Lying) (b : Host Lying) → Plain both x → lying.entry x 1 ≡ Some first → (t : List ℕ) → HashesAt (group_of (host p1 x) b sent_2) (Arrives 2) t → IsText both t
 line_2 x b p reads = line_text both (group_of (host p1 x) b sent_2) (Arrives 2) (host p1 x) (react (event.Deliver (prepare_ok name_of first_header b1)) lying p1 x).script refl refl p (subst (λ (s : Step). AllByRecursion (IsOf both) s.script) (sym (step_2 x reads)) answers_first)
 
-line_3 : (x : Lying) (b : Host Lying) → Plain both x → (t : List ℕ) → HashesAt (group_of (host p2 x) b sent_2) (Asks 0 puts) t → IsText both t
-line_3 x b p = line_text both (group_of (host p2 x) b sent_2) (Asks 0 puts) (host p2 x) (react (event.Request puts) lying p2 x).script refl refl p (subst (λ (s : Step). AllByRecursion (IsOf both) s.script) (sym (step_3 x)) ((inr (inl refl), second_taken), (tt, (tt, tt))))
+line_3 : (x : Lying) (b : Host Lying) → Plain both x → (t : List ℕ) → HashesAt (group_of (host p2 x) b sent_2) (AsksInVersion 0 puts) t → IsText both t
+line_3 x b p = line_text both (group_of (host p2 x) b sent_2) (AsksInVersion 0 puts) (host p2 x) (react (event.Request puts) lying p2 x).script refl (asks_3 x) p (subst (λ (s : Step). AllByRecursion (IsOf both) s.script) (sym (step_3 x)) ((inr (inl refl), second_taken), (tt, (tt, tt))))
 
 line_4 : (x y : Lying) → Plain both y → lying.entry (stores_second y) 1 ≡ Some first → (t : List ℕ) → HashesAt (group_of (host p3 x) (host b1 y) sent_4) (Arrives 3) t → IsText both t
 line_4 x y p reads = line_text both (group_of (host p3 x) (host b1 y) sent_4) (Arrives 3) (host b1 y) (react (event.Deliver (prepare second p3)) lying b1 y).script refl refl p (subst (λ (s : Step). AllByRecursion (IsOf both) s.script) (sym (step_4 y reads)) stores_both)
@@ -184,10 +198,10 @@ hashed =
     let w0 = group_of (host p0 x0) (host b0 y0) [] in
     let h5 : Hashes (IsText both) world_5 (drop 5 plain) = then_lines (IsText both) world_5 (happens hazards world_5 (Arrives 5)).world (Arrives 5) [] refl (line_5 x3 y2 plain_x3 reads_x3) (none_left (IsText both) (happens hazards world_5 (Arrives 5)).world root) in
     let h4 : Hashes (IsText both) world_4 (drop 4 plain) = then_lines (IsText both) world_4 world_5 (Arrives 3) (drop 5 plain) (goes_4 x3 y1 reads_y2) (line_4 x3 y1 plain_y1 reads_y2) h5 in
-    let h3 : Hashes (IsText both) world_3 (drop 3 plain) = then_lines (IsText both) world_3 world_4 (Asks 0 puts) (drop 4 plain) (goes_3 x2 (host b1 y1)) (line_3 x2 (host b1 y1) plain_x2) h4 in
+    let h3 : Hashes (IsText both) world_3 (drop 3 plain) = then_lines (IsText both) world_3 world_4 (AsksInVersion 0 puts) (drop 4 plain) (goes_3 x2 (host b1 y1)) (line_3 x2 (host b1 y1) plain_x2) h4 in
     let h2 : Hashes (IsText both) world_2 (drop 2 plain) = then_lines (IsText both) world_2 world_3 (Arrives 2) (drop 3 plain) (goes_2 x1 (host b1 y1) reads_x1) (line_2 x1 (host b1 y1) plain_x1 reads_x1) h3 in
     let h1 : Hashes (IsText both) world_1 (drop 1 plain) = then_lines (IsText both) world_1 world_2 (Arrives 0) (drop 2 plain) (goes_1 x1 y0) (line_1 x1 y0 plain_y0) h2 in
-    let h0 : Hashes (IsText both) w0 plain = then_lines (IsText both) w0 world_1 (Asks 0 registers) (drop 1 plain) (goes_0 x0 (host b0 y0)) (line_0 x0 (host b0 y0) plain_x0) h1 in
+    let h0 : Hashes (IsText both) w0 plain = then_lines (IsText both) w0 world_1 (AsksInVersion 0 registers) (drop 1 plain) (goes_0 x0 (host b0 y0)) (line_0 x0 (host b0 y0) plain_x0) h1 in
     subst (λ (w : World Lying). Hashes (IsText both) w plain) (sym begins) h0
 
 pub plain_never : NoCollision (IsHashed (fresh_world hazards strict 3) plain)

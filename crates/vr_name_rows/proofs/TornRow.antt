@@ -16,7 +16,7 @@ use Rattle.vr_rules.specs.Steps.{Step, Write, after_all, outputs}
 use Rattle.vr_rules.specs.Rules.{react}
 use Rattle.vr_rules.specs.Opening.{blank, opened}
 use Rattle.vr_world.specs.Lying.{Lying, cut_calls, hazards, lying}
-use Rattle.vr_world.specs.World.{Arrives, Asks, Fuses, Happening, Host, Starts, Ticks, World, acts, at_member, fresh_world, happens, stays, went_or_halted, with_member}
+use Rattle.vr_world.specs.World.{Arrives, AsksInVersion, Fuses, Happening, Host, Starts, Ticks, World, acts, at_member, fresh_world, happens, stays, went_or_halted, with_member}
 use Rattle.law_4_disks.specs.Naming.{IsHashedIn}
 use Rattle.law_4_disks.specs.Worlds.{IsHashedCut, Work, begun_by, begun_in}
 use Rattle.law_6_one_log.specs.Schedules.{IsHashed}
@@ -28,7 +28,7 @@ use Rattle.vr_name_rows.proofs.Halted.{IsNear, LeftBlank, cut_text, left_blank, 
 use Rattle.vr_name_rows.proofs.Happenings.{registers, torn_prepare}
 use Rattle.vr_name_rows.proofs.Lines.{Hashes, HashesAt, IsText, blank_disk, blank_plain, host, line_text, none_left, root, same_work, then_lines, used_text}
 use Rattle.vr_name_rows.proofs.Names.{IsAny, tells_apart}
-use Rattle.vr_name_rows.proofs.Path.{begins, goes_0, quiet_host, sent_1}
+use Rattle.vr_name_rows.proofs.Path.{asks_0, begins, goes_0, quiet_host, sent_1}
 use Rattle.vr_name_rows.proofs.Revived.{changes_next, chooses_none, enters_next, idles, idles_0, idles_1, idles_2, idles_3, idles_4, n1, revives, starts_blank}
 use Rattle.vr_name_rows.proofs.Steps.{b0, b1, makes, p0, p1, step_0, step_1, stores}
 use Rattle.vr_name_rows.proofs.Stored.{one}
@@ -171,8 +171,8 @@ hashed =
     let start = starts_blank y1 left.opens left.looks in
     let h3 : Hashes IsNear w3 (drop 3 xs) = then_lines IsNear w3 w4 (Starts 1) (drop 4 xs) (revives_at_1 a c y1 start) (near w3 (Starts 1) (start_line_text w3 (Starts 1) b0 y1 revives refl start left.plain (tt, (tt, tt)))) h4 in
     let h2 : Hashes IsNear w2 (drop 2 xs) = then_lines IsNear w2 w3 (Arrives 0) (drop 3 xs) (halts_1 a c (blank_disk 1).face (blank_disk 1).held) cut_line h3 in
-    let h1 : Hashes IsNear w1 (drop 1 xs) = then_lines IsNear w1 w2 (Fuses 1 2 26) (drop 2 xs) (fuses_1 a c (blank_disk 1)) (near w1 (Fuses 1 2 26) (idle_text w1 (Fuses 1 2 26) refl)) h2 in
-    let h0 : Hashes IsNear w0 xs = then_lines IsNear w0 w1 (Asks 0 registers) (drop 1 xs) (goes_0 (blank_disk 0) (host b0 (blank_disk 1))) (near w0 (Asks 0 registers) (step_line w0 (Asks 0 registers) (event.Request registers) p0 p1 (blank_disk 0) (makes first p1) refl (step_0 (blank_disk 0)) (blank_plain one).0 makes_one)) h1 in
+    let h1 : Hashes IsNear w1 (drop 1 xs) = then_lines IsNear w1 w2 (Fuses 1 2 26) (drop 2 xs) (fuses_1 a c (blank_disk 1)) (near w1 (Fuses 1 2 26) (idle_text w1 (Fuses 1 2 26) refl refl)) h2 in
+    let h0 : Hashes IsNear w0 xs = then_lines IsNear w0 w1 (AsksInVersion 0 registers) (drop 1 xs) (goes_0 (blank_disk 0) (host b0 (blank_disk 1))) (near w0 (AsksInVersion 0 registers) (step_line w0 (AsksInVersion 0 registers) (event.Request registers) p0 p1 (blank_disk 0) (makes first p1) (asks_0 (blank_disk 0)) (step_0 (blank_disk 0)) (blank_plain one).0 makes_one)) h1 in
     subst (λ (w : World Lying). Hashes IsNear w xs) (sym begins) h0
 
 pub torn_never : NoCollision (IsHashed (fresh_world hazards strict 3) torn_prepare)
