@@ -1,10 +1,13 @@
 //! Each call of a step fails in turn. By the clauses `step` and `halt` of `Replica::step` a front of the step's calls was made then, the next
 //! one failed, and nothing is put out; which calls there are docs/FORMATS.md says.
+use crate::act::Act;
 use crate::act::Act::{
     Change, Damage, Fail as FailCall, Format, Fuse, Migrate, Prepare, Prepares, Rounds, Stale,
     Start, SyncView, Tick, Ticks,
 };
 use crate::member::check;
+use std::alloc::Global;
+use std::process::Abort;
 use std::test::Fail;
 
 const UNKNOWN: &str = "done\ndone\ndone\ndone\ndone\nhalt\n\
@@ -154,27 +157,20 @@ fn a_call_of_a_visit_fails(rt: HostRuntime) -> Result<(), Fail> {
     Ok(())
 }
 
+// A file with an entry is migrated, where this stops it, and started; and the prepare of the entry comes once more.
+fn migrate_stopped(rt: &impl Abort, alloc: Global, stop: Act, wanted: &str) -> Result<(), Fail> {
+    let acts = [Format, Prepare(1), stop, Migrate(1), Start(1), Prepare(1)];
+    check(rt, alloc, 1, &acts, wanted)
+}
+
 #[test]
 fn a_call_of_a_migration_fails(rt: HostRuntime) -> Result<(), Fail> {
     let alloc = rt.alloc();
     // The prepares of 64 slots are written by eight sectors each, and synced; then a value is saved, of which the first sector alone is another
     // one, so the new value opens once that of the second copy is written. On the new file no message of version 1 is heard.
     for call in [1u64, 512, 513, 535, 536, 597] {
-        let acts = [
-            Format,
-            Prepare(1),
-            FailCall(call),
-            Migrate(1),
-            Start(1),
-            Prepare(1),
-        ];
-        check(
-            &rt,
-            alloc,
-            1,
-            &acts,
-            if call < 513 + 23 { OLD_FILE } else { NEW_FILE },
-        )?;
+        let wanted = if call < 513 + 23 { OLD_FILE } else { NEW_FILE };
+        migrate_stopped(&rt, alloc, FailCall(call), wanted)?;
     }
     Ok(())
 }
@@ -184,21 +180,8 @@ fn a_migration_is_cut(rt: HostRuntime) -> Result<(), Fail> {
     let alloc = rt.alloc();
     // What isn't synced is lost: the new value opens once two copies of it are synced.
     for call in [1u64, 513, 555, 556, 597] {
-        let acts = [
-            Format,
-            Prepare(1),
-            Fuse(call, 0),
-            Migrate(1),
-            Start(1),
-            Prepare(1),
-        ];
-        check(
-            &rt,
-            alloc,
-            1,
-            &acts,
-            if call < 556 { OLD_FILE } else { NEW_FILE },
-        )?;
+        let wanted = if call < 556 { OLD_FILE } else { NEW_FILE };
+        migrate_stopped(&rt, alloc, Fuse(call, 0), wanted)?;
     }
     Ok(())
 }
