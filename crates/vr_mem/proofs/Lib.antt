@@ -1,5 +1,6 @@
 pub mod Honest
 pub mod Kept
 pub mod Made
+pub mod Noted
 pub mod Room
 pub mod Settling

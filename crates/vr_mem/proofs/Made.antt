@@ -32,8 +32,8 @@ zero_is =
 none_wait : (f : MemFace) → f.count ≡ 0 → (face_of f).waiting ≡ []
 none_wait f e = rw e refl
 
-pub whole_made : (f : MemFace) → f.cells.items ≡ [] → f.count ≡ 0 → sectors ≤ vec_capacity f.cells → sectors ≤ vec_capacity f.waiting → f.zeros.bytes ≡ copies 512 0 → IsMemFace f
-whole_made f e n c r z = record {
+pub whole_made : (f : MemFace) → f.cells.items ≡ [] → f.count ≡ 0 → sectors ≤ vec_capacity f.cells → sectors ≤ vec_capacity f.waiting → IsMemFace f
+whole_made f e n c r = record {
   face = record {
     count = length_seen f.cells.items (rw e (omega arith));
     cells = rw (none_kept f.cells.items e) (all_copies IsCell sectors zero_cell zero_is);
@@ -45,7 +45,6 @@ whole_made f e n c r z = record {
   kept = rw (none_wait f n) (λ k d l. absurd (omega arith));
   once = rw (none_wait f n) refl;
   room = r;
-  zeros = z;
 }
 
 pub zeros_copies : replicate {A = ℕ} 512 0 ≡ copies 512 0

@@ -7,16 +7,17 @@ use Rattle.std.proofs.lemmas.List.Elements.{All-push, All-set}
 use Rattle.std.proofs.lemmas.Bool.{and_parts, cases_eq, cond_both, eq-eqb, eqb-false, eqb-true, not-true, or_parts}
 use Rattle.vr_disk.specs.Regions.{sectors}
 use Rattle.vr_disk.specs.DiskState.{Cell, Face, IsCell, IsContent, IsFace, Waiting, Write, after, cell, digit_at, IsWaiting, blank, noted, settled, settled_cell, waits}
-use Rattle.vr_disk.specs.declared.sector.Sector.{Sector}
+use Rattle.vr_mem.specs.declared.bytes.MemBytes.{MemBytes}
 use Rattle.vr_mem.specs.declared.cells.MemRoom.{MemRoom}
 use Rattle.vr_mem.specs.declared.cells.MemWaiting.{MemWaiting}
 use Rattle.std.specs.Vec.{vec_capacity}
 use Rattle.vr_disk.proofs.Faces.{face_after, there}
 use Rattle.vr_mem.specs.declared.cells.MemFace.{MemFace}
 use Rattle.vr_mem.specs.Lies.{lied}
-use Rattle.vr_mem.specs.Seen.{IsMemFace, room_of, face_of, once, kept_with, seen, waiting_in, waiting_of, was_of}
+use Rattle.vr_mem.specs.Seen.{IsMemFace, bytes_of, room_of, face_of, once, kept_with, seen, taken, waiting_in, waiting_of, was_of}
 use Rattle.vr_mem.proofs.Room.{once_push}
 use Rattle.vr_mem.proofs.Kept.{length_seen, seen_here, seen_set}
+use Rattle.vr_mem.proofs.Noted.{bytes_taken}
 
 abbrev is_in : MemWaiting → Cell → Waiting
 is_in w c = record { index = w.index; was = c }
@@ -64,13 +65,13 @@ was_again : (w : MemWaiting) (a b : Cell) → w.again ≡ true → was_of w a �
 unfolding was_of
 was_again w a b e = rw e refl
 
-was_kept : (w : MemWaiting) (s : Sector) (a b : Cell) → w.again ≡ false → s.bytes ≡ b.before → (let k : MemWaiting = record w { again = true; truth = s } in was_of k a) ≡ was_of w b
+was_kept : (w : MemWaiting) (s : MemBytes) (a b : Cell) → w.again ≡ false → bytes_of s ≡ b.before → (let k : MemWaiting = record w { again = true; truth = taken w.truth s } in was_of k a) ≡ was_of w b
 unfolding was_of
-was_kept w s a b e k = rw (e, k) refl
+was_kept w s a b e k = rw (e, bytes_taken w.truth s, k) refl
 
-kept_was : (xs : List Cell) (i : ℕ) (x : Cell) (s : Sector) (w : MemWaiting) → s.bytes ≡ (get_or xs i blank).before → waiting_in (set xs i x) (kept_with i s w) ≡ waiting_in xs w
+kept_was : (xs : List Cell) (i : ℕ) (x : Cell) (s : MemBytes) (w : MemWaiting) → bytes_of s ≡ (get_or xs i blank).before → waiting_in (set xs i x) (kept_with i s w) ≡ waiting_in xs w
 kept_was xs i x s w e =
-    cond_both (eqb w.index i && not w.again) (record w { again = true; truth = s }) w (λ (v : MemWaiting). waiting_in (set xs i x) v ≡ waiting_in xs w)
+    cond_both (eqb w.index i && not w.again) (record w { again = true; truth = taken w.truth s }) w (λ (v : MemWaiting). waiting_in (set xs i x) v ≡ waiting_in xs w)
     (λ t.
     let q = and_parts (eqb w.index i) (not w.again) t in
     ap (is_in w) (was_kept w s _ (get_or xs w.index blank) (not-true w.again q.1) (e ∙ ap (λ j. (get_or xs j blank).before) (sym (eqb-true w.index i q.0)))))
@@ -79,7 +80,7 @@ kept_was xs i x s w e =
       | inr d ↦ ap (λ (c : Cell). is_in w (was_of w c)) (get_or-set_other xs i w.index x blank d)
     ])
 
-pub kept_again : (xs : List Cell) (i : ℕ) (x : Cell) (s : Sector) (ws : List MemWaiting) → s.bytes ≡ (get_or xs i blank).before → waiting_of (set xs i x) (map (kept_with i s) ws) ≡ waiting_of xs ws
+pub kept_again : (xs : List Cell) (i : ℕ) (x : Cell) (s : MemBytes) (ws : List MemWaiting) → bytes_of s ≡ (get_or xs i blank).before → waiting_of (set xs i x) (map (kept_with i s) ws) ≡ waiting_of xs ws
 kept_again xs i x s [] e = refl
 kept_again xs i x s (w ∷ ws) e = ap (λ y. y ∷ waiting_of (set xs i x) (map (kept_with i s) ws)) (kept_was xs i x s w e) ∙ ap (λ r. waiting_in xs w ∷ r) (kept_again xs i x s ws e)
 
@@ -149,9 +150,9 @@ none_kept : (cells : List MemRoom) (ws : List Waiting) → ws ≡ [] → Kept ce
 none_kept cells ws e = rw e (λ k d l. absurd (omega arith))
 
 -- a disk after a settling or a sync
-pub settled_is : (old new : MemFace) → IsMemFace old → IsFace (face_of new) → new.count ≡ 0 → length new.cells.items ≡ length old.cells.items → sectors ≤ vec_capacity new.cells → new.waiting ≡ old.waiting → new.zeros ≡ old.zeros → IsMemFace new
-settled_is old new h f w n s r z =
-    record { face = f; count = (let c = h.count in omega arith); space = s; held = rw w (omega arith); kept = none_kept new.cells.items _ (none_wait new w); once = rw (none_wait new w) refl; room = rw r h.room; zeros = rw z h.zeros }
+pub settled_is : (old new : MemFace) → IsMemFace old → IsFace (face_of new) → new.count ≡ 0 → length new.cells.items ≡ length old.cells.items → sectors ≤ vec_capacity new.cells → new.waiting ≡ old.waiting → IsMemFace new
+settled_is old new h f w n s r =
+    record { face = f; count = (let c = h.count in omega arith); space = s; held = rw w (omega arith); kept = none_kept new.cells.items _ (none_wait new w); once = rw (none_wait new w) refl; room = rw r h.room }
 
 -- a sector that is noted
 once_noted : (ws : List Waiting) (i : ℕ) (c : Cell) → once ws ≡ true → once (noted ws i c) ≡ true
@@ -162,8 +163,8 @@ kept_noted cells ws i c l h = cond_both (waits i ws) ws (ws ++ record { index = 
 
 -- a disk with a sector written
 pub written_is : (old new : MemFace) (i : ℕ) (bytes : List ℕ) → IsMemFace old → i < sectors → IsContent bytes → face_of new ≡ after (face_of old) (Write i bytes)
-    → length new.cells.items ≤ sectors → length old.cells.items ≤ length new.cells.items → i < length new.cells.items → sectors ≤ vec_capacity new.cells → new.count ≤ length new.waiting.items → sectors ≤ vec_capacity new.waiting → new.zeros ≡ old.zeros → IsMemFace new
-written_is old new i bytes h l n same c g k s o r z =
+    → length new.cells.items ≤ sectors → length old.cells.items ≤ length new.cells.items → i < length new.cells.items → sectors ≤ vec_capacity new.cells → new.count ≤ length new.waiting.items → sectors ≤ vec_capacity new.waiting → IsMemFace new
+written_is old new i bytes h l n same c g k s o r =
     let ws = (face_of old).waiting in
     let w : (face_of new).waiting ≡ noted ws i (cell (face_of old) i) = ap (λ (f : Face). f.waiting) same in
     record {
@@ -174,7 +175,6 @@ written_is old new i bytes h l n same c g k s o r z =
       kept = rw w (kept_noted new.cells.items ws i (cell (face_of old) i) k (kept_more old.cells.items new.cells.items ws h.kept g));
       once = rw w (once_noted ws i (cell (face_of old) i) h.once);
       room = r;
-      zeros = rw z h.zeros;
     }
 
 -- a sector that reads as something else
@@ -185,9 +185,9 @@ lied_face f i r h l n =
     record { count = length-set f.cells i (record (cell f i) { reads = r }) ∙ h.count; cells = All-set IsCell f.cells i (record (cell f i) { reads = r }) (record { truth = was.truth; reads = n; before = was.before }) h.cells; waiting = h.waiting }
 
 pub lied_is : (old new : MemFace) (i : ℕ) (r : Option (List ℕ)) → IsMemFace old → i < sectors → ((b : List ℕ) → r ≡ Some b → IsContent b) → face_of new ≡ lied (face_of old) i r
-    → length new.cells.items ≤ sectors → length old.cells.items ≤ length new.cells.items → sectors ≤ vec_capacity new.cells → new.waiting ≡ old.waiting → new.count ≡ old.count → new.zeros ≡ old.zeros → IsMemFace new
+    → length new.cells.items ≤ sectors → length old.cells.items ≤ length new.cells.items → sectors ≤ vec_capacity new.cells → new.waiting ≡ old.waiting → new.count ≡ old.count → IsMemFace new
 unfolding lied
-lied_is old new i r h l n same c g s w k z =
+lied_is old new i r h l n same c g s w k =
     let ws = (face_of old).waiting in
     let x : (face_of new).waiting ≡ ws = ap (λ (f : Face). f.waiting) same in
     record {
@@ -198,7 +198,6 @@ lied_is old new i r h l n same c g s w k z =
       kept = rw x (kept_more old.cells.items new.cells.items ws h.kept g);
       once = rw x h.once;
       room = rw w h.room;
-      zeros = rw z h.zeros;
     }
 
 pub lied_cells : (cells more : List MemRoom) (ws : List MemWaiting) (i : ℕ) (was x : MemRoom) (r : Option (List ℕ)) → seen more ≡ seen cells → i < length more → length more ≤ sectors → was ≡ get_or more i was → room_of x ≡ record (room_of was) { reads = r }

@@ -5,6 +5,7 @@ use Rattle.std.specs.Prelude.{◌==◌, ◌&&◌, ◌≡◌, ◌≤◌, ◌<◌,
 use Rattle.vr_disk.specs.DiskState.{Cell, Waiting, Face, IsFace, Fate, Fuse, CallVerdict, Goes, Fails, Cuts, blank}
 use Rattle.vr_disk.specs.Regions.{sectors}
 use Rattle.vr_disk.specs.declared.sector.Sector.{Sector}
+use Rattle.vr_mem.specs.declared.bytes.MemBytes.{MemBytes}
 use Rattle.vr_mem.specs.declared.cells.MemCell.{MemCell}
 use Rattle.vr_mem.specs.declared.cells.MemReads.{MemReads}
 use Rattle.vr_mem.specs.declared.cells.MemReads.TheVariants as r
@@ -25,6 +26,18 @@ reads_of (Some s) = Some s.bytes
 abbrev pub cell_of : MemCell → Cell
 cell_of c = record { truth = c.truth.bytes; reads = reads_of c.reads; before = c.before.bytes }
 
+-- so many copies of an item
+unfoldable pub copies : {X : Type 0} → ℕ → X → List X
+copies n x = replicate n x
+
+-- what it holds: zeros are only noted
+unfoldable pub bytes_of : MemBytes → List ℕ
+bytes_of m = if m.zeros then copies 512 0 else m.sector.bytes
+
+-- one that holds from now on what another does
+unfoldable pub taken : MemBytes → MemBytes → MemBytes
+taken m from = if from.zeros then record m { zeros = true } else from
+
 -- what a sector reads as, by what it should hold and its lie
 abbrev pub reads_by : MemReads → List ℕ → List ℕ → Option (List ℕ)
 reads_by r.Truth truth lie = Some truth
@@ -33,21 +46,21 @@ reads_by r.Nothing truth lie = None
 
 -- of two places, by turns
 abbrev pub truth_of : MemRoom → List ℕ
-truth_of m = if m.turned then m.two.bytes else m.one.bytes
+truth_of m = if m.turned then bytes_of m.two else bytes_of m.one
 
 abbrev pub before_of : MemRoom → List ℕ
-before_of m = if m.turned then m.one.bytes else m.two.bytes
+before_of m = if m.turned then bytes_of m.one else bytes_of m.two
 
 unfoldable pub room_of : MemRoom → Cell
 room_of m = record { truth = truth_of m; reads = reads_by m.reads (truth_of m) m.lie.bytes; before = before_of m }
 
 -- what a sector that waits should have held before its first write, by what it is now
 abbrev pub truth_then : MemWaiting → Cell → List ℕ
-truth_then w now = if w.again then w.truth.bytes else now.before
+truth_then w now = if w.again then bytes_of w.truth else now.before
 
 -- what it was
 unfoldable pub was_of : MemWaiting → Cell → Cell
-was_of w now = record { truth = truth_then w now; reads = reads_by w.reads (truth_then w now) w.lie.bytes; before = w.before.bytes }
+was_of w now = record { truth = truth_then w now; reads = reads_by w.reads (truth_then w now) w.lie.bytes; before = bytes_of w.before }
 
 abbrev pub waiting_in : List Cell → MemWaiting → Waiting
 waiting_in cells w = record { index = w.index; was = was_of w (slice_index_or cells w.index blank) }
@@ -56,12 +69,8 @@ abbrev pub waiting_of : List Cell → List MemWaiting → List Waiting
 waiting_of cells ws = map (waiting_in cells) ws
 
 -- the sector that is written again keeps what it should have held
-abbrev pub kept_with : ℕ → Sector → MemWaiting → MemWaiting
-kept_with index truth w = if (w.index == index) && not w.again then record w { again = true; truth = truth } else w
-
--- so many copies of an item
-unfoldable pub copies : {X : Type 0} → ℕ → X → List X
-copies n x = replicate n x
+abbrev pub kept_with : ℕ → MemBytes → MemWaiting → MemWaiting
+kept_with index truth w = if (w.index == index) && not w.again then record w { again = true; truth = taken w.truth truth } else w
 
 -- a sector of zeros that was never written
 unfoldable pub zero_cell : Cell
@@ -104,4 +113,3 @@ pub record IsMemFace (f : MemFace) : Type 0 where
   pub kept : All (λ (w : Waiting). w.index < length f.cells.items) (face_of f).waiting
   pub once : once (face_of f).waiting ≡ true
   pub room : sectors ≤ vec_capacity f.waiting
-  pub zeros : f.zeros.bytes ≡ copies 512 0

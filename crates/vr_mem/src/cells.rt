@@ -5,8 +5,9 @@ ghost use Rattle.std.specs.Option.{option_map};
 ghost use Rattle.std.specs.Vec.{vec_capacity};
 ghost use Rattle.vr_disk.specs.DiskState.{Cell, after, blank, cell, damaged, digit_at, IsContent, noted, reads, settle, settled, settled_cell, written, Write, Sync};
 ghost use Rattle.vr_mem.specs.Lies.{lied};
-ghost use Rattle.vr_mem.specs.Seen.{IsMemFace, cell_of, copies, face_of, kept_with, once, room_of, seen, waiting_of, was_of, zero_cell};
+ghost use Rattle.vr_mem.specs.Seen.{IsMemFace, bytes_of, cell_of, copies, face_of, kept_with, once, room_of, seen, waiting_of, was_of, zero_cell};
 
+use crate::bytes::{MemBytes, ZEROS};
 use std::alloc::Global;
 use vr_base::NoMemory;
 use vr_disk::{SECTORS, Sector};
@@ -32,14 +33,14 @@ pub enum MemReads {
 }
 
 /// What is kept of a sector. What it should hold, and what it held before its last write, stand in two places by turns: so a
-/// write copies into one of them, and turns.
+/// write goes into one of them, and turns. What is small comes first, and so is read from memory at once.
 #[derive(Clone, Copy)]
 pub struct MemRoom {
-    pub one: Sector,
-    pub two: Sector,
     /// It should hold the second; otherwise the first.
     pub turned: bool,
     pub reads: MemReads,
+    pub one: MemBytes,
+    pub two: MemBytes,
     pub lie: Sector,
 }
 
@@ -50,10 +51,10 @@ pub struct MemWaiting {
     pub index: u32,
     /// It was written again, and what it should have held then stands here.
     pub again: bool,
-    pub truth: Sector,
     pub reads: MemReads,
+    pub truth: MemBytes,
+    pub before: MemBytes,
     pub lie: Sector,
-    pub before: Sector,
 }
 
 /// All sectors, and those that wait, in the order of their first write. Kept are the sectors up to the last one that was
@@ -65,53 +66,34 @@ pub struct MemFace {
     pub count: usize,
     /// Those that wait, and behind them what stays of some that waited once: the next ones are written over it.
     pub waiting: Vec<MemWaiting>,
-    /// What a sector that isn't kept reads as.
-    pub zeros: Sector,
-}
-
-fn damage_all(bytes: &mut [u8])
-    ensures { bytes.new ≡ damaged bytes.old }
-{
-    for i in 0..bytes.len() {
-        bytes[i] = bytes[i] ^ 255;
-    }
-}
-
-/// A sector with every bit turned.
-pub fn damage(sector: &Sector) -> Sector
-    ensures { result.bytes ≡ damaged sector.now.bytes }
-{
-    let mut out = *sector;
-    damage_all(&mut out.bytes);
-    out
 }
 
 // A sector of zeros that was never written.
-#[tactic(auto, unfolding(crate::specs::Seen::copies, crate::specs::Seen::zero_cell, crate::specs::Seen::room_of))]
+#[tactic(auto, unfolding(crate::specs::Seen::zero_cell, crate::specs::Seen::room_of))]
 fn zero() -> MemRoom
     ensures { room_of result ≡ zero_cell }
 {
-    let zeros = Sector { bytes: [0; 512] };
+    let zeros = MemBytes::zeros();
     MemRoom {
-        one: zeros,
-        two: zeros,
         turned: false,
         reads: MemReads::Truth,
-        lie: zeros,
+        one: zeros,
+        two: zeros,
+        lie: ZEROS,
     }
 }
 
 impl MemRoom {
     #[tactic(auto, unfolding(crate::specs::Seen::room_of))]
-    fn truth(&self) -> &Sector
-        ensures { result.now.bytes ≡ (room_of self.now).truth }
+    fn truth(&self) -> &MemBytes
+        ensures { bytes_of result.now ≡ (room_of self.now).truth }
     {
         if self.turned { &self.two } else { &self.one }
     }
 
     #[tactic(auto, unfolding(crate::specs::Seen::room_of))]
-    fn before(&self) -> &Sector
-        ensures { result.now.bytes ≡ (room_of self.now).before }
+    fn before(&self) -> &MemBytes
+        ensures { bytes_of result.now ≡ (room_of self.now).before }
     {
         if self.turned { &self.one } else { &self.two }
     }
@@ -122,7 +104,7 @@ impl MemRoom {
         ensures { option_map (λ s. s.now.bytes) result ≡ (room_of self.now).reads }
     {
         match self.reads {
-            MemReads::Truth => Some(self.truth()),
+            MemReads::Truth => Some(self.truth().get()),
             MemReads::Lie => Some(&self.lie),
             MemReads::Nothing => None,
         }
@@ -133,9 +115,9 @@ impl MemRoom {
         ensures { cell_of result ≡ room_of self.now }
     {
         MemCell {
-            truth: *self.truth(),
+            truth: *self.truth().get(),
             reads: self.reading().copied(),
-            before: *self.before(),
+            before: *self.before().get(),
         }
     }
 
@@ -147,9 +129,9 @@ impl MemRoom {
         ensures content { IsContent bytes.now }
     {
         if self.turned {
-            self.one.bytes.copy_from_slice(bytes);
+            self.one.set(bytes);
         } else {
-            self.two.bytes.copy_from_slice(bytes);
+            self.two.set(bytes);
         }
         self.turned = !self.turned;
         self.reads = MemReads::Truth;
@@ -180,15 +162,15 @@ impl MemRoom {
         ensures { room_of self.new ≡ was_of was.now (room_of self.old) }
     {
         if was.again {
-            self.one = was.truth;
+            self.one.take_from(&was.truth);
             self.turned = false;
         } else {
             self.turned = !self.turned;
         }
         if self.turned {
-            self.one = was.before;
+            self.one.take_from(&was.before);
         } else {
-            self.two = was.before;
+            self.two.take_from(&was.before);
         }
         self.reads = was.reads;
         match was.reads {
@@ -219,9 +201,9 @@ impl MemRoom {
         ensures before { (room_of self.new).before ≡ (room_of self.old).before }
     {
         if self.turned {
-            damage_all(&mut self.two.bytes);
+            self.two.damage();
         } else {
-            damage_all(&mut self.one.bytes);
+            self.one.damage();
         }
     }
 }
@@ -269,14 +251,14 @@ fn make_place(waiting: &mut Vec<MemWaiting>, count: usize)
     ensures capacity { vec_capacity waiting.old ≤ vec_capacity waiting.new }
 {
     if waiting.len() == count {
-        let zeros = Sector { bytes: [0; 512] };
+        let zeros = MemBytes::zeros();
         waiting.push_reserved(MemWaiting {
             index: 0,
             again: false,
-            truth: zeros,
             reads: MemReads::Truth,
-            lie: zeros,
+            truth: zeros,
             before: zeros,
+            lie: ZEROS,
         });
     }
 }
@@ -294,21 +276,21 @@ fn note_in(place: &mut MemWaiting, index: u32, room: &MemRoom)
         MemReads::Lie => place.lie = room.lie,
         _ => {}
     }
-    place.before = *room.before();
+    place.before.take_from(room.before());
 }
 
 // Keeps what a sector should have held, where it is the one that waits here and was written once.
-fn keep_in(place: &mut MemWaiting, index: u32, truth: &Sector)
+fn keep_in(place: &mut MemWaiting, index: u32, truth: &MemBytes)
     ensures { place.new ≡ kept_with index truth.now place.old }
 {
     if place.index == index && !place.again {
-        place.truth = *truth;
+        place.truth.take_from(truth);
         place.again = true;
     }
 }
 
 // Keeps what a sector should have held that is written again, with those of the first so many that it is.
-fn keep_truth(waiting: &mut [MemWaiting], count: usize, index: u32, truth: &Sector)
+fn keep_truth(waiting: &mut [MemWaiting], count: usize, index: u32, truth: &MemBytes)
     requires { count ≤ length waiting.old }
     ensures { waiting.new ≡ map (kept_with index truth.now) (take count waiting.old) ++ drop count waiting.old }
 {
@@ -360,7 +342,6 @@ impl MemFace {
             cells: Vec::with_capacity(alloc, SECTORS as usize)?,
             count: 0,
             waiting: Vec::with_capacity(alloc, SECTORS as usize)?,
-            zeros: Sector { bytes: [0; 512] },
         })
     }
 
@@ -388,7 +369,7 @@ impl MemFace {
         if at < self.cells.len() {
             self.cells[at].reading()
         } else {
-            Some(&self.zeros)
+            Some(&ZEROS)
         }
     }
 

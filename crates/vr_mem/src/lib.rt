@@ -2,6 +2,7 @@
 //! it a disk whose sectors may read otherwise.
 #![tactic(auto)]
 
+mod bytes;
 mod cell_disk;
 mod cells;
 mod disk;
@@ -9,8 +10,9 @@ mod fate;
 mod laws;
 mod name;
 
+pub use bytes::damage;
 pub use cell_disk::CellDisk;
-pub use cells::{MemCell, damage};
+pub use cells::MemCell;
 pub use disk::MemDisk;
 pub use fate::MemVerdict;
 pub use laws::honest_disk;

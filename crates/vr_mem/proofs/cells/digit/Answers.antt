@@ -1,5 +1,6 @@
 use Rattle.std.proofs.Common.{◌<◌, ◌∙◌, length, arith, sym, [], false}
 use Rattle.vr_disk.specs.declared.sector.Sector.{Sector}
+use Rattle.vr_mem.specs.declared.bytes.MemBytes.{MemBytes}
 use Rattle.vr_mem.specs.declared.cells.MemReads.TheVariants as reads
 use Rattle.vr_mem.specs.declared.cells.MemWaiting.{MemWaiting}
 use Rattle.std.proofs.lemmas.Bool.{eq-eqb, ne_eqb}
@@ -9,8 +10,11 @@ use Rattle.vr_mem.proofs.cells.digit.Goals as goal
 abbrev no_sector : Sector
 no_sector = record { bytes = [] }
 
+abbrev no_bytes : MemBytes
+no_bytes = record { zeros = false; sector = no_sector }
+
 abbrev no_waiting : MemWaiting
-no_waiting = record { index = 0; again = false; truth = no_sector; reads = reads.Truth; lie = no_sector; before = no_sector }
+no_waiting = record { index = 0; again = false; reads = reads.Truth; truth = no_bytes; before = no_bytes; lie = no_sector }
 
 pub loop-w-preserved : goal.loop-w-preserved
 loop-w-preserved c cells =

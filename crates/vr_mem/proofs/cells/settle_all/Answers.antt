@@ -1,6 +1,7 @@
 use Rattle.std.proofs.Common.{◌<◌, length, arith, sym, ◌∙◌, length-set, [], false}
 use Rattle.std.proofs.lemmas.List.Elements.{All-get_or}
 use Rattle.vr_disk.specs.declared.sector.Sector.{Sector}
+use Rattle.vr_mem.specs.declared.bytes.MemBytes.{MemBytes}
 use Rattle.vr_mem.specs.declared.cells.MemReads.TheVariants as reads
 use Rattle.vr_mem.specs.declared.cells.MemWaiting.{MemWaiting}
 use Rattle.vr_mem.specs.declared.cells.MemRoom.{MemRoom}
@@ -11,11 +12,14 @@ use Rattle.vr_mem.proofs.cells.settle_all.Goals as goal
 abbrev no_sector : Sector
 no_sector = record { bytes = [] }
 
+abbrev no_bytes : MemBytes
+no_bytes = record { zeros = false; sector = no_sector }
+
 abbrev no_room : MemRoom
-no_room = record { one = no_sector; two = no_sector; turned = false; reads = reads.Truth; lie = no_sector }
+no_room = record { turned = false; reads = reads.Truth; one = no_bytes; two = no_bytes; lie = no_sector }
 
 abbrev no_waiting : MemWaiting
-no_waiting = record { index = 0; again = false; truth = no_sector; reads = reads.Truth; lie = no_sector; before = no_sector }
+no_waiting = record { index = 0; again = false; reads = reads.Truth; truth = no_bytes; before = no_bytes; lie = no_sector }
 
 pub loop-w-preserved : goal.loop-w-preserved
 loop-w-preserved c =

@@ -1,10 +1,10 @@
 use Rattle.std.proofs.Common.{refl}
 use Rattle.vr_mem.proofs.Kept.{face_made}
-use Rattle.vr_mem.proofs.Made.{whole_made, zeros_copies}
+use Rattle.vr_mem.proofs.Made.{whole_made}
 use Rattle.vr_mem.proofs.cells.MemFace.new.Goals as goal
 
 pub returns-clause-face : goal.returns-clause-face
 returns-clause-face c = face_made _ c.in_ok-with_capacity.ensures.items
 
 pub returns-clause-whole : goal.returns-clause-whole
-returns-clause-whole c = whole_made _ c.in_ok-with_capacity.ensures.items refl c.in_ok-with_capacity.ensures.capacity c.in_ok-with_capacity-2.ensures.capacity zeros_copies
+returns-clause-whole c = whole_made _ c.in_ok-with_capacity.ensures.items refl c.in_ok-with_capacity.ensures.capacity c.in_ok-with_capacity-2.ensures.capacity

@@ -1,8 +1,8 @@
-use Rattle.std.proofs.Common.{◌∙◌, ap, arith, sym}
+use Rattle.std.proofs.Common.{◌∙◌, ap, arith, sym, Some}
 use Rattle.vr_disk.specs.DiskState.{Cell}
 use Rattle.vr_mem.specs.Seen.{room_of}
 use Rattle.vr_mem.proofs.Kept.{seen_behind, seen_here}
-use Rattle.vr_mem.proofs.Made.{zero_reads}
+use Rattle.vr_mem.proofs.Made.{zero_reads, zeros_copies}
 use Rattle.vr_mem.proofs.cells.MemFace.reading.Goals as goal
 
 pub returns-then-at-len : goal.returns-then-at-len
@@ -12,5 +12,5 @@ returns-then-at-len c =
 
 pub returns-else-at-len : goal.returns-else-at-len
 returns-else-at-len c =
-    rw c.requires.face.zeros
-    (zero_reads ∙ ap (λ (c : Cell). c.reads) (sym (seen_behind c.args.self.now.cells.items c.args.index (let n = c.len.ensures in let t = c.if-at-len.false in omega arith) c.requires.index)))
+    ap Some zeros_copies
+    ∙ (zero_reads ∙ ap (λ (c : Cell). c.reads) (sym (seen_behind c.args.self.now.cells.items c.args.index (let n = c.len.ensures in let t = c.if-at-len.false in omega arith) c.requires.index)))

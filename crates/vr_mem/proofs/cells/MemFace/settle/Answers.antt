@@ -16,4 +16,4 @@ returns-clause-after c = grind (arith, common_steps)
 
 pub returns-clause-face : goal.returns-clause-face
 returns-clause-face c =
-    settled_is c.args.self.now _ c.requires (rw (returns-clause-after c) (face_settled c.args.code (face_of c.args.self.now) c.requires.face)) refl (grind (arith, common_steps)) c.requires.space refl refl
+    settled_is c.args.self.now _ c.requires (rw (returns-clause-after c) (face_settled c.args.code (face_of c.args.self.now) c.requires.face)) refl (grind (arith, common_steps)) c.requires.space refl

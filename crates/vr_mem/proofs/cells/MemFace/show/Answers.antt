@@ -8,4 +8,4 @@ returns-clause-after c =
     lied_cells c.args.self.now.cells.items c.keep.new.cells.items (take c.args.self.now.count c.args.self.now.waiting.items) c.args.index c.index_mut.result.now c.show.new.self (Some c.args.sector.now.bytes) c.keep.ensures.cells c.keep.ensures.kept c.keep.ensures.count c.index_mut.ensures.value c.show.ensures.cell
 
 pub returns-clause-face : goal.returns-clause-face
-returns-clause-face c = lied_is c.args.self.now _ c.args.index (Some c.args.sector.now.bytes) c.requires.face c.requires.index (λ b e. let same : c.args.sector.now.bytes ≡ b = cc in subst IsContent same c.show.ensures.content) (returns-clause-after c) (rw length-set c.keep.ensures.count) (rw length-set c.keep.ensures.grown) c.keep.ensures.space refl refl refl
+returns-clause-face c = lied_is c.args.self.now _ c.args.index (Some c.args.sector.now.bytes) c.requires.face c.requires.index (λ b e. let same : c.args.sector.now.bytes ≡ b = cc in subst IsContent same c.show.ensures.content) (returns-clause-after c) (rw length-set c.keep.ensures.count) (rw length-set c.keep.ensures.grown) c.keep.ensures.space refl refl

@@ -46,4 +46,3 @@ returns-clause-face c =
     c.keep.ensures.space
     c.note-self.ensures.count
     (let r = c.requires.face.room in let l = c.note-self.ensures.capacity in omega arith)
-    refl

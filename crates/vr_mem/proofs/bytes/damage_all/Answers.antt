@@ -3,7 +3,7 @@ use Rattle.std.specs.Prelude.{bit_xor, map}
 use Rattle.std.proofs.lemmas.Grind.{common_steps}
 use Rattle.std.proofs.lemmas.List.{take_all, drop_all}
 use Rattle.std.proofs.lemmas.List.Edits.{map_over_more}
-use Rattle.vr_mem.proofs.cells.damage_all.Goals as goal
+use Rattle.vr_mem.proofs.bytes.damage_all.Goals as goal
 
 pub loop-i-preserved : goal.loop-i-preserved
 loop-i-preserved c = grind (arith, common_steps, map_over_more (λ b. bit_xor b 255))
