@@ -69,15 +69,15 @@ whole_looked ver f s p held r h e k =
 
 -- ---- a header sector, by its two parts
 
-both_true : (a b : Bool) → a ≡ true → b ≡ true → (a && b) ≡ true
+pub both_true : (a b : Bool) → a ≡ true → b ≡ true → (a && b) ≡ true
 both_true a b e k = rw (e, k) refl
 
-same_bool : (a b : Bool) → (a ≡ true → b ≡ true) → (b ≡ true → a ≡ true) → a ≡ b
+pub same_bool : (a b : Bool) → (a ≡ true → b ≡ true) → (b ≡ true → a ≡ true) → a ≡ b
 same_bool true b h k = sym (h refl)
 same_bool false true h k = k refl
 same_bool false false h k = refl
 
-both_parts : (x y u v : List ℕ) → length x ≡ length u → x ++ y ≡ u ++ v → (x ≡ u) × (y ≡ v)
+pub both_parts : (x y u v : List ℕ) → length x ≡ length u → x ++ y ≡ u ++ v → (x ≡ u) × (y ≡ v)
 both_parts x y u v n e =
     (sym (take_at x y (length u) n) ∙ (ap (take (length u)) e ∙ take_at u v (length u) refl), sym (drop_at x y (length u) n) ∙ (ap (drop (length u)) e ∙ drop_at u v (length u) refl))
 

@@ -1,5 +1,6 @@
 pub mod Calls
 pub mod Early
+pub mod Ending
 pub mod Lies
 pub mod Opening
 pub mod Premise

@@ -13,7 +13,7 @@ use Rattle.vr_lie.specs.Table.{HeldBegun, HeldCut, IsTable, held_of, slot_at, ta
 use Rattle.vr_lie.proofs.Slotted.{SameSlot, header_slot, part_slot, same_entry, same_slot}
 
 abbrev pub no_held : Held
-no_held = record { some = false; prepare = [] }
+no_held = record { some = false; short = false; prepare = [] }
 
 pub at_table : (held : List Held) (slot : ℕ) → slot < length held → held_at (table_of held) slot ≡ held_of (get_or held slot no_held)
 at_table held s l = get_or-map held_of held s no_held None l

@@ -1,14 +1,18 @@
 //! What the slots hold.
-ghost use Rattle.std.specs.Prelude.{◌≡◌, ◌≤◌, ◌<◌, None, Some, IfSome, if◌then◌else◌, length, slice_set};
+ghost use Rattle.std.specs.Prelude.{◌≡◌, ◌≤◌, ◌<◌, ◌*◌, None, Some, IfSome, if◌then◌else◌, length, nat_eq, slice_set, take};
+ghost use Rattle.std.specs.Cmp.Lexicographic.{pointwise};
+ghost use Rattle.vr_base.specs.Bytes.{piece};
 ghost use Rattle.vr_disk.specs.DiskState.{Sync, Write, after, settle};
 ghost use Rattle.vr_lie.specs.Faults.{HeldAfter, HeldLooked, held_at};
-ghost use Rattle.vr_rings.specs.Held.{found, held_after, held_begun, is_prepare, keeps, kept, looked};
+ghost use Rattle.vr_rings.specs.Held.{found, header_sector, held_after, held_begun, is_prepare, keeps, kept, looked};
+ghost use Rattle.vr_rings.specs.Readings.{Begins};
+ghost use Rattle.vr_rings.specs.Slots.{in_front, size_at};
 ghost use Rattle.vr_disk.specs.Sectors.{has};
-ghost use Rattle.vr_lie.specs.Table.{HeldBegun, HeldCut, IsOwnHeader, IsTable, held_of, slot_at, slot_in, table_of};
+ghost use Rattle.vr_lie.specs.Table.{HeldBegun, HeldCut, IsOwnHeader, IsTable, held_of, prepare_of, slot_at, slot_in, table_of};
 ghost use Rattle.vr_mem.specs.Cells.{disk_of};
 
-use crate::reading::{begins_alike, has_header, is_prepare};
-use vr_base::Version;
+use crate::reading::{begins_alike, ends_first, has_header, is_prepare, read_first};
+use vr_base::{Version, is_zeros, u32_at};
 use vr_disk::{
     SECTOR_SIZE, SECTORS, Sector, header_place, prepare_place, prepare_sectors, sector_at,
 };
@@ -19,6 +23,8 @@ use vr_rings::{header_sector, read_bytes, read_front, whole_front};
 #[derive(Clone, Copy)]
 pub struct Held {
     pub some: bool,
+    /// The entry ends in the first sector: in the slot zeros stand behind it, and what stands behind it here means nothing.
+    pub short: bool,
     /// Its header, its body and zeros. What stands here where nothing is held stays: to clear it would only take time.
     pub prepare: [u8; 4096],
 }
@@ -29,8 +35,61 @@ impl Held {
     {
         Held {
             some: false,
+            short: false,
             prepare: [0; 4096],
         }
+    }
+
+    /// The prepare of the entry that it holds.
+    pub fn whole(&self) -> [u8; 4096]
+        ensures { result ≡ prepare_of self.now }
+    {
+        let mut whole = self.prepare;
+        if self.short {
+            let (_, rest) = whole.split_at_mut(SECTOR_SIZE);
+            rest.fill(0);
+        }
+        whole
+    }
+
+    // The first sector of this prepare.
+    fn first(&self) -> &[u8]
+        ensures first { result.now ≡ take 512 self.now.prepare }
+        ensures size { length result.now ≡ 512 }
+        ensures header { header_sector result.now ≡ header_sector (prepare_of self.now) }
+    {
+        let (first, _) = self.prepare.split_at(SECTOR_SIZE);
+        first
+    }
+
+    // Whether these are the bytes of this prepare.
+    #[tactic(auto, using(std::proofs::lemmas::Grind::common_steps, crate::proofs::Ending::front_parts))]
+    fn is_whole(&self, bytes: &[u8; 4096]) -> bool
+        ensures { result ≡ pointwise nat_eq (prepare_of self.now) bytes.now }
+    {
+        if !self.short {
+            return self.prepare == *bytes;
+        }
+        let (first, rest) = bytes.split_at(SECTOR_SIZE);
+        self.first() == first && is_zeros(rest)
+    }
+
+    // Whether these are the bytes of sector k of this prepare.
+    fn is_sector(&self, k: u32, bytes: &[u8]) -> bool
+        requires k { k < 8 }
+        requires size { length bytes.now ≡ 512 }
+        ensures { result ≡ pointwise nat_eq bytes.now (piece (512 * k) 512 (prepare_of self.now)) }
+    {
+        if k == 0 {
+            return bytes == self.first();
+        }
+        if self.short {
+            return is_zeros(bytes);
+        }
+        bytes
+            == sector_at(&self.prepare, SECTOR_SIZE * k as usize)
+                .bytes
+                .as_slice()
     }
 }
 
@@ -65,10 +124,10 @@ pub fn slot_of(i: u32, version: Version) -> Option<u32>
 }
 
 // Whether a slot holds the entry with this prepare.
-fn is_held(held: &Held, bytes: &[u8]) -> bool
+fn is_held(held: &Held, bytes: &[u8; 4096]) -> bool
     ensures { result ≡ has bytes.now (held_of held.now) }
 {
-    held.some && held.prepare.as_slice() == bytes
+    held.some && held.is_whole(bytes)
 }
 
 // A slot holds the entry that it reads as, where these are an entry's bytes. Those of the one that it holds aren't hashed.
@@ -82,12 +141,12 @@ fn find(disk: &mut CellDisk, bytes: &[u8; 4096], held: &mut Held)
     }
     if is_prepare(disk, bytes) {
         held.prepare = *bytes;
+        held.short = false;
         held.some = true;
     }
 }
 
 // Looks at a slot that holds an entry, and whose header sector is that of the prepare beside it.
-#[tactic(auto, using(std::proofs::lemmas::Grind::common_steps, crate::proofs::Early::none_looked))]
 fn look_held(disk: &mut CellDisk, slot: u32, held: &mut Held, version: Version)
     requires slot { slot < 64 }
     requires own { IsOwnHeader version (disk_of disk.old).face slot }
@@ -95,15 +154,48 @@ fn look_held(disk: &mut CellDisk, slot: u32, held: &mut Held, version: Version)
     ensures faults { disk.new.faults ≡ disk.old.faults }
     ensures value { held_of held.new ≡ looked version (disk_of disk.old).face slot (held_of held.old) }
 {
-    let mut bytes = held.prepare;
+    let mut bytes = [0; 4096];
     if read_bytes(disk, slot, &mut bytes, version) {
         find(disk, &bytes, held);
     }
 }
 
+// Whether a slot whose header sector is that of the prepare beside it reads as an entry that ends in the first sector of
+// this prepare, which reads as these bytes and tells so. Where anything but zeros stands behind it, it reads as none.
+fn is_short(disk: &mut CellDisk, slot: u32, first: &[u8], version: Version) -> bool
+    requires slot { slot < 64 }
+    requires own { IsOwnHeader version (disk_of disk.old).face slot }
+    requires size { length first.now ≡ 512 }
+    requires first { Begins version (disk_of disk.old).face slot first.now }
+    requires short { size_at first.now ≤ 512 }
+    ensures told { disk_of disk.new ≡ disk_of disk.old }
+    ensures faults { disk.new.faults ≡ disk.old.faults }
+    ensures value { (if result then Some (in_front first.now) else None) ≡ looked version (disk_of disk.old).face slot None }
+{
+    ends_first(disk, slot, version) && whole_front(disk, first).is_some()
+}
+
+// As `look_free`, of an entry that goes on behind its first sector, whatever it is.
+fn look_long(disk: &mut CellDisk, slot: u32, held: &mut Held, version: Version)
+    requires slot { slot < 64 }
+    requires own { IsOwnHeader version (disk_of disk.old).face slot }
+    requires free { held_of held.old ≡ None }
+    ensures told { disk_of disk.new ≡ disk_of disk.old }
+    ensures faults { disk.new.faults ≡ disk.old.faults }
+    ensures value { held_of held.new ≡ looked version (disk_of disk.old).face slot None }
+{
+    held.short = false;
+    let count = prepare_sectors(version);
+    let (front, rest) = held.prepare.split_at_mut(SECTOR_SIZE * count as usize);
+    rest.fill(0);
+    if read_front(disk, slot, front, version) {
+        held.some = whole_front(disk, front).is_some();
+    }
+}
+
 // Looks at a slot that holds nothing, and whose header sector is that of the prepare beside it. It is read where the entry
-// then stands: nothing is lost there.
-#[tactic(auto, using(std::proofs::lemmas::Grind::common_steps, crate::proofs::Early::none_looked))]
+// then stands: nothing is lost there. Nearly all end in their first sector, and then only this one is kept.
+#[tactic(auto, unfolding(vr_rings::specs::Slots::size_at))]
 fn look_free(disk: &mut CellDisk, slot: u32, held: &mut Held, version: Version)
     requires slot { slot < 64 }
     requires own { IsOwnHeader version (disk_of disk.old).face slot }
@@ -112,11 +204,15 @@ fn look_free(disk: &mut CellDisk, slot: u32, held: &mut Held, version: Version)
     ensures faults { disk.new.faults ≡ disk.old.faults }
     ensures value { held_of held.new ≡ looked version (disk_of disk.old).face slot None }
 {
-    let count = prepare_sectors(version);
-    let (front, rest) = held.prepare.split_at_mut(SECTOR_SIZE * count as usize);
-    rest.fill(0);
-    if read_front(disk, slot, front, version) {
-        held.some = whole_front(disk, front).is_some();
+    let (first, _) = held.prepare.split_at_mut(SECTOR_SIZE);
+    if !read_first(disk, slot, first, version) {
+        return;
+    }
+    if u32_at(first, 104) <= 512 {
+        held.some = is_short(disk, slot, first, version);
+        held.short = true;
+    } else {
+        look_long(disk, slot, held, version);
     }
 }
 
@@ -171,30 +267,28 @@ pub fn look_all(disk: &mut CellDisk, held: &mut [Held], version: Version)
     }
 }
 
-// Whether a write leaves it that a slot holds the entry with this prepare.
-#[tactic(auto, unfolding(vr_rings::specs::Held::keeps, vr_base::specs::Bytes::piece))]
+// Whether a write leaves it that a slot holds this entry.
+#[tactic(auto, unfolding(vr_rings::specs::Held::keeps))]
 fn keeps(
     disk: &mut CellDisk,
     slot: u32,
     i: u32,
     bytes: &[u8],
-    prepare: &[u8],
+    held: &Held,
     version: Version,
 ) -> bool
     requires slot { slot < 64 }
     requires size { length bytes.now ≡ 512 }
-    requires prepare { length prepare.now ≡ 4096 }
     ensures told { disk_of disk.new ≡ disk_of disk.old }
     ensures faults { disk.new.faults ≡ disk.old.faults }
-    ensures value { result ≡ keeps version (disk_of disk.old).face slot i bytes.now prepare.now }
+    ensures value { result ≡ keeps version (disk_of disk.old).face slot i bytes.now (prepare_of held.now) }
 {
     if i == header_place(slot) {
-        return bytes == header_sector(prepare).bytes.as_slice();
+        return bytes == header_sector(held.first()).bytes.as_slice();
     }
     let first = prepare_place(slot, version);
     if first <= i && i < first + prepare_sectors(version) {
-        let part = sector_at(prepare, SECTOR_SIZE * (i - first) as usize);
-        return has_header(disk, slot, prepare) && bytes == part.bytes.as_slice();
+        return has_header(disk, slot, held.first()) && held.is_sector(i - first, bytes);
     }
     true
 }
@@ -214,7 +308,7 @@ fn keeps_held(
     ensures value { kept version (disk_of disk.old).face slot i from.now.bytes (held_of held.now) ≡ (if result then held_of held.now else None) }
 {
     if held.some {
-        keeps(disk, slot, i, &from.bytes, &held.prepare, version)
+        keeps(disk, slot, i, &from.bytes, held, version)
     } else {
         true
     }

@@ -1,18 +1,16 @@
-use Rattle.std.proofs.Common.{◌++◌, ◌-◌, ◌≡◌, ◌∙◌, None, Some, List, ℕ, ap, arith, cond, length}
-use Rattle.std.specs.Prelude.{is_some, replicate}
+use Rattle.std.proofs.Common.{◌∙◌, ap, cond, None, Some, List, ℕ}
+use Rattle.std.proofs.lemmas.List.{take_at}
 use Rattle.vr_mem.specs.Cells.{disk_of}
-use Rattle.vr_rings.specs.Slots.{in_front, whole_of}
-use Rattle.vr_lie.proofs.Early.{free_found, front_held, some_map, whole_looked}
+use Rattle.vr_rings.specs.Slots.{in_front}
+use Rattle.vr_lie.proofs.Ending.{still_free, unread_looked}
 use Rattle.vr_lie.proofs.table.look_free.Goals as goal
 
-pub returns-then-read_front-clause-value : goal.returns-then-read_front-clause-value
-returns-then-read_front-clause-value c =
-    let b = c.read_front.new.to in
-    let z = c.fill.new.self in
-    let s = c.is_some-held.result in
-    let zeros : z ≡ replicate (length c.split_at_mut-front.result.1.now) 0 = c.fill.ensures.after (λ y e. e) in
-    let long : length c.split_at_mut-front.result.1.now ≡ 4096 - length b = (let l = c.split_at_mut-front.ensures.back_len in let n = c.read_front.ensures.size in let k = c.prepare_sectors-count.ensures.count in omega (arith, l, n, k)) in
-    let same : b ++ z ≡ in_front b = front_held b z (length c.split_at_mut-front.result.1.now) zeros long in
-    let whole = c.is_some-held.ensures ∙ (ap is_some c.whole_front.ensures.value ∙ some_map _ (whole_of (in_front b))) in
-    whole_looked c.args.version (disk_of c.args.disk.now).face c.args.slot (in_front b) None (cond s (Some (b ++ z)) None) c.requires.own c.if-read_front.ensures.value
-    (ap (λ (p : List ℕ). cond s (Some p) None) same ∙ free_found s (in_front b) whole)
+pub returns-then-not-read_first-clause-value : goal.returns-then-not-read_first-clause-value
+returns-then-not-read_first-clause-value c = still_free c.args.held.now.some _ _ c.requires.free ∙ unread_looked c.args.version (disk_of c.args.disk.now).face c.args.slot c.if-not-read_first.ensures.value
+
+pub look_long-requires-clause-free : goal.look_long-requires-clause-free
+look_long-requires-clause-free c = still_free c.args.held.now.some _ _ c.requires.free
+
+pub returns-then-u32_at-le512-clause-value : goal.returns-then-u32_at-le512-clause-value
+returns-then-u32_at-le512-clause-value c =
+    ap (λ (p : List ℕ). cond c.is_short-held.result (Some (in_front p)) None) (take_at c.read_first.new.to c.split_at_mut-first.result.1.now 512 c.read_first.ensures.size) ∙ c.is_short-held.ensures.value
