@@ -15,6 +15,7 @@ use Rattle.vr_msg.specs.Normal.{same_sum}
 use Rattle.law_2_chains.specs.Replica.{replication}
 use Rattle.law_2_chains.specs.Group as group
 use Rattle.law_2_chains.specs.Group.{Played, fresh_group}
+use Rattle.law_2_chains.specs.Lone.{vouch_for}
 use Rattle.law_2_chains.specs.Steps.{Effect}
 use Rattle.law_2_chains.specs.Storing.{done_in, run_stored, stored_from, stored_of, until_said}
 use Rattle.law_2_chains.proofs.Finishing.{committed_more, said_more}
@@ -30,7 +31,7 @@ use Rattle.law_2_chains.specs.Reflecting.{entries_by}
 use Rattle.law_2_chains.specs.Commitment as said
 use Rattle.law_2_chains.specs.Commitment.{Evidence, HasSent, IsCommitted, Stored}
 use Rattle.law_2_chains.specs.Safe.{before, run_outputs}
-use Rattle.law_3_outputs.specs.Followed.{IsFollowed, IsFrom, by_then, own_vouches, stored_until, vouch_of}
+use Rattle.law_3_outputs.specs.Followed.{IsFollowed, IsFrom, by_then, own_vouches, stored_until}
 use Rattle.law_2_chains.proofs.StoredLists.{in_contains}
 use Rattle.law_3_outputs.proofs.Sets.{in_get, in_left, in_right, set_of}
 use Rattle.law_3_outputs.proofs.Stored.{OwnVouch, next_before, own_more, own_of, stored_front, stored_next}
@@ -111,13 +112,13 @@ module _ (cluster n : ℕ) (u : Setup) (run : List Played) (x : IsFollowed clust
     -- a vouch for what had been stored
     alone_back : (view k r : ℕ) (c : Header) → OwnVouch u by.stored (machine.Prepare_ok r view k c) → said.Vouches n by view r c
     alone_back view k r c y =
-        let from : r ≡ 0 = (let e : machine.Prepare_ok r view k c ≡ vouch_of y.of = y.is in cc) in
-        let of_view : y.of.view ≡ view = (let e : machine.Prepare_ok r view k c ≡ vouch_of y.of = y.is in cc) in
-        let of_header : y.of.header ≡ c = (let e : machine.Prepare_ok r view k c ≡ vouch_of y.of = y.is in cc) in
+        let from : r ≡ 0 = (let e : machine.Prepare_ok r view k c ≡ vouch_for 0 y.of = y.is in cc) in
+        let of_view : y.of.view ≡ view = (let e : machine.Prepare_ok r view k c ≡ vouch_for 0 y.of = y.is in cc) in
+        let of_header : y.of.header ≡ c = (let e : machine.Prepare_ok r view k c ≡ vouch_for 0 y.of = y.is in cc) in
         said.alone (sym x.size_is ∙ y.alone) from (subst (Contains by.stored) (stored_is y.of view c of_view of_header) (in_contains y.of by.stored y.among))
 
     not_prepared : (view k r commit : ℕ) (c : Header) → OwnVouch u by.stored (machine.Prepare r view k c commit) → ⊥
-    not_prepared view k r commit c y = let e : machine.Prepare r view k c commit ≡ vouch_of y.of = y.is in absurd cc
+    not_prepared view k r commit c y = let e : machine.Prepare r view k c commit ≡ vouch_for 0 y.of = y.is in absurd cc
 
     vouch_back : (view k r : ℕ) (c : Header) → c.op ≡ k → Vouches u.quorums (by_then u (x.group t) p number) r view k c → said.Vouches n by view r c
     vouch_back view k r c op (inl i) =

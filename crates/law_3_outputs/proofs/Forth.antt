@@ -10,6 +10,7 @@ use Rattle.vr_header.specs.Spelling.{IsHeader, named_bytes}
 use Rattle.vr_header.proofs.NameLaws.{one_header}
 use Rattle.law_2_chains.specs.Replica.{replication}
 use Rattle.law_2_chains.specs.Group.{Played}
+use Rattle.law_2_chains.specs.Lone.{vouch_for}
 use Rattle.law_2_chains.specs.Steps.{Write}
 use Rattle.law_2_chains.specs.Storing.{run_stored, stored_of}
 use Rattle.law_1_machine.specs.Basics.{In}
@@ -30,7 +31,7 @@ use Rattle.law_2_chains.specs.Commitment as said
 use Rattle.law_2_chains.specs.Commitment.{IsCommitted, Stored}
 use Rattle.law_2_chains.specs.Safe.{IsHashed, wrote, IsWritten, evidence, run_outputs}
 use Rattle.law_2_chains.specs.Safe as safe
-use Rattle.law_3_outputs.specs.Followed.{IsFollowed, by_then, own_vouches, stored_until, vouch_of}
+use Rattle.law_3_outputs.specs.Followed.{IsFollowed, by_then, own_vouches, stored_until}
 use Rattle.law_2_chains.proofs.StoredLists.{contains_in, in_contains}
 use Rattle.law_3_outputs.proofs.Sets.{get_in}
 use Rattle.law_3_outputs.proofs.Stored.{own_in, own_more, stored_of_move, until_all}
@@ -69,11 +70,11 @@ module _ (cluster n : ℕ) (u : Setup) (run : List Played) (x : IsFollowed clust
       ]
 
   -- what was stored in the run
-  stored_told : n ≡ 1 → (z : Stored) → Contains (run_stored run) z → In (vouch_of z) end.sent
+  stored_told : n ≡ 1 → (z : Stored) → Contains (run_stored run) z → In (vouch_for 0 z) end.sent
   stored_told one z h =
       let y = stored_of_move run z (contains_in z (run_stored run) h) in
       let within = slice_get_within run y.0 y.1 y.2 in
-      sent_later cluster n u run x (length run) (suc y.0) (omega arith) (omega arith) (vouch_of z) ((x.carried y.0 y.1 y.2).vouched (vouch_of z) (own_in u (stored_of y.1) z (x.size_is ∙ one) y.3))
+      sent_later cluster n u run x (length run) (suc y.0) (omega arith) (omega arith) (vouch_for 0 z) ((x.carried y.0 y.1 y.2).vouched (vouch_for 0 z) (own_in u (stored_of y.1) z (x.size_is ∙ one) y.3))
 
   -- who vouches by what was put out and stored vouches in the machine, for a header of that name
   pub vouch_told : (view r : ℕ) (c : Header) → said.Vouches n (evidence run) view r c → (h : Header) × VouchedFor r view c.op h × (header_name h ≡ header_name c)

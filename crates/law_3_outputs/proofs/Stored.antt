@@ -9,26 +9,27 @@ use Rattle.vr_super.specs.Copies.{SuperValue}
 use Rattle.vr_msg.specs.declared.output.Output.{Output}
 use Rattle.law_2_chains.specs.Commitment.{Stored}
 use Rattle.law_2_chains.specs.Group.{Group, Member, Played, Run, ended, goes}
+use Rattle.law_2_chains.specs.Lone.{vouch_for}
 use Rattle.law_2_chains.specs.Replica.{Replica}
 use Rattle.law_2_chains.specs.Steps.{Effect, Write, Rewrite, Save, Mend, Checkpoint, PutBlock, Say}
 use Rattle.law_2_chains.specs.Storing.{done_in, here_in, in_view, names, run_stored, stored_at, stored_by, stored_from, stored_of, until_said}
 use Rattle.law_1_machine.specs.Basics.{In}
 use Rattle.law_1_machine.specs.Members.{Message}
 use Rattle.law_2_chains.specs.Chains.{Setup}
-use Rattle.law_3_outputs.specs.Followed.{own_vouches, stored_until, vouch_of}
+use Rattle.law_3_outputs.specs.Followed.{own_vouches, stored_until}
 use Rattle.law_3_outputs.proofs.Sets.{in_left, in_right}
 use Rattle.law_3_outputs.proofs.Traces.{in_either}
 
 -- ---- its vouches
 
-vouches_in : (xs : List Stored) (m : Message Header) → In m (map vouch_of xs) → (x : Stored) × In x xs × (m ≡ vouch_of x)
+vouches_in : (xs : List Stored) (m : Message Header) → In m (map (vouch_for 0) xs) → (x : Stored) × In x xs × (m ≡ vouch_for 0 x)
 vouches_in [] m h = absurd h
 vouches_in (x ∷ xs) m (inl e) = (x, inl refl, e)
 vouches_in (x ∷ xs) m (inr h) = let y = vouches_in xs m h in (y.0, inr y.1, y.2)
 
-in_vouches : (xs : List Stored) (x : Stored) → In x xs → In (vouch_of x) (map vouch_of xs)
+in_vouches : (xs : List Stored) (x : Stored) → In x xs → In (vouch_for 0 x) (map (vouch_for 0) xs)
 in_vouches [] x h = absurd h
-in_vouches (y ∷ xs) x (inl e) = inl (ap vouch_of e)
+in_vouches (y ∷ xs) x (inl e) = inl (ap (vouch_for 0) e)
 in_vouches (y ∷ xs) x (inr h) = inr (in_vouches xs x h)
 
 -- one of them
@@ -36,17 +37,17 @@ pub record OwnVouch (u : Setup) (xs : List Stored) (m : Message Header) : Type 0
   pub alone : u.quorums.n ≡ 1
   pub of : Stored
   pub among : In of xs
-  pub is : m ≡ vouch_of of
+  pub is : m ≡ vouch_for 0 of
 
 pub own_of : (u : Setup) (xs : List Stored) (m : Message Header) → In m (own_vouches u xs) → OwnVouch u xs m
 unfolding own_vouches
 own_of u xs m h =
-    elim (eqb u.quorums.n 1) as (λ b. eqb u.quorums.n 1 ≡ b → In m (cond b (map vouch_of xs) []) → OwnVouch u xs m) [
+    elim (eqb u.quorums.n 1) as (λ b. eqb u.quorums.n 1 ≡ b → In m (cond b (map (vouch_for 0) xs) []) → OwnVouch u xs m) [
       | true ↦ λ e i. let y = vouches_in xs m i in record { alone = eqb-true u.quorums.n 1 e; of = y.0; among = y.1; is = y.2 }
       | false ↦ λ e i. absurd i
     ] refl h
 
-pub own_in : (u : Setup) (xs : List Stored) (x : Stored) → u.quorums.n ≡ 1 → In x xs → In (vouch_of x) (own_vouches u xs)
+pub own_in : (u : Setup) (xs : List Stored) (x : Stored) → u.quorums.n ≡ 1 → In x xs → In (vouch_for 0 x) (own_vouches u xs)
 unfolding own_vouches
 own_in u xs x alone h = rw alone (in_vouches xs x h)
 

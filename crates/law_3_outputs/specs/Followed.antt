@@ -26,6 +26,7 @@ use Rattle.law_2_chains.specs.Group.{Played, Run, fresh_group, made_in}
 use Rattle.law_2_chains.specs.Files.{IsOfFile}
 use Rattle.law_2_chains.specs.GroupFit.{IsFitMove}
 use Rattle.law_2_chains.specs.Opening.{AreKinds}
+use Rattle.law_2_chains.specs.Lone.{vouch_for}
 use Rattle.law_2_chains.specs.Replica.{Replica, version}
 use Rattle.law_2_chains.specs.Steps.{outputs}
 use Rattle.law_2_chains.specs.Storing.{done_in, stored_from, stored_of, until_said}
@@ -33,7 +34,7 @@ use Rattle.law_2_chains.specs.Words.{log_end}
 use Rattle.law_1_machine.specs.Basics.{In}
 use Rattle.law_1_machine.specs.Group.{Group, Made}
 use Rattle.law_1_machine.specs.Laws.{Committed}
-use Rattle.law_1_machine.specs.Members.{Choice, Message, Prepare_ok}
+use Rattle.law_1_machine.specs.Members.{Choice, Message}
 use Rattle.law_2_chains.specs.Reflecting.{entries_by}
 use Rattle.law_2_chains.specs.Bridge.{ServesWell}
 use Rattle.law_2_chains.specs.Chains.{Setup, IsBackedLine, IsReached, WasSent}
@@ -45,11 +46,8 @@ use Rattle.law_2_chains.specs.Safe.{IsHashed, actor, all_heard, event_of, heard_
 -- ---- a group of one
 
 -- the vouches of its replica in the machine, for what it had stored; of another group none
-abbrev pub vouch_of : Stored → Message Header
-vouch_of x = Prepare_ok 0 x.view x.header.op x.header
-
 unfoldable pub own_vouches : Setup → List Stored → List (Message Header)
-own_vouches u xs = if u.quorums.n == 1 then map vouch_of xs else []
+own_vouches u xs = if u.quorums.n == 1 then map (vouch_for 0) xs else []
 
 -- what it had stored by the time at which a move puts out the output of this number
 abbrev pub stored_until : Played → ℕ → List Stored
