@@ -17,6 +17,9 @@ pub enum Put {
     Other(Output),
 }
 
+/// Room in bytes for the text of what most lines put out.
+const TEXT_ROOM: usize = 256;
+
 /// What is put out, in order, and its text.
 #[derive(Drop)]
 pub struct Outputs {
@@ -26,15 +29,15 @@ pub struct Outputs {
 }
 
 impl Outputs {
-    /// Nothing.
+    /// Nothing, with room for the text of a line.
     #[tactic(auto, using(std::proofs::lemmas::Grind::common_steps, crate::proofs::Numbering::text_none))]
-    pub fn new(alloc: Global) -> Outputs
-        ensures { result ≡ outputs_of [] }
+    pub fn new(alloc: Global) -> Result<Outputs, AllocError>
+        ensures { IfOk result (λ outputs. outputs ≡ outputs_of []) }
     {
-        Outputs {
+        Ok(Outputs {
             puts: Seq::new(alloc),
-            text: ByteList::new(alloc),
-        }
+            text: ByteList::from_vec(Vec::with_capacity(alloc, TEXT_ROOM)?),
+        })
     }
 }
 

@@ -136,7 +136,7 @@ impl World {
         ensures stopped { OnErr result (self.new.live ≡ false) }
     {
         self.live = false;
-        let mut outputs = Outputs::new(alloc);
+        let mut outputs = Outputs::new(alloc)?;
         self.members.happen(alloc, line, &mut outputs)?;
         if let Line::Cluster { kind, .. } = line {
             self.version = kind.version;
@@ -161,7 +161,7 @@ impl World {
         ensures headline { OnOk result ((kind : Kind) → IsJustMade kind self.old.world → length lines.now < 2 ^ 60 → LinesKeepOneLog kind self.old.world.n lines.now) }
     {
         self.live = false;
-        let mut outputs = Outputs::new(alloc);
+        let mut outputs = Outputs::new(alloc)?;
         happen_all(&mut self.members, alloc, lines, &mut outputs)?;
         self.live = true;
         Ok(outputs)
