@@ -29,16 +29,18 @@ fn a_source_in_growing_pieces_gives_the_same_bytes(rt: HostRuntime) -> Result<()
 #[test]
 fn faults_of_writes_are_told(rt: HostRuntime) -> Result<(), Fail> {
     let alloc = rt.alloc();
-    let twice = b"cluster 2\nrequest 1 7 0 register\nrequest 1 7 0 register\n";
+    // What a read gives, 3,112 bytes at most, is answered by one write.
+    let mut twice = long_schedule(alloc, 500)?;
+    twice.extend_from_slice(b"request 1 7 0 register\n")?;
     check(
         &rt,
-        ran(alloc, twice, 10, &[])?,
+        ran(alloc, &twice, 10, &[])?,
         Status::WriteFault,
         "reply 1 cl",
     );
     check(
         &rt,
-        ran(alloc, twice, 4096, &[1])?,
+        ran(alloc, &twice, 4096, &[1])?,
         Status::WriteFault,
         REDIRECTED,
     );

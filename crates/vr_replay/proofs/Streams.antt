@@ -1,6 +1,7 @@
 -- What has come of the source, line by line.
-use Rattle.std.proofs.Common.{◌≡◌, ◌<◌, ◌≤◌, ℕ, ◌+◌, List, [], ◌∷◌, ◌++◌, length, true, false, eqb, inl, inr, refl, ap, sym, ◌∙◌, arith, append_assoc, length-append, Option, Some, None}
+use Rattle.std.proofs.Common.{◌≡◌, ◌<◌, ◌≤◌, ℕ, ◌+◌, List, [], ◌∷◌, ◌++◌, length, true, false, eqb, inl, inr, refl, ap, sym, subst, ◌∙◌, arith, append_assoc, length-append, Option, Some, None, Result, Ok, Err}
 use Rattle.std.specs.Io.KnownBytes.{Appends}
+use Rattle.std.specs.Prelude.{OnOk, IfErr}
 use Rattle.std.proofs.lemmas.List.{append-nil}
 use Rattle.std.proofs.lemmas.Bool.{lt-ltb}
 use Rattle.std.proofs.lemmas.Bool.Decides.{nat_tests}
@@ -16,7 +17,7 @@ use Rattle.vr_replay.specs.declared.stop.Stop.{Stop}
 use Rattle.vr_replay.specs.declared.stop.Stop.TheVariants as stop
 use Rattle.vr_replay.specs.Playing.{Played, judged, taken, behind, and_then, plays, heard, hears, hears_lines, if_too_long, ends, IsReplay, HearsAll, Hears, Scene, scene_of, longest_line}
 use Rattle.vr_replay.specs.Schedule.{limit}
-use Rattle.vr_replay.specs.Stops.{Stopped}
+use Rattle.vr_replay.specs.Stops.{HasStopped, Stopped, Tells}
 use Rattle.vr_replay.proofs.Heard.{heard_line, heard_part}
 use Rattle.vr_group.proofs.Numbering.{text_append, text_none}
 use Rattle.vr_replay.proofs.Plays.{behind_behind, plays_append, plays_line, plays_none, and_then_refused, and_then_none, Extends, extends_refl, and_then_extends, too_long}
@@ -181,6 +182,72 @@ taking_refused before now first s a b kept m part long =
       ap (λ (p : Played). p.refused) all,
       rw (ap (λ (p : Played). text_of p.outputs) all, append-nil m.outputs) m.text,
     )
+
+-- ---- the same of a text, which nothing is written of yet
+
+pub taking_has : (a b c : List ℕ) (first s : Replay) (line rest : List ℕ) (why : Stop) → Taking first s (Some a) (Some b) → whole_lines line ≡ [] → s.lines.bytes ≡ line ++ 10 ∷ rest → HasStopped b c (taken (scene_of s.group) s.number line) why → HasStopped a c (hears_lines first) why
+taking_has a b c first s line rest (stop.Refused k) m part whole h =
+    let r = taking_stopped 0 0 0 (Some a) (Some b) (Some c) first s line rest (stop.Refused k) refl m part whole (refl, h.0, h.1) in
+    (r.1, r.2)
+taking_has a b c first s line rest stop.WriteFault m part whole h = h
+taking_has a b c first s line rest stop.NoMemory m part whole h =
+    (taking_stopped 0 0 0 (Some a) (Some b) (Some c) first s line rest stop.NoMemory refl m part whole (refl, h)).1
+
+pub taking_has_refused : (a b : List ℕ) (first s : Replay) → Taking first s (Some a) (Some b) → whole_lines s.lines.bytes ≡ [] → longest_line < length s.lines.bytes → HasStopped a b (hears_lines first) (stop.Refused (s.number + 1))
+taking_has_refused a b first s m part long =
+    let r = taking_refused 0 0 first s (Some a) (Some b) refl m part long in
+    (r.1, r.2)
+
+-- what was heard is a front of what the lines come to
+pub tells_front : (heard : Result (Unit {0}) Stop) (text : List ℕ) (t : Played) → Tells heard text t → (more : List ℕ) × (text ++ more ≡ text_of t.outputs)
+tells_front (Ok u) text t h = ([], append-nil text ∙ h)
+tells_front (Err (stop.Refused k)) text t h = ([], append-nil text ∙ h.1)
+tells_front (Err stop.WriteFault) text t h = absurd h
+tells_front (Err stop.NoMemory) text t h = (h.1, ap (λ x. x ++ h.1) h.2 ∙ h.3)
+
+-- of which a front was written
+pub front_heard : (a b : Option (List ℕ)) (heard : Result (Unit {0}) Stop) (text : List ℕ) (t : Played) → Tells heard text t → AppendsFront a b text → AppendsFront a b (text_of t.outputs)
+front_heard a b heard text t h k =
+    let f = tells_front heard text t h in
+    (k.0, k.1 ++ f.0, k.2, sym (append_assoc k.0 k.1 f.0) ∙ ap (λ x. x ++ f.0) k.3 ∙ f.1)
+
+-- and of which all was written
+pub stopped_heard : (before now : ℕ) (a b : Option (List ℕ)) (text : List ℕ) (t : Played) (why : Stop) → now ≡ before → Appends a b text → HasStopped [] text t why → Stopped before now a b t why
+stopped_heard before now a b text t (stop.Refused k) kept all h = (kept, h.0, rw (← h.1) all)
+stopped_heard before now a b text t stop.WriteFault kept all h = absurd h
+stopped_heard before now a b text t stop.NoMemory kept all h =
+    let f = tells_front (Err stop.NoMemory) text t h in
+    (kept, (text, f.0, all, f.1))
+
+pub written_all : (a b : Option (List ℕ)) (heard : Result (Unit {0}) Stop) (text : List ℕ) (t : Played) → Tells heard text t → Appends a b text → OnOk heard (Appends a b (text_of t.outputs))
+written_all a b (Ok u) text t h all = rw (← h) all
+written_all a b (Err why) text t h all = tt
+
+pub stopped_all : (before now : ℕ) (a b : Option (List ℕ)) (heard : Result (Unit {0}) Stop) (text : List ℕ) (t : Played) → now ≡ before → Tells heard text t → Appends a b text → IfErr heard (Stopped before now a b t)
+stopped_all before now a b (Ok u) text t kept h all = tt
+stopped_all before now a b (Err why) text t kept h all = stopped_heard before now a b text t why kept all h
+
+-- what a call says of its text
+pub tells_by : (heard : Result (Unit {0}) Stop) (text : List ℕ) (t : Played) → OnOk heard (text ≡ text_of t.outputs) → IfErr heard (HasStopped [] text t) → Tells heard text t
+tells_by (Ok u) text t ok err = ok
+tells_by (Err why) text t ok err = err
+
+pub tells_lines : (heard : Result (Unit {0}) Stop) (s s' : Replay) (text : List ℕ) → OnOk heard (HearsAll s s' s.lines.bytes (Some []) (Some text)) → IfErr heard (HasStopped [] text (hears_lines s)) → Tells heard text (hears_lines s)
+tells_lines (Ok u) s s' text ok err = ok.text
+tells_lines (Err why) s s' text ok err = err
+
+-- where it was written too
+written_too : (heard result : Result (Unit {0}) Stop) (s s' : Replay) (text : List ℕ) (a b : Option (List ℕ)) → OnOk result (heard ≡ result) → OnOk heard (HearsAll s s' s.lines.bytes (Some []) (Some text)) → OnOk result (Appends a b (text_of (hears_lines s).outputs)) → OnOk result (HearsAll s s' s.lines.bytes a b)
+written_too heard (Ok u) s s' text a b same ok written =
+    let h = subst (λ (r : Result (Unit {0}) Stop). OnOk r (HearsAll s s' s.lines.bytes (Some []) (Some text))) same ok in
+    record { scene = h.scene; number = h.number; accepted = h.accepted; partial = h.partial; sound = h.sound; text = written }
+written_too heard (Err why) s s' text a b same ok written = tt
+
+pub hears_written : (heard result : Result (Unit {0}) Stop) (s s' : Replay) (none to text : List ℕ) (a b : Option (List ℕ)) → none ≡ [] → text ≡ to → OnOk result (heard ≡ result) → OnOk heard (HearsAll s s' s.lines.bytes (Some none) (Some to)) → IfErr heard (HasStopped none to (hears_lines s)) → ((t : Played) → Tells heard text t → OnOk result (Appends a b (text_of t.outputs))) → OnOk result (HearsAll s s' s.lines.bytes a b)
+hears_written heard result s s' none to text a b e f same ok err written =
+    let ok' = subst (λ x. OnOk heard (HearsAll s s' s.lines.bytes (Some x) (Some text))) e (subst (λ y. OnOk heard (HearsAll s s' s.lines.bytes (Some none) (Some y))) (sym f) ok) in
+    let err' = subst (λ x. IfErr heard (HasStopped x text (hears_lines s))) e (subst (λ y. IfErr heard (HasStopped none y (hears_lines s))) (sym f) err) in
+    written_too heard result s s' text a b same ok' (written (hears_lines s) (tells_lines heard s s' text ok' err'))
 
 -- ---- a piece of the source
 

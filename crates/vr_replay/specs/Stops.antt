@@ -1,5 +1,5 @@
 -- Why a replay stops.
-use Rattle.std.specs.Prelude.{ℕ, ◌+◌, ◌≡◌, ⊤, List, Option, Some, None}
+use Rattle.std.specs.Prelude.{ℕ, ◌+◌, ◌≡◌, ◌++◌, ⊤, List, [], Option, Some, None, Result, Ok, Err}
 use Rattle.std.specs.Io.KnownBytes.{Appends}
 use Rattle.vr_base.specs.Causes.{one_more}
 use Rattle.vr_edge.specs.Told.{AppendsFront}
@@ -29,3 +29,14 @@ abbrev pub Stopped : ℕ → ℕ → Option (List ℕ) → Option (List ℕ) →
 Stopped before now old new t (stop.Refused k) = (now ≡ before) × (t.refused ≡ Some k) × Appends old new (text_of t.outputs)
 Stopped before now old new t stop.WriteFault = (now ≡ one_more before) × AppendsFront old new (text_of t.outputs)
 Stopped before now old new t stop.NoMemory = (now ≡ before) × AppendsFront old new (text_of t.outputs)
+
+-- The same of a text that grew by what the lines come to: no write is made.
+abbrev pub HasStopped : List ℕ → List ℕ → Played → Stop → Type 0
+HasStopped old new t (stop.Refused k) = (t.refused ≡ Some k) × (new ≡ old ++ text_of t.outputs)
+HasStopped old new t stop.WriteFault = ⊥
+HasStopped old new t stop.NoMemory = AppendsFront (Some old) (Some new) (text_of t.outputs)
+
+-- what was heard, and its text, are what lines come to
+abbrev pub Tells : Result (Unit {0}) Stop → List ℕ → Played → Type 0
+Tells (Ok _) text t = text ≡ text_of t.outputs
+Tells (Err why) text t = HasStopped [] text t why

@@ -11,7 +11,7 @@ use std::alloc::Global;
 use vr_edge::{Sink, Source};
 use vr_status::Status;
 
-/// Reads a schedule, and writes its outputs line by line.
+/// Reads a schedule, and writes its outputs piece by piece.
 fn read_schedule<S: Source, K: Sink>(alloc: Global, source: &mut S, sink: &mut K) -> Status
     ensures { Ends (S.faults source.old) (S.faults source.new) (K.faults sink.old) (K.faults sink.new) (S.left source.old) (S.left source.new) (K.taken sink.old) (K.taken sink.new) result }
 {

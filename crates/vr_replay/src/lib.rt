@@ -1,5 +1,5 @@
 //! Replay of a schedule over a group of replicas: its lines are read from a source, and the outputs of the replicas are
-//! written to a sink, line by line.
+//! written to a sink.
 #![tactic(auto)]
 
 mod command;

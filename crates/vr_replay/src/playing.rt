@@ -1,10 +1,10 @@
 //! A replay between two pieces of its source.
-ghost use Rattle.std.specs.Prelude.{◌≡◌, ◌≤◌, ◌<◌, ◌++◌, [], None, Some, true, IfOk, OnOk, IfErr, length, drop};
+ghost use Rattle.std.specs.Prelude.{◌≡◌, ◌≤◌, ◌<◌, ◌++◌, [], None, Some, true, IfOk, OnOk, OnErr, IfErr, length, drop};
 ghost use Rattle.std.specs.Io.KnownBytes.{Appends};
 ghost use Rattle.vr_lines.specs.Fits.{IsLineOf};
-ghost use Rattle.vr_replay.specs.Playing.{comes, scene_of};
+ghost use Rattle.vr_replay.specs.Playing.{Played, comes, scene_of};
 ghost use Rattle.vr_replay.specs.Schedule.{line_at};
-ghost use Rattle.vr_replay.specs.Stops.{JudgeCause};
+ghost use Rattle.vr_replay.specs.Stops.{JudgeCause, Stopped, Tells};
 ghost use Rattle.vr_group.specs.Outputs.{text_of};
 ghost use Rattle.vr_replay.specs.declared.stop.Stop.TheVariants as stop;
 
@@ -28,21 +28,23 @@ pub struct Replay {
     pub lines: Lines,
 }
 
-/// The text of what happens at a line: the first makes a group.
+/// What happens at a line; the text of its outputs goes behind what stands there. The first line makes a group.
 #[tactic(auto, using(std::proofs::lemmas::Grind::common_steps, vr_group::proofs::Numbering::numbered_none, vr_group::proofs::Numbering::text_none), unfolding(crate::specs::Playing::comes))]
-fn play(alloc: Global, group: &mut World, line: &Line) -> Result<ByteList, NoMemory>
+fn play(alloc: Global, group: &mut World, line: &Line, to: &mut ByteList) -> Result<(), NoMemory>
     requires live { group.old.live ≡ true }
     requires fits { IsLineOf group.old.version group.old.world.n line.now }
     ensures scene { OnOk result (scene_of group.new ≡ (comes (scene_of group.old) line.now).scene) }
-    ensures text { IfOk result (λ t. t ≡ text_of (comes (scene_of group.old) line.now).outputs) }
+    ensures text { OnOk result (to.new ≡ to.old ++ text_of (comes (scene_of group.old) line.now).outputs) }
+    ensures kept { OnErr result (to.new ≡ to.old) }
     ensures live { OnOk result (group.new.live ≡ true) }
 {
     if let Line::Cluster { n, kind } = line {
         *group = World::new(alloc, *n, *kind)?;
-        return Ok(ByteList::new(alloc));
+        return Ok(());
     }
     let Outputs { text, .. } = group.step(alloc, line)?;
-    Ok(text)
+    to.extend(text.as_slice())?;
+    Ok(())
 }
 
 /// The line of a version that these bytes spell, behind so many others.
@@ -63,13 +65,24 @@ fn judge(alloc: Global, n: u8, number: u32, text: &[u8], version: Version) -> Re
     }
 }
 
+// Writes the text of what lines have come to, whether or not a stop came.
+fn write_heard<K: Sink>(sink: &mut K, text: &[u8], heard: Result<(), Stop>) -> Result<(), Stop>
+    ensures written { (t : Played) → Tells heard text.now t → OnOk result (Appends (K.taken sink.old) (K.taken sink.new) (text_of t.outputs)) }
+    ensures kept { OnOk result (K.faults sink.new ≡ K.faults sink.old) }
+    ensures stopped { (t : Played) → Tells heard text.now t → IfErr result (Stopped (K.faults sink.old) (K.faults sink.new) (K.taken sink.old) (K.taken sink.new) t) }
+    ensures same { OnOk result (heard ≡ result) }
+{
+    write_whole(sink, text)?;
+    heard
+}
+
 impl Replay {
     ghost use Rattle.vr_replay.specs.Playing.{IsReplay, HearsAll, taken, hears_lines, no_scene, scene_of, ends};
-    ghost use Rattle.vr_replay.specs.Stops.{Stopped};
+    ghost use Rattle.vr_replay.specs.Stops.{HasStopped, Stopped};
 
-    /// Takes the line that was given, and writes its outputs.
-    #[tactic(auto, using(std::proofs::lemmas::Grind::common_steps, crate::proofs::Taken::taken_some, crate::proofs::Taken::taken_none, vr_edge::proofs::Told::appends_nil, vr_group::proofs::Numbering::text_none))]
-    fn take_line<K: Sink>(&mut self, alloc: Global, sink: &mut K) -> Result<(), Stop>
+    /// Takes the line that was given; the text of its outputs goes behind what stands there.
+    #[tactic(auto, using(std::proofs::lemmas::Grind::common_steps, crate::proofs::Taken::taken_some, crate::proofs::Taken::taken_none, vr_group::proofs::Numbering::text_none))]
+    fn take_line(&mut self, alloc: Global, to: &mut ByteList) -> Result<(), Stop>
         requires live { self.old.group.live ≡ true }
         requires few { self.old.number ≤ 1000000 }
 
@@ -80,10 +93,9 @@ impl Replay {
         ensures live { OnOk result (self.new.group.live ≡ true) }
         ensures few { OnOk result (self.new.number ≤ 1000000) }
 
-        ensures text { OnOk result (Appends (K.taken sink.old) (K.taken sink.new) (text_of (taken (scene_of self.old.group) self.old.number self.old.lines.line).outputs)) }
+        ensures text { OnOk result (to.new ≡ to.old ++ text_of (taken (scene_of self.old.group) self.old.number self.old.lines.line).outputs) }
 
-        ensures kept { OnOk result (K.faults sink.new ≡ K.faults sink.old) }
-        ensures stopped { IfErr result (Stopped (K.faults sink.old) (K.faults sink.new) (K.taken sink.old) (K.taken sink.new) (taken (scene_of self.old.group) self.old.number self.old.lines.line)) }
+        ensures stopped { IfErr result (HasStopped to.old to.new (taken (scene_of self.old.group) self.old.number self.old.lines.line)) }
     {
         let line = judge(
             alloc,
@@ -92,14 +104,31 @@ impl Replay {
             self.lines.line(),
             self.group.version(),
         )?;
-        let played = play(alloc, &mut self.group, &line);
+        let played = play(alloc, &mut self.group, &line, to);
         drop(line);
-        write_whole(sink, played?.as_slice())?;
+        played?;
         self.number += 1;
         Ok(())
     }
 
-    /// Takes the lines that have ended, and writes their outputs.
+    /// Takes the lines that have ended; the text of their outputs goes behind what stands there.
+    fn hear_lines(&mut self, alloc: Global, to: &mut ByteList) -> Result<(), Stop>
+        requires live { self.old.group.live ≡ true }
+        requires few { self.old.number ≤ 1000000 }
+        ensures heard { OnOk result (HearsAll self.old self.new self.old.lines.bytes (Some to.old) (Some to.new)) }
+        ensures stopped { IfErr result (HasStopped to.old to.new (hears_lines self.old)) }
+    {
+        loop {
+            match self.lines.next(false) {
+                Next::Line => self.take_line(alloc, to)?,
+                Next::TooLong => return Err(Stop::Refused(self.number + 1)),
+                Next::End => return Ok(()),
+                Next::More => return Ok(()),
+            }
+        }
+    }
+
+    /// Takes the lines that have ended, and writes their outputs, all of them together.
     pub fn take_lines<K: Sink>(&mut self, alloc: Global, sink: &mut K) -> Result<(), Stop>
         requires live { self.old.group.live ≡ true }
         requires few { self.old.number ≤ 1000000 }
@@ -109,14 +138,9 @@ impl Replay {
         ensures kept { OnOk result (K.faults sink.new ≡ K.faults sink.old) }
         ensures stopped { IfErr result (Stopped (K.faults sink.old) (K.faults sink.new) (K.taken sink.old) (K.taken sink.new) (hears_lines self.old)) }
     {
-        loop {
-            match self.lines.next(false) {
-                Next::Line => self.take_line(alloc, sink)?,
-                Next::TooLong => return Err(Stop::Refused(self.number + 1)),
-                Next::End => return Ok(()),
-                Next::More => return Ok(()),
-            }
-        }
+        let mut text = ByteList::new(alloc);
+        let heard = self.hear_lines(alloc, &mut text);
+        write_heard(sink, text.as_slice(), heard)
     }
 
     /// A replay of which nothing has come.
@@ -144,6 +168,21 @@ impl Replay {
         Ok(())
     }
 
+    // Takes the line that was given, and writes its outputs.
+    fn take_last<K: Sink>(&mut self, alloc: Global, sink: &mut K) -> Result<(), Stop>
+        requires live { self.old.group.live ≡ true }
+        requires few { self.old.number ≤ 1000000 }
+
+        ensures accepted { OnOk result ((taken (scene_of self.old.group) self.old.number self.old.lines.line).refused ≡ None) }
+        ensures text { OnOk result (Appends (K.taken sink.old) (K.taken sink.new) (text_of (taken (scene_of self.old.group) self.old.number self.old.lines.line).outputs)) }
+        ensures kept { OnOk result (K.faults sink.new ≡ K.faults sink.old) }
+        ensures stopped { IfErr result (Stopped (K.faults sink.old) (K.faults sink.new) (K.taken sink.old) (K.taken sink.new) (taken (scene_of self.old.group) self.old.number self.old.lines.line)) }
+    {
+        let mut text = ByteList::new(alloc);
+        let taken = self.take_line(alloc, &mut text);
+        write_heard(sink, text.as_slice(), taken)
+    }
+
     /// The source is at its end: the line that stands is the last. A schedule has at least one line.
     #[tactic(auto, using(std::proofs::lemmas::Grind::common_steps, vr_edge::proofs::Told::appends_nil, vr_group::proofs::Numbering::text_none), unfolding(crate::specs::Playing::ends))]
     pub fn finish<K: Sink>(&mut self, alloc: Global, sink: &mut K) -> Result<(), Stop>
@@ -154,7 +193,7 @@ impl Replay {
         ensures stopped { IfErr result (Stopped (K.faults sink.old) (K.faults sink.new) (K.taken sink.old) (K.taken sink.new) (ends self.old)) }
     {
         match self.lines.next(true) {
-            Next::Line => self.take_line(alloc, sink),
+            Next::Line => self.take_last(alloc, sink),
             Next::TooLong | Next::End | Next::More => self.end(),
         }
     }
