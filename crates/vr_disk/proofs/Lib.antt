@@ -1,3 +1,4 @@
+pub mod Ends
 pub mod Faces
 pub mod Frames
 pub mod Fuses

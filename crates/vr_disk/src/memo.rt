@@ -1,11 +1,11 @@
 //! Texts with their names, so that a digest of a text is made once.
-ghost use Rattle.std.specs.Prelude.{◌≡◌, IfSome};
+ghost use Rattle.std.specs.Prelude.{◌≡◌, ◌≤◌, ◌-◌, IfSome, drop, length, replicate};
 ghost use Rattle.vr_base.specs.Bytes.{name_of};
 
-use crate::{BLOCKS, SLOTS};
+use crate::{BLOCKS, SECTOR_SIZE, SLOTS};
 use std::alloc::{AllocError, Global};
 use std::marker::Model;
-use vr_base::{Sum, checksum};
+use vr_base::{Sum, checksum, is_zeros};
 
 // In a header without its name: the last byte of its op, its kind, the last two bytes of its address.
 const OP_END: usize = 79;
@@ -20,24 +20,42 @@ const AUX_END: usize = 103;
 #[derive(Drop)]
 struct Text {
     bytes: Vec<u8>,
+    // How many zeros stand behind them: most of a value of the superblock are.
+    zeros: usize,
     name: Option<Sum>,
 }
 
 impl Model for Text {
-    ghost use Rattle.std.specs.Prelude.{◌≡◌, IfSome, ⊤};
+    ghost use Rattle.std.specs.Prelude.{◌≡◌, ◌++◌, IfSome, replicate, ⊤};
     ghost use Rattle.vr_base.specs.Bytes.{name_of};
 
     ghost Value = { ⊤ };
 
     ghost view = { λ _. tt };
 
-    ghost invariant = { λ t. IfSome t.name (λ name. name.0 ≡ name_of t.bytes.items) };
+    ghost invariant = { λ t. IfSome t.name (λ name. name.0 ≡ name_of (t.bytes.items ++ replicate t.zeros 0)) };
+}
+
+// How many zeros these bytes end with, by whole sectors.
+fn zeros_behind(bytes: &[u8]) -> usize
+    ensures within { result ≤ length bytes.now }
+    ensures zeros { drop (length bytes.now - result) bytes.now ≡ replicate result 0 }
+{
+    let sectors = bytes.len() / SECTOR_SIZE;
+    for k in 0..sectors {
+        let end = bytes.len() - SECTOR_SIZE * k;
+        if !is_zeros(&bytes[end - SECTOR_SIZE..end]) {
+            return SECTOR_SIZE * k;
+        }
+    }
+    SECTOR_SIZE * sectors
 }
 
 impl Text {
     fn none(alloc: Global) -> Text {
         Text {
             bytes: Vec::new(alloc),
+            zeros: 0,
             name: None,
         }
     }
@@ -46,7 +64,12 @@ impl Text {
     fn name_of(&self, bytes: &[u8]) -> Option<Sum>
         ensures { IfSome result (λ name. name.0 ≡ name_of bytes.now) }
     {
-        if self.bytes.as_slice() == bytes {
+        let kept = self.bytes.len();
+        if bytes.len() < kept {
+            return None;
+        }
+        let (front, rest) = bytes.split_at(kept);
+        if rest.len() == self.zeros && self.bytes.as_slice() == front && is_zeros(rest) {
             self.name
         } else {
             None
@@ -58,8 +81,10 @@ impl Text {
         requires { name.0 ≡ name_of bytes.now }
     {
         self.name = None;
+        self.zeros = zeros_behind(bytes);
         self.bytes.clear();
-        match self.bytes.extend_from_slice(bytes) {
+        let (front, _) = bytes.split_at(bytes.len() - self.zeros);
+        match self.bytes.extend_from_slice(front) {
             Ok(()) => self.name = Some(name),
             Err(_) => {}
         }
