@@ -1,8 +1,9 @@
 //! The calls of a disk.
-ghost use Rattle.std.specs.Prelude.{◌≡◌, ◌<◌, ℕ, [], ◌∷◌, Option, Some, None, IfSome, is_ok, if◌then◌else◌};
+ghost use Rattle.std.specs.Prelude.{◌≡◌, ◌<◌, ◌≤◌, ℕ, [], ◌∷◌, Option, Some, None, IfSome, is_ok, if◌then◌else◌, length, replicate};
 ghost use Rattle.vr_base.specs.Causes.{HasCause};
 ghost use Rattle.vr_base.specs.Bytes.{name_of};
-ghost use Rattle.vr_disk.specs.DiskState.{Disk, IsFace, Attaches, ReadsTo, Runs, Write, Sync};
+ghost use Rattle.vr_disk.specs.DiskState.{Disk, IsFace, Attaches, ReadsTo, Runs, Write, Sync, reads};
+ghost use Rattle.vr_disk.specs.Sectors.{has};
 
 use crate::{Room, SECTORS, Sector};
 use vr_base::Sum;
@@ -39,6 +40,30 @@ pub trait SectorDisk {
         ensures bytes { ReadsTo i (told self.old) (if is_ok result then Some to.new.bytes else None) }
         ensures cause { HasCause (read_faults self.old) (read_faults self.new) result }
         ensures others { faults self.new ≡ faults self.old };
+
+    /// Whether a sector reads as these 512 bytes.
+    fn reads_as(&mut self, i: u32, bytes: &[u8]) -> bool
+        requires i { i < SECTORS }
+        requires size { length bytes.now ≡ 512 }
+        ensures told { told self.new ≡ told self.old }
+        ensures value { IfSome (told self.old) (λ d. result ≡ has bytes.now (reads d.face i)) }
+        ensures faults { faults self.new ≡ faults self.old }
+        ensures reads { read_faults self.old ≤ read_faults self.new }
+    {
+        let mut sector = Sector { bytes: [0; 512] };
+        self.read(i, &mut sector).is_ok() && sector.bytes.as_slice() == bytes
+    }
+
+    /// Whether a sector reads as zeros.
+    fn reads_zeros(&mut self, i: u32) -> bool
+        requires { i < SECTORS }
+        ensures told { told self.new ≡ told self.old }
+        ensures value { IfSome (told self.old) (λ d. result ≡ has (replicate 512 0) (reads d.face i)) }
+        ensures faults { faults self.new ≡ faults self.old }
+        ensures reads { read_faults self.old ≤ read_faults self.new }
+    {
+        self.reads_as(i, &[0; 512])
+    }
 
     /// Writes a sector.
     fn write(&mut self, i: u32, from: &Sector) -> Result<(), DiskFailed>

@@ -68,8 +68,7 @@ fn sector_reads_as<D: SectorDisk>(disk: &mut D, i: u32, bytes: &[u8], at: usize)
     ensures faults { D.faults disk.new ≡ D.faults disk.old }
     ensures reads { D.read_faults disk.old ≤ D.read_faults disk.new }
 {
-    let mut sector = Sector { bytes: [0; 512] };
-    disk.read(i, &mut sector).is_ok() && sector.bytes[..] == bytes[at..at + 512]
+    disk.reads_as(i, &bytes[at..at + 512])
 }
 
 /// Whether so many sectors from one on read as these bytes.
