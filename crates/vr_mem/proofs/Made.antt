@@ -7,7 +7,7 @@ use Rattle.std.proofs.lemmas.List.Elements.{All-replicate}
 use Rattle.vr_disk.specs.DiskState.{IsCell, IsContent}
 use Rattle.vr_disk.specs.Regions.{sectors}
 use Rattle.vr_mem.specs.declared.cells.MemFace.{MemFace}
-use Rattle.vr_mem.specs.Seen.{IsMemFace, copies, face_of, zero_cell}
+use Rattle.vr_mem.specs.Seen.{AreBlank, IsMemFace, copies, face_of, seen, zero_cell}
 use Rattle.vr_mem.proofs.Kept.{length_copies, length_seen, none_kept}
 
 all_copies : {X : Type 0} → (P : X → Type 0) (n : ℕ) (x : X) → P x → All P (copies n x)
@@ -32,8 +32,9 @@ zero_is =
 none_wait : (f : MemFace) → f.count ≡ 0 → (face_of f).waiting ≡ []
 none_wait f e = rw e refl
 
-pub whole_made : (f : MemFace) → f.cells.items ≡ [] → f.count ≡ 0 → sectors ≤ vec_capacity f.cells → sectors ≤ vec_capacity f.waiting → IsMemFace f
-whole_made f e n c r = record {
+pub whole_made : (f : MemFace) → f.cells.items ≡ [] → f.count ≡ 0 → sectors ≤ vec_capacity f.cells → sectors ≤ vec_capacity f.waiting
+    → f.blank.items ≡ [] → sectors ≤ vec_capacity f.blank → AreBlank f.blank.items (seen f.cells.items) → IsMemFace f
+whole_made f e n c r m s b = record {
   face = record {
     count = length_seen f.cells.items (rw e (omega arith));
     cells = rw (none_kept f.cells.items e) (all_copies IsCell sectors zero_cell zero_is);
@@ -45,6 +46,9 @@ whole_made f e n c r = record {
   kept = rw (none_wait f n) (λ k d l. absurd (omega arith));
   once = rw (none_wait f n) refl;
   room = r;
+  marks = rw (e, m) refl;
+  marks_space = s;
+  blank = b;
 }
 
 pub zeros_copies : replicate {A = ℕ} 512 0 ≡ copies 512 0

@@ -14,7 +14,7 @@ use Rattle.std.specs.Vec.{vec_capacity}
 use Rattle.vr_disk.proofs.Faces.{face_after, there}
 use Rattle.vr_mem.specs.declared.cells.MemFace.{MemFace}
 use Rattle.vr_mem.specs.Lies.{lied}
-use Rattle.vr_mem.specs.Seen.{IsMemFace, bytes_of, room_of, face_of, once, kept_with, seen, taken, waiting_in, waiting_of, was_of}
+use Rattle.vr_mem.specs.Seen.{AreBlank, IsMemFace, bytes_of, room_of, face_of, once, kept_with, seen, taken, waiting_in, waiting_of, was_of}
 use Rattle.vr_mem.proofs.Room.{once_push}
 use Rattle.vr_mem.proofs.Kept.{length_seen, seen_here, seen_set}
 use Rattle.vr_mem.proofs.Noted.{bytes_taken}
@@ -149,10 +149,28 @@ none_wait f e = rw e refl
 none_kept : (cells : List MemRoom) (ws : List Waiting) → ws ≡ [] → Kept cells ws
 none_kept cells ws e = rw e (λ k d l. absurd (omega arith))
 
+-- its sectors are marked
+pub record Marked (f : MemFace) : Type 0 where
+  pub marks : length f.blank.items ≡ length f.cells.items
+  pub space : sectors ≤ vec_capacity f.blank
+  pub blank : AreBlank f.blank.items (seen f.cells.items)
+
 -- a disk after a settling or a sync
-pub settled_is : (old new : MemFace) → IsMemFace old → IsFace (face_of new) → new.count ≡ 0 → length new.cells.items ≡ length old.cells.items → sectors ≤ vec_capacity new.cells → new.waiting ≡ old.waiting → IsMemFace new
-settled_is old new h f w n s r =
-    record { face = f; count = (let c = h.count in omega arith); space = s; held = rw w (omega arith); kept = none_kept new.cells.items _ (none_wait new w); once = rw (none_wait new w) refl; room = rw r h.room }
+pub settled_is : (old new : MemFace) → IsMemFace old → IsFace (face_of new) → new.count ≡ 0 → length new.cells.items ≡ length old.cells.items → sectors ≤ vec_capacity new.cells → new.waiting ≡ old.waiting
+    → Marked new → IsMemFace new
+settled_is old new h f w n s r m =
+    record {
+      face = f;
+      count = (let c = h.count in omega arith);
+      space = s;
+      held = rw w (omega arith);
+      kept = none_kept new.cells.items _ (none_wait new w);
+      once = rw (none_wait new w) refl;
+      room = rw r h.room;
+      marks = m.marks;
+      marks_space = m.space;
+      blank = m.blank;
+    }
 
 -- a sector that is noted
 once_noted : (ws : List Waiting) (i : ℕ) (c : Cell) → once ws ≡ true → once (noted ws i c) ≡ true
@@ -163,8 +181,8 @@ kept_noted cells ws i c l h = cond_both (waits i ws) ws (ws ++ record { index = 
 
 -- a disk with a sector written
 pub written_is : (old new : MemFace) (i : ℕ) (bytes : List ℕ) → IsMemFace old → i < sectors → IsContent bytes → face_of new ≡ after (face_of old) (Write i bytes)
-    → length new.cells.items ≤ sectors → length old.cells.items ≤ length new.cells.items → i < length new.cells.items → sectors ≤ vec_capacity new.cells → new.count ≤ length new.waiting.items → sectors ≤ vec_capacity new.waiting → IsMemFace new
-written_is old new i bytes h l n same c g k s o r =
+    → length new.cells.items ≤ sectors → length old.cells.items ≤ length new.cells.items → i < length new.cells.items → sectors ≤ vec_capacity new.cells → new.count ≤ length new.waiting.items → sectors ≤ vec_capacity new.waiting → Marked new → IsMemFace new
+written_is old new i bytes h l n same c g k s o r m =
     let ws = (face_of old).waiting in
     let w : (face_of new).waiting ≡ noted ws i (cell (face_of old) i) = ap (λ (f : Face). f.waiting) same in
     record {
@@ -175,6 +193,9 @@ written_is old new i bytes h l n same c g k s o r =
       kept = rw w (kept_noted new.cells.items ws i (cell (face_of old) i) k (kept_more old.cells.items new.cells.items ws h.kept g));
       once = rw w (once_noted ws i (cell (face_of old) i) h.once);
       room = r;
+      marks = m.marks;
+      marks_space = m.space;
+      blank = m.blank;
     }
 
 -- a sector that reads as something else
@@ -185,9 +206,9 @@ lied_face f i r h l n =
     record { count = length-set f.cells i (record (cell f i) { reads = r }) ∙ h.count; cells = All-set IsCell f.cells i (record (cell f i) { reads = r }) (record { truth = was.truth; reads = n; before = was.before }) h.cells; waiting = h.waiting }
 
 pub lied_is : (old new : MemFace) (i : ℕ) (r : Option (List ℕ)) → IsMemFace old → i < sectors → ((b : List ℕ) → r ≡ Some b → IsContent b) → face_of new ≡ lied (face_of old) i r
-    → length new.cells.items ≤ sectors → length old.cells.items ≤ length new.cells.items → sectors ≤ vec_capacity new.cells → new.waiting ≡ old.waiting → new.count ≡ old.count → IsMemFace new
+    → length new.cells.items ≤ sectors → length old.cells.items ≤ length new.cells.items → sectors ≤ vec_capacity new.cells → new.waiting ≡ old.waiting → new.count ≡ old.count → Marked new → IsMemFace new
 unfolding lied
-lied_is old new i r h l n same c g s w k =
+lied_is old new i r h l n same c g s w k m =
     let ws = (face_of old).waiting in
     let x : (face_of new).waiting ≡ ws = ap (λ (f : Face). f.waiting) same in
     record {
@@ -198,6 +219,9 @@ lied_is old new i r h l n same c g s w k =
       kept = rw x (kept_more old.cells.items new.cells.items ws h.kept g);
       once = rw x h.once;
       room = rw w h.room;
+      marks = m.marks;
+      marks_space = m.space;
+      blank = m.blank;
     }
 
 pub lied_cells : (cells more : List MemRoom) (ws : List MemWaiting) (i : ℕ) (was x : MemRoom) (r : Option (List ℕ)) → seen more ≡ seen cells → i < length more → length more ≤ sectors → was ≡ get_or more i was → room_of x ≡ record (room_of was) { reads = r }

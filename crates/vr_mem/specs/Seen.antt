@@ -1,7 +1,7 @@
 -- What a disk in memory holds, as the calls of a disk see it.
 use Rattle.std.specs.List.{list_any, All}
 use Rattle.std.specs.Vec.{vec_capacity}
-use Rattle.std.specs.Prelude.{◌==◌, ◌&&◌, ◌≡◌, ◌≤◌, ◌<◌, ◌-◌, ◌++◌, Bool, true, not, if◌then◌else◌, ℕ, List, [], ◌∷◌, length, map, replicate, Option, Some, None, take, slice_index_or}
+use Rattle.std.specs.Prelude.{◌==◌, ◌&&◌, ◌≡◌, ◌≤◌, ◌<◌, ◌-◌, ◌++◌, Bool, false, true, not, if◌then◌else◌, ℕ, List, [], ◌∷◌, length, map, replicate, Option, Some, None, take, slice_index_or}
 use Rattle.vr_disk.specs.DiskState.{Cell, Waiting, Face, IsFace, Fate, Fuse, CallVerdict, Goes, Fails, Cuts, blank}
 use Rattle.vr_disk.specs.Regions.{sectors}
 use Rattle.vr_disk.specs.declared.sector.Sector.{Sector}
@@ -104,6 +104,10 @@ abbrev pub once : List Waiting → Bool
 once [] = true
 once (w ∷ ws) = not (list_any (λ x. x.index == w.index) ws) && once ws
 
+-- each sector that is marked reads as zeros
+pub record AreBlank (marks : List Bool) (cells : List Cell) : Type 0 where
+  pub each : (i : ℕ) → slice_index_or marks i false ≡ true → (slice_index_or cells i blank).reads ≡ Some (copies 512 0)
+
 -- 3,984 sectors, each of which can be kept, and can wait where it is kept
 pub record IsMemFace (f : MemFace) : Type 0 where
   pub face : IsFace (face_of f)
@@ -113,3 +117,6 @@ pub record IsMemFace (f : MemFace) : Type 0 where
   pub kept : All (λ (w : Waiting). w.index < length f.cells.items) (face_of f).waiting
   pub once : once (face_of f).waiting ≡ true
   pub room : sectors ≤ vec_capacity f.waiting
+  pub marks : length f.blank.items ≡ length f.cells.items
+  pub marks_space : sectors ≤ vec_capacity f.blank
+  pub blank : AreBlank f.blank.items (face_of f).cells

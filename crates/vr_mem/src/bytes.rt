@@ -1,5 +1,6 @@
 //! What a sector in memory holds.
 ghost use Rattle.std.specs.Prelude.{◌≡◌, length};
+ghost use Rattle.vr_base.specs.Bytes.{is_zeros};
 ghost use Rattle.vr_disk.specs.DiskState.{damaged};
 ghost use Rattle.vr_mem.specs.Seen.{bytes_of, copies, taken};
 
@@ -54,16 +55,19 @@ impl MemBytes {
         if self.zeros { &ZEROS } else { &self.sector }
     }
 
-    /// Holds these bytes from now on.
+    /// Holds these bytes from now on, and gives whether they are zeros.
     #[tactic(auto, unfolding(crate::specs::Seen::bytes_of))]
-    pub fn set(&mut self, bytes: &[u8])
+    pub fn set(&mut self, bytes: &[u8]) -> bool
         requires { length bytes.now ≡ 512 }
-        ensures { bytes_of self.new ≡ bytes.now }
+        ensures bytes { bytes_of self.new ≡ bytes.now }
+        ensures zeros { result ≡ is_zeros bytes.now }
     {
         self.zeros = is_zeros(bytes);
-        if !self.zeros {
-            self.sector.bytes.copy_from_slice(bytes);
+        if self.zeros {
+            return true;
         }
+        self.sector.bytes.copy_from_slice(bytes);
+        false
     }
 
     /// Holds from now on what the other holds.

@@ -211,6 +211,17 @@ impl SectorDisk for CellDisk {
         Err(DiskFailed)
     }
 
+    fn reads_as(&mut self, i: u32, bytes: &[u8]) -> bool {
+        match self.face.reading(i) {
+            Some(sector) => sector.bytes.as_slice() == bytes,
+            None => false,
+        }
+    }
+
+    fn reads_zeros(&mut self, i: u32) -> bool {
+        self.face.reads_zeros(i)
+    }
+
     #[tactic(auto, using(vr_disk::proofs::Running::one_goes, vr_disk::proofs::Running::one_fails, vr_disk::proofs::Running::write_cuts))]
     fn write(&mut self, i: u32, from: &Sector) -> Result<(), DiskFailed> {
         match self.fate.judge() {

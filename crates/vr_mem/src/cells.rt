@@ -1,15 +1,17 @@
 //! Sectors in memory, and those that wait for a sync.
-ghost use Rattle.std.specs.Prelude.{◌≡◌, ◌<◌, ◌≤◌, ◌==◌, ◌++◌, ◌∷◌, [], if◌then◌else◌, false, true, length, map, take, drop, slice_index_or, slice_set, List, IfOk, None, Some};
+ghost use Rattle.std.specs.Prelude.{◌≡◌, ◌<◌, ◌≤◌, ◌==◌, ◌++◌, [], false, true, length, map, take, drop, slice_index_or, slice_set, replicate, List, IfOk, None, Some};
 ghost use Rattle.std.specs.List.{list_any, All};
 ghost use Rattle.std.specs.Option.{option_map};
 ghost use Rattle.std.specs.Vec.{vec_capacity};
+ghost use Rattle.vr_base.specs.Bytes.{is_zeros};
 ghost use Rattle.vr_disk.specs.DiskState.{Cell, after, blank, cell, damaged, digit_at, IsContent, noted, reads, settle, settled, settled_cell, written, Write, Sync};
+ghost use Rattle.vr_disk.specs.Sectors.{has};
 ghost use Rattle.vr_mem.specs.Lies.{lied};
-ghost use Rattle.vr_mem.specs.Seen.{IsMemFace, bytes_of, cell_of, copies, face_of, kept_with, once, room_of, seen, waiting_of, was_of, zero_cell};
+ghost use Rattle.vr_mem.specs.Seen.{AreBlank, IsMemFace, bytes_of, cell_of, copies, face_of, kept_with, once, room_of, seen, waiting_of, was_of, zero_cell};
 
 use crate::bytes::{MemBytes, ZEROS};
 use std::alloc::Global;
-use vr_base::NoMemory;
+use vr_base::{NoMemory, is_zeros};
 use vr_disk::{SECTORS, Sector};
 
 /// A sector: what it should hold, what it reads as, and what it held before its last write.
@@ -62,6 +64,9 @@ pub struct MemWaiting {
 #[derive(Drop)]
 pub struct MemFace {
     pub cells: Vec<MemRoom>,
+    /// Of each kept sector, whether it surely reads as zeros: such a one is read without a look at its room, which few caches
+    /// hold.
+    pub blank: Vec<bool>,
     /// How many sectors wait.
     pub count: usize,
     /// Those that wait, and behind them what stays of some that waited once: the next ones are written over it.
@@ -121,20 +126,22 @@ impl MemRoom {
         }
     }
 
-    // Writes these bytes.
+    // Writes these bytes, and gives whether they are zeros.
     #[tactic(auto, unfolding(crate::specs::Seen::room_of))]
-    fn write(&mut self, bytes: &[u8])
+    fn write(&mut self, bytes: &[u8]) -> bool
         requires { length bytes.now ≡ 512 }
         ensures cell { room_of self.new ≡ written (room_of self.old) bytes.now }
         ensures content { IsContent bytes.now }
+        ensures zeros { result ≡ is_zeros bytes.now }
     {
-        if self.turned {
-            self.one.set(bytes);
+        let zeros = if self.turned {
+            self.one.set(bytes)
         } else {
-            self.two.set(bytes);
-        }
+            self.two.set(bytes)
+        };
         self.turned = !self.turned;
         self.reads = MemReads::Truth;
+        zeros
     }
 
     // From now on it reads as these bytes.
@@ -208,17 +215,21 @@ impl MemRoom {
     }
 }
 
-// Settles the sectors that wait, by the digits of the code.
-fn settle_all(code: u64, waiting: &[MemWaiting], cells: &mut [MemRoom])
+// Settles the sectors that wait, by the digits of the code. What they read as then isn't looked at, so none is marked.
+fn settle_all(code: u64, waiting: &[MemWaiting], cells: &mut [MemRoom], blank: &mut [bool])
     requires kept { All (λ w. w.index < length cells.old) waiting.now }
     requires once { once (waiting_of (seen cells.old) waiting.now) ≡ true }
+    requires marks { length blank.old ≡ length cells.old }
+    requires blank { AreBlank blank.old (seen cells.old) }
     ensures cells { seen cells.new ≡ settled code (waiting_of (seen cells.old) waiting.now) (seen cells.old) }
     ensures count { length cells.new ≡ length cells.old }
+    ensures blank { AreBlank blank.new (seen cells.new) }
 {
     let mut rest = code;
     for w in waiting {
-        let room = &mut cells[w.index as usize];
-        room.settle(rest % 3, w);
+        let at = w.index as usize;
+        cells[at].settle(rest % 3, w);
+        blank[at] = false;
         rest /= 3;
     }
 }
@@ -316,19 +327,26 @@ fn note(waiting: &mut Vec<MemWaiting>, count: usize, index: u32, room: &MemRoom)
     count + 1
 }
 
-// Keeps this sector too, and those before it.
-fn keep(cells: &mut Vec<MemRoom>, at: usize)
+// Keeps this sector too, and those before it. Each one more is zeros, and so marked.
+fn keep(cells: &mut Vec<MemRoom>, blank: &mut Vec<bool>, at: usize)
     requires at { at < SECTORS }
     requires count { length cells.old.items ≤ SECTORS }
     requires space { SECTORS ≤ vec_capacity cells.old }
+    requires marks { length blank.old.items ≡ length cells.old.items }
+    requires marks_space { SECTORS ≤ vec_capacity blank.old }
+    requires blank { AreBlank blank.old.items (seen cells.old.items) }
     ensures cells { seen cells.new.items ≡ seen cells.old.items }
     ensures kept { at < length cells.new.items }
     ensures count { length cells.new.items ≤ SECTORS }
     ensures grown { length cells.old.items ≤ length cells.new.items }
     ensures space { SECTORS ≤ vec_capacity cells.new }
+    ensures marks { length blank.new.items ≡ length cells.new.items }
+    ensures marks_space { SECTORS ≤ vec_capacity blank.new }
+    ensures blank { AreBlank blank.new.items (seen cells.new.items) }
 {
     while cells.len() <= at {
         cells.push_reserved(zero());
+        blank.push_reserved(true);
     }
 }
 
@@ -340,6 +358,7 @@ impl MemFace {
     {
         Ok(MemFace {
             cells: Vec::with_capacity(alloc, SECTORS as usize)?,
+            blank: Vec::with_capacity(alloc, SECTORS as usize)?,
             count: 0,
             waiting: Vec::with_capacity(alloc, SECTORS as usize)?,
         })
@@ -359,6 +378,16 @@ impl MemFace {
         }
     }
 
+    // Whether a sector surely reads as zeros: it is marked so, or it isn't kept.
+    fn is_blank(&self, at: usize) -> bool
+        requires face { IsMemFace self.now }
+        requires at { at < SECTORS }
+        ensures zeros { result ≡ true → reads (face_of self.now) at ≡ Some (copies 512 0) }
+        ensures kept { result ≡ false → at < length self.now.cells.items }
+    {
+        at >= self.blank.len() || self.blank[at]
+    }
+
     /// What a sector reads as, `None` where it can't be read.
     pub fn reading(&self, index: u32) -> Option<&Sector>
         requires face { IsMemFace self.now }
@@ -366,10 +395,25 @@ impl MemFace {
         ensures { option_map (λ s. s.now.bytes) result ≡ reads (face_of self.now) index }
     {
         let at = index as usize;
-        if at < self.cells.len() {
-            self.cells[at].reading()
-        } else {
+        if self.is_blank(at) {
             Some(&ZEROS)
+        } else {
+            self.cells[at].reading()
+        }
+    }
+
+    /// Whether a sector reads as zeros.
+    pub fn reads_zeros(&self, index: u32) -> bool
+        requires face { IsMemFace self.now }
+        requires index { index < SECTORS }
+        ensures { result ≡ has (replicate 512 0) (reads (face_of self.now) index) }
+    {
+        if self.is_blank(index as usize) {
+            return true;
+        }
+        match self.reading(index) {
+            Some(sector) => is_zeros(&sector.bytes),
+            None => false,
         }
     }
 
@@ -381,7 +425,8 @@ impl MemFace {
         ensures face { IsMemFace self.new }
     {
         let at = index as usize;
-        keep(&mut self.cells, at);
+        keep(&mut self.cells, &mut self.blank, at);
+        self.blank[at] = false;
         self.cells[at].show(&sector.bytes);
     }
 
@@ -393,7 +438,8 @@ impl MemFace {
         ensures face { IsMemFace self.new }
     {
         let at = index as usize;
-        keep(&mut self.cells, at);
+        keep(&mut self.cells, &mut self.blank, at);
+        self.blank[at] = false;
         self.cells[at].hide();
     }
 
@@ -404,9 +450,9 @@ impl MemFace {
         ensures face { IsMemFace self.new }
     {
         let at = index as usize;
-        keep(&mut self.cells, at);
+        keep(&mut self.cells, &mut self.blank, at);
         self.count = note(&mut self.waiting, self.count, index, &self.cells[at]);
-        self.cells[at].write(&from.bytes);
+        self.blank[at] = self.cells[at].write(&from.bytes);
     }
 
     pub fn sync(&mut self)
@@ -431,7 +477,12 @@ impl MemFace {
         ensures after { face_of self.new ≡ settle code (face_of self.old) }
         ensures face { IsMemFace self.new }
     {
-        settle_all(code, &self.waiting[..self.count], &mut self.cells);
+        settle_all(
+            code,
+            &self.waiting[..self.count],
+            &mut self.cells,
+            &mut self.blank,
+        );
         self.count = 0;
     }
 }

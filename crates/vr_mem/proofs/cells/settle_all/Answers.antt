@@ -1,10 +1,11 @@
-use Rattle.std.proofs.Common.{◌<◌, length, arith, sym, ◌∙◌, length-set, [], false}
+use Rattle.std.proofs.Common.{◌<◌, length, arith, sym, ◌∙◌, length-set, get_or, [], false}
 use Rattle.std.proofs.lemmas.List.Elements.{All-get_or}
 use Rattle.vr_disk.specs.declared.sector.Sector.{Sector}
 use Rattle.vr_mem.specs.declared.bytes.MemBytes.{MemBytes}
 use Rattle.vr_mem.specs.declared.cells.MemReads.TheVariants as reads
 use Rattle.vr_mem.specs.declared.cells.MemWaiting.{MemWaiting}
 use Rattle.vr_mem.specs.declared.cells.MemRoom.{MemRoom}
+use Rattle.vr_mem.proofs.Marks.{room_marked}
 use Rattle.vr_mem.proofs.Settling.{once_behind, settle_step}
 use Rattle.vr_mem.specs.Seen.{seen}
 use Rattle.vr_mem.proofs.cells.settle_all.Goals as goal
@@ -32,4 +33,6 @@ loop-w-preserved c =
       same = sym (settle_step c.loop-w.rest ws c.loop-w.w-index no_waiting c.loop-w.cells c.settle.new.self no_room l (omega arith) i.once c.settle.ensures) ∙ i.same;
       once = once_behind ws c.loop-w.w-index no_waiting (seen c.loop-w.cells) _ l i.once;
       len = length-set _ _ _ ∙ len;
+      marks = length-set _ _ _ ∙ (i.marks ∙ sym (length-set _ _ _));
+      blank = room_marked c.loop-w.blank c.loop-w.cells (get_or ws c.loop-w.w-index no_waiting).index false c.settle.new.self i.blank i.marks (omega arith) (λ e. absurd cc);
     }

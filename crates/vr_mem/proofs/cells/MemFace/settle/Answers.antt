@@ -1,4 +1,5 @@
-use Rattle.std.proofs.Common.{arith, refl}
+use Rattle.std.proofs.Common.{◌≡◌, arith, refl}
+use Rattle.std.specs.Vec.{with_items}
 use Rattle.std.proofs.lemmas.Grind.{common_steps}
 use Rattle.vr_disk.proofs.Faces.{face_settled}
 use Rattle.vr_mem.specs.Seen.{face_of}
@@ -17,3 +18,6 @@ returns-clause-after c = grind (arith, common_steps)
 pub returns-clause-face : goal.returns-clause-face
 returns-clause-face c =
     settled_is c.args.self.now _ c.requires (rw (returns-clause-after c) (face_settled c.args.code (face_of c.args.self.now) c.requires.face)) refl (grind (arith, common_steps)) c.requires.space refl
+    (let cells : (with_items c.args.self.now.cells c.settle_all.new.cells).items ≡ c.settle_all.new.cells = grind (arith, common_steps) in
+    let marks : (with_items c.args.self.now.blank c.settle_all.new.blank).items ≡ c.settle_all.new.blank = grind (arith, common_steps) in
+    record { marks = grind (arith, common_steps); space = c.requires.marks_space; blank = rw (cells, marks) c.settle_all.ensures.blank })

@@ -3,6 +3,7 @@ use Rattle.vr_disk.specs.DiskState.{Cell, blank, noted, written}
 use Rattle.vr_disk.specs.Regions.{sectors}
 use Rattle.vr_mem.specs.Seen.{face_of, room_of, seen, waiting_of}
 use Rattle.vr_mem.proofs.Kept.{length_seen, seen_here, seen_set}
+use Rattle.vr_mem.proofs.Marks.{room_marked, writes_zeros}
 use Rattle.vr_mem.proofs.Settling.{length_waiting, same_face, waiting_below, waits_of, written_is}
 use Rattle.vr_mem.proofs.Room.{room_left}
 use Rattle.vr_mem.proofs.cells.MemFace.write.Goals as goal
@@ -46,3 +47,9 @@ returns-clause-face c =
     c.keep.ensures.space
     c.note-self.ensures.count
     (let r = c.requires.face.room in let l = c.note-self.ensures.capacity in omega arith)
+    (record {
+      marks = length-set _ _ _ ∙ (c.keep.ensures.marks ∙ sym (length-set _ _ _));
+      space = c.keep.ensures.marks_space;
+      blank = room_marked c.keep.new.blank.items c.keep.new.cells.items c.args.index c.write.result c.write.new.self c.keep.ensures.blank c.keep.ensures.marks c.keep.ensures.kept
+          (λ z. writes_zeros (room_of c.index_mut.result.now) (room_of c.write.new.self) c.args.from.now.bytes c.write.ensures.cell c.write.ensures.content.size (sym c.write.ensures.zeros ∙ z));
+    })
