@@ -1,8 +1,9 @@
 //! The disk of a member.
-ghost use Rattle.std.specs.Prelude.{ℕ, ◌≡◌, ◌-◌, ◌<◌, ◌≤◌, [], ◌∷◌, Some, None, false, IfOk, if◌then◌else◌, is_ok};
+ghost use Rattle.std.specs.Prelude.{ℕ, ◌≡◌, ◌-◌, ◌<◌, ◌≤◌, [], ◌∷◌, Some, None, false, IfOk, if◌then◌else◌, is_ok, length, replicate};
 ghost use Rattle.vr_base.specs.Bytes.{name_of};
 ghost use Rattle.vr_base.specs.Causes.{HasCause};
 ghost use Rattle.vr_disk.specs.DiskState.{Attaches, Runs, Sync, Write, reads};
+ghost use Rattle.vr_disk.specs.Sectors.{has};
 ghost use Rattle.vr_lie.specs.Faults.{IsFault};
 ghost use Rattle.vr_lie.specs.Told.{version_by};
 ghost use Rattle.vr_lying.specs.Told.{IsTold};
@@ -121,6 +122,29 @@ impl SectorDisk for HostDisk {
         ensures version { version_by self.new.lie ≡ version_by self.old.lie }
     {
         self.lie.read(i, to)
+    }
+
+    fn reads_as(&mut self, i: u32, bytes: &[u8]) -> bool
+        requires i { i < SECTORS }
+        requires size { length bytes.now ≡ 512 }
+        ensures told { told_by self.new ≡ told_by self.old }
+        ensures value { result ≡ has bytes.now (reads (told_by self.old).face i) }
+        ensures faults { self.new.lie.disk.faults ≡ self.old.lie.disk.faults }
+        ensures reads { self.new.lie.read_faults ≡ self.old.lie.read_faults }
+        ensures version { version_by self.new.lie ≡ version_by self.old.lie }
+    {
+        self.lie.reads_as(i, bytes)
+    }
+
+    fn reads_zeros(&mut self, i: u32) -> bool
+        requires { i < SECTORS }
+        ensures told { told_by self.new ≡ told_by self.old }
+        ensures value { result ≡ has (replicate 512 0) (reads (told_by self.old).face i) }
+        ensures faults { self.new.lie.disk.faults ≡ self.old.lie.disk.faults }
+        ensures reads { self.new.lie.read_faults ≡ self.old.lie.read_faults }
+        ensures version { version_by self.new.lie ≡ version_by self.old.lie }
+    {
+        self.lie.reads_zeros(i)
     }
 
     fn write(&mut self, i: u32, from: &Sector) -> Result<(), DiskFailed>

@@ -20,17 +20,17 @@ loop-k-preserved g c =
     let b : List ℕ = replicate (512 * n) 0 in
     let told = c.loop-k.invariant.told in
     record {
-      told = c.is_zero_sector.ensures.told ∙ told;
-      faults = c.is_zero_sector.ensures.faults ∙ c.loop-k.invariant.faults;
+      told = c.reads_zeros.ensures.told ∙ told;
+      faults = c.reads_zeros.ensures.faults ∙ c.loop-k.invariant.faults;
       rest = λ d e.
           let whole : IsFace d.face = some_if (λ (d : Disk). IsFace d.face) (g.D.SectorDisk.told c.args.disk.now) d (g.met.D.SectorDisk.whole c.args.disk.now) e in
           let sector : has (piece (512 * k) 512 b) (reads d.face (i + k)) ≡ true =
-          ap (λ x. has x (reads d.face (i + k))) (zeros_piece k n c.loop-k-test.true) ∙ sym (some_if (λ (d : Disk). c.is_zero_sector.result ≡ has (replicate 512 0) (reads d.face (i + k))) (g.D.SectorDisk.told c.loop-k.disk) d c.is_zero_sector.ensures.value (told ∙ e)) ∙ c.if-not-is_zero_sector.false in
+          ap (λ x. has x (reads d.face (i + k))) (zeros_piece k n c.loop-k-test.true) ∙ sym (some_if (λ (d : Disk). c.reads_zeros.result ≡ has (replicate 512 0) (reads d.face (i + k))) (g.D.SectorDisk.told c.loop-k.disk) d c.reads_zeros.ensures.value (told ∙ e)) ∙ c.if-not-reads_zeros.false in
           c.loop-k.invariant.rest d e ∙ (has_step i n k b d.face whole c.loop-k-test.true c.requires ∙ ap (λ x. x && has (drop (512 * (k + 1)) b) (together (i + (k + 1)) (n - (k + 1)) d.face)) sector);
     }
 
-pub returns-then-not-is_zero_sector-clause-value : goal.returns-then-not-is_zero_sector-clause-value
-returns-then-not-is_zero_sector-clause-value g c =
+pub returns-then-not-reads_zeros-clause-value : goal.returns-then-not-reads_zeros-clause-value
+returns-then-not-reads_zeros-clause-value g c =
     let k = c.loop-k.k in
     let i = c.args.at in
     let n = c.args.count in
@@ -38,7 +38,7 @@ returns-then-not-is_zero_sector-clause-value g c =
     if_some (λ (d : Disk). false ≡ has b (together i n d.face)) (g.D.SectorDisk.told c.args.disk.now) (λ d e.
     let whole : IsFace d.face = some_if (λ (d : Disk). IsFace d.face) (g.D.SectorDisk.told c.args.disk.now) d (g.met.D.SectorDisk.whole c.args.disk.now) e in
     let sector : has (piece (512 * k) 512 b) (reads d.face (i + k)) ≡ false =
-    ap (λ x. has x (reads d.face (i + k))) (zeros_piece k n c.loop-k-test.true) ∙ sym (some_if (λ (d : Disk). c.is_zero_sector.result ≡ has (replicate 512 0) (reads d.face (i + k))) (g.D.SectorDisk.told c.loop-k.disk) d c.is_zero_sector.ensures.value (c.loop-k.invariant.told ∙ e)) ∙ c.if-not-is_zero_sector.true in
+    ap (λ x. has x (reads d.face (i + k))) (zeros_piece k n c.loop-k-test.true) ∙ sym (some_if (λ (d : Disk). c.reads_zeros.result ≡ has (replicate 512 0) (reads d.face (i + k))) (g.D.SectorDisk.told c.loop-k.disk) d c.reads_zeros.ensures.value (c.loop-k.invariant.told ∙ e)) ∙ c.if-not-reads_zeros.true in
     sym (c.loop-k.invariant.rest d e ∙ (has_step i n k b d.face whole c.loop-k-test.true c.requires ∙ ap (λ x. x && has (drop (512 * (k + 1)) b) (together (i + (k + 1)) (n - (k + 1)) d.face)) sector)))
 
 pub returns-clause-value : goal.returns-clause-value
