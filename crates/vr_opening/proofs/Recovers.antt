@@ -1,18 +1,21 @@
 -- A replica is recovered from its disk.
 use Rattle.vr_base.specs.Kinds.{strict}
-use Rattle.std.proofs.Common.{ℕ, ◌≡◌, ◌∙◌, refl, sym, ap, subst, cond, List, Bool, true, false, Option, Some, None, Result, Ok, Err, rules, map}
-use Rattle.std.specs.Prelude.{IfSome, IsSome, is_some}
-use Rattle.std.specs.Option.{option_and_then, option_map_or}
+use Rattle.std.proofs.Common.{ℕ, arith, ◌≡◌, ◌∙◌, refl, sym, ap, subst, cond, List, Bool, true, false, Option, Some, None, Result, Ok, Err, rules, map}
+use Rattle.std.specs.Prelude.{IfSome, is_some}
+use Rattle.std.specs.Option.{option_and_then}
 use Rattle.vr_base.specs.declared.table.Config.{Config}
+use Rattle.vr_disk.specs.Counts.{CountsFault}
 use Rattle.vr_disk.specs.DiskState.{Disk, Face, Runs, RunsFrom}
 use Rattle.vr_msg.specs.declared.output.Output.{Output}
 use Rattle.vr_super.specs.Calls.{mend_calls}
 use Rattle.vr_super.specs.Copies.{SuperValue}
 use Rattle.vr_super.specs.Opens as superblock
 use Rattle.vr_super.specs.Opens.{good_copies}
-use Rattle.vr_super.specs.Recovers.{RecoversFrom, copy_verdict}
+use Rattle.vr_super.specs.Recovers.{Finds, IsFound, copy_verdict}
 use Rattle.vr_super.specs.declared.recovering.CopyVerdict.{CopyVerdict}
-use Rattle.vr_super.specs.declared.recovering.SuperFault.TheVariants as fault
+use Rattle.vr_super.specs.declared.recovering.FindFault.{FindFault}
+use Rattle.vr_super.specs.declared.recovering.FindFault.TheVariants as fault
+use Rattle.vr_super.specs.declared.recovering.FoundValue.{FoundValue}
 use Rattle.vr_journal.specs.Replica.{Replica}
 use Rattle.vr_journal.specs.Steps.{Word, Mend}
 use Rattle.vr_journal.specs.Opening.{blank, opening, first_value}
@@ -21,7 +24,7 @@ use Rattle.vr_journal.specs.Halt.TheVariants.{DiskFault, NoMemory}
 use Rattle.vr_opening.specs.declared.reopen.Refusal.{Refusal}
 use Rattle.vr_opening.specs.declared.reopen.Refusal.TheVariants.{Lost, OtherMember, Halted}
 use Rattle.vr_journal.specs.Does.{Does, Performs}
-use Rattle.vr_opening.specs.Recovering.{after_mend, all_good, DoesTo, config_of, is_left, is_left_in, lost_verdicts, opens_as, runs_as, LosesValue, MendsValue, BeginsWith, StopsMending, LeavesUnmended, FindsValue, IsOther, IsAsked, StopsAsked, Recovered, RecoveredAny}
+use Rattle.vr_opening.specs.Recovering.{after_mend, all_good, DoesTo, config_of, is_left, is_other, lost_verdicts, opens_as, refusal_of, runs_as, LosesValue, MendsValue, BeginsWith, StopsMending, LeavesUnmended, FindsValue, IsOther, IsAsked, StopsAsked, Recovered, RecoveredAny}
 use Rattle.vr_journal.proofs.Stepping.{does_no_memory, effect_then, effect_stopped}
 
 pub begun_wanted : (v : SuperValue) (d : Option Disk) (o : List Output) → DoesTo (after_mend v) (blank v) d d o o (Err NoMemory)
@@ -66,78 +69,84 @@ mended_then wanted v q d d1 d2 o o' res m h = effect_then (λ r. Mend v) (after_
 -- ---- values that are left alone
 
 -- where it isn't, the value of the superblock opens
-run_some : (wanted : Option ℕ) (o : Option SuperValue) (v : SuperValue) → option_map_or (is_left wanted) o false ≡ false → o ≡ Some v → option_and_then (runs_as wanted) o ≡ Some v
-run_some wanted None v n e = absurd cc
-run_some wanted (Some w) v n e =
-    elim (is_left wanted w) as (λ t. t ≡ false → cond t None (Some w) ≡ Some v) [
-      | true ↦ λ n. absurd cc
-      | false ↦ λ n. e
-    ] n
+opens_so : (wanted : Option ℕ) (o : Option SuperValue) (v : SuperValue) → o ≡ Some v → is_left wanted v ≡ false → option_and_then (runs_as wanted) o ≡ Some v
+opens_so wanted o v e n = rw (e, n) refl
 
 -- where it is, none does
-run_none : (wanted : Option ℕ) (o : Option SuperValue) → option_map_or (is_left wanted) o false ≡ true → (option_and_then (runs_as wanted) o ≡ None) × (is_some o ≡ true)
-run_none wanted None e = absurd cc
-run_none wanted (Some w) e =
-    elim (is_left wanted w) as (λ t. t ≡ true → (cond t None (Some w) ≡ None) × (true ≡ true)) [
-      | true ↦ λ e. (refl, refl)
-      | false ↦ λ e. absurd cc
-    ] e
+opens_not : (wanted : Option ℕ) (o : Option SuperValue) (v : SuperValue) → o ≡ Some v → is_left wanted v ≡ true → option_and_then (runs_as wanted) o ≡ None
+opens_not wanted o v e n = rw (e, n) refl
 
 verdicts_of : (b c : Bool) (f : Face) → b ≡ c → cond c all_good (map copy_verdict (good_copies f)) ≡ cond b all_good (map copy_verdict (good_copies f))
 verdicts_of b c f e = ap (λ (t : Bool). cond t all_good (map copy_verdict (good_copies f))) (sym e)
 
-pub left_lost : (wanted : Option ℕ) (d d' : Option Disk) (b : Bool) → IfSome d (λ x. b ≡ is_left_in wanted x.face) → b ≡ true → d' ≡ d → LosesValue wanted d d' all_good
-left_lost wanted None d' b h e s = record { untold = λ x. s; told = λ x e. absurd cc }
-left_lost wanted (Some y) d' b h e s =
-    let n = run_none wanted (superblock.opens y.face) (sym h ∙ e) in
-    record {
-      untold = λ x. absurd cc;
-      told = λ x i. let same : y ≡ x = search rules in subst (λ (z : Disk). (opens_as wanted z.face ≡ None) × (d' ≡ Some z) × (all_good ≡ lost_verdicts z.face)) same (n.0, s, verdicts_of (is_some (superblock.opens y.face)) true y.face n.1);
-    }
+leaves : (wanted : Option ℕ) (v : SuperValue) (y : Disk) (d' : Option Disk) → superblock.opens y.face ≡ Some v → is_left wanted v ≡ true → d' ≡ Some y → LosesValue wanted (Some y) d' all_good
+leaves wanted v y d' o e s = record {
+  untold = λ x. absurd cc;
+  told = λ x i. let same : y ≡ x = search rules in subst (λ (z : Disk). (opens_as wanted z.face ≡ None) × (d' ≡ Some z) × (all_good ≡ lost_verdicts z.face)) same
+      (opens_not wanted (superblock.opens y.face) v o e, s, verdicts_of (is_some (superblock.opens y.face)) true y.face (ap is_some o));
+}
 
-pub left_not : (wanted : Option ℕ) (d d' : Option Disk) (b : Bool) → IfSome d (λ x. b ≡ is_left_in wanted x.face) → b ≡ false → d' ≡ d → IfSome d' (λ x. is_left_in wanted x.face ≡ false)
-left_not wanted None d' b h e s = rw s tt
-left_not wanted (Some y) d' b h e s = rw s (sym h ∙ e)
+untold : (wanted : Option ℕ) (vs : List CopyVerdict) (d' : Option Disk) → d' ≡ None → LosesValue wanted None d' vs
+untold wanted vs d' s = record { untold = λ x. s; told = λ x e. absurd cc }
 
 -- ---- what is found of the superblock
 
-pub found_value : (wanted : Option ℕ) (v : SuperValue) (d d' : Option Disk) → IfSome d (λ x. is_left_in wanted x.face ≡ false) → RecoversFrom d d' (Ok v) → MendsValue wanted v d d'
-found_value wanted v None d' n h = record { untold = λ e. h; told = λ x e. cc }
-found_value wanted v (Some y) d' n h = record {
-  untold = λ e. cc;
-  told = λ x e. let same : y ≡ x = search rules in subst (λ (z : Disk). (opens_as wanted z.face ≡ Some v) × Runs (mend_calls v z.face) (Some z) d' true) same (run_some wanted (superblock.opens y.face) v n h.0, h.1);
-}
+pub left_alone : (wanted : Option ℕ) (found : FoundValue) (b : Bool) (d : Option Disk) → IfSome d (λ x. IsFound x.face found) → b ≡ is_left wanted found.value → b ≡ true → LosesValue wanted d d all_good
+left_alone wanted found b None h e t = untold wanted all_good None refl
+left_alone wanted found b (Some y) h e t = leaves wanted found.value y (Some y) h.opens (sym e ∙ t) refl
 
--- only a disk that doesn't tell answers so
-pub found_left : (wanted : Option ℕ) (v : SuperValue) (b : Bool) (d d' : Option Disk) → IfSome d (λ x. is_left_in wanted x.face ≡ false) → RecoversFrom d d' (Ok v) → b ≡ is_left wanted v → b ≡ true → LosesValue wanted d d' all_good
-found_left wanted v b None d' n h e t = record { untold = λ e. h; told = λ x e. cc }
-found_left wanted v b (Some y) d' n h e t =
-    let bad : true ≡ false = sym t ∙ (e ∙ (sym (ap (λ (o : Option SuperValue). option_map_or (is_left wanted) o false) h.0) ∙ n)) in
-    cc
-
-pub lost : (wanted : Option ℕ) (vs : List CopyVerdict) (d d' : Option Disk) → RecoversFrom d d' (Err (fault.Lost vs)) → LosesValue wanted d d' vs
-lost wanted vs None d' h = record { untold = λ e. h; told = λ x e. cc }
-lost wanted vs (Some y) d' h =
-    let none : is_some (superblock.opens y.face) ≡ false = ap is_some h.0 in
+pub mended : (wanted : Option ℕ) (found : FoundValue) (v : SuperValue) (b : Bool) (d d' : Option Disk) → IfSome d (λ x. IsFound x.face found) → b ≡ is_left wanted found.value → b ≡ false → RunsFrom (mend_calls found.value) d d' true → v ≡ found.value
+    → MendsValue wanted v d d'
+mended wanted found v b None d' h e n r k = record { untold = λ x. r; told = λ x i. absurd cc }
+mended wanted found v b (Some y) d' h e n r k =
+    let o = opens_so wanted (superblock.opens y.face) found.value h.opens (sym e ∙ n) in
     record {
-      untold = λ e. cc;
-      told = λ x e. let same : y ≡ x = search rules in subst (λ (z : Disk). (opens_as wanted z.face ≡ None) × (d' ≡ Some z) × (vs ≡ lost_verdicts z.face)) same (ap (option_and_then (runs_as wanted)) h.0, h.1, h.2 ∙ verdicts_of (is_some (superblock.opens y.face)) false y.face none);
+      untold = λ x. absurd cc;
+      told = λ x i. let same : y ≡ x = search rules in subst (λ (z : Disk). (opens_as wanted z.face ≡ Some v) × Runs (mend_calls v z.face) (Some z) d' true) same (subst (λ (w : SuperValue). (opens_as wanted y.face ≡ Some w) × Runs (mend_calls w y.face) (Some y) d' true) (sym k) (o, r));
     }
 
 any_value : SuperValue
 any_value = first_value strict 0 0 0
 
-pub mend_faulted : (wanted : Option ℕ) (d d' : Option Disk) → IfSome d (λ x. is_left_in wanted x.face ≡ false) → RecoversFrom d d' (Err fault.DiskFault) → LeavesUnmended wanted d d' DiskFault
-mend_faulted wanted None d' n h = record { value = any_value; opens = tt; stops = h }
-mend_faulted wanted (Some y) d' n h = record { value = h.value; opens = run_some wanted (superblock.opens y.face) h.value n h.opens; stops = h.ran }
+pub mend_faulted : (wanted : Option ℕ) (found : FoundValue) (b : Bool) (d d' : Option Disk) → IfSome d (λ x. IsFound x.face found) → b ≡ is_left wanted found.value → b ≡ false → RunsFrom (mend_calls found.value) d d' false → LeavesUnmended wanted d d' DiskFault
+mend_faulted wanted found b None d' h e n r = record { value = any_value; opens = tt; stops = r }
+mend_faulted wanted found b (Some y) d' h e n r = record { value = found.value; opens = opens_so wanted (superblock.opens y.face) found.value h.opens (sym e ∙ n); stops = r }
 
-some_value : (o : Option SuperValue) → IsSome o → (v : SuperValue) × (o ≡ Some v)
-some_value None h = absurd cc
-some_value (Some v) h = (v, refl)
+lost : (wanted : Option ℕ) (vs : List CopyVerdict) (d d' : Option Disk) → IfSome d (λ x. Finds x.face (Err (fault.Lost vs))) → d' ≡ d → LosesValue wanted d d' vs
+lost wanted vs None d' h s = untold wanted vs d' s
+lost wanted vs (Some y) d' h s =
+    let none : is_some (superblock.opens y.face) ≡ false = ap is_some h.0 in
+    record {
+      untold = λ e. cc;
+      told = λ x e. let same : y ≡ x = search rules in subst (λ (z : Disk). (opens_as wanted z.face ≡ None) × (d' ≡ Some z) × (vs ≡ lost_verdicts z.face)) same (ap (option_and_then (runs_as wanted)) h.0, s, h.1 ∙ verdicts_of (is_some (superblock.opens y.face)) false y.face none);
+    }
 
-pub mend_wanted : (wanted : Option ℕ) (d d' : Option Disk) → IfSome d (λ x. is_left_in wanted x.face ≡ false) → RecoversFrom d d' (Err fault.NoMemory) → LeavesUnmended wanted d d' NoMemory
-mend_wanted wanted None d' n h = record { value = any_value; opens = tt; stops = h }
-mend_wanted wanted (Some y) d' n h = let t = some_value (superblock.opens y.face) h.0 in record { value = t.0; opens = run_some wanted (superblock.opens y.face) t.0 n t.1; stops = h.1 }
+-- a value that there was no memory for is left alone by its version
+left_unread : (wanted : Option ℕ) (version : ℕ) (b : Bool) (d d' : Option Disk) → IfSome d (λ x. Finds x.face (Err (fault.NoMemory version))) → d' ≡ d → b ≡ is_other wanted version → b ≡ true → LosesValue wanted d d' all_good
+left_unread wanted version b None d' h s e t = untold wanted all_good d' s
+left_unread wanted version b (Some y) d' h s e t = leaves wanted h.value y d' h.opens (ap (is_other wanted) h.named ∙ (sym e ∙ t)) s
+
+wanted_memory : (wanted : Option ℕ) (version : ℕ) (b : Bool) (d d' : Option Disk) → IfSome d (λ x. Finds x.face (Err (fault.NoMemory version))) → d' ≡ d → b ≡ is_other wanted version → b ≡ false → LeavesUnmended wanted d d' NoMemory
+wanted_memory wanted version b None d' h s e n = record { value = any_value; opens = tt; stops = s }
+wanted_memory wanted version b (Some y) d' h s e n = record { value = h.value; opens = opens_so wanted (superblock.opens y.face) h.value h.opens (ap (is_other wanted) h.named ∙ (sym e ∙ n)); stops = s }
+
+pub refused_value : (wanted : Option ℕ) (e : FindFault) (d d' : Option Disk) → IfSome d (λ x. Finds x.face (Err e)) → d' ≡ d → FindsValue wanted d d' (Err (refusal_of wanted e))
+unfolding refusal_of
+refused_value wanted (fault.Lost vs) d d' h s = lost wanted vs d d' h s
+refused_value wanted (fault.NoMemory version) d d' h s =
+    elim (is_other wanted version) as (λ b. b ≡ is_other wanted version → FindsValue wanted d d' (Err (cond b (Lost all_good) (Halted NoMemory)))) [
+      | true ↦ λ e. left_unread wanted version true d d' h s e refl
+      | false ↦ λ e. wanted_memory wanted version false d d' h s e refl
+    ] refl
+
+no_fault : (wanted : Option ℕ) (e : FindFault) → refusal_of wanted e ≡ Halted DiskFault → ⊥
+unfolding refusal_of
+no_fault wanted (fault.Lost vs) e = absurd cc
+no_fault wanted (fault.NoMemory version) e = elim (is_other wanted version) as (λ b. cond b (Lost all_good) (Halted NoMemory) ≡ Halted DiskFault → ⊥) [ true ↦ λ e. absurd cc | false ↦ λ e. absurd cc ] e
+
+-- without a call there is no fault
+pub counts_none : {T : Type 0} (wanted : Option ℕ) (e : FindFault) (before now : ℕ) → now ≡ before → CountsFault {T = T} {E = Refusal} (Halted DiskFault) before now (Err (refusal_of wanted e))
+counts_none wanted e before now s = record { later = omega arith; kept = tt; failed = λ x. absurd (no_fault wanted e x); spared = λ n. s }
 
 -- a stop in the mending is one of the whole opening
 stopped_mending : (v : SuperValue) (d d' : Option Disk) (o : List Output) (halt : Halt) → StopsMending v d d' halt → DoesTo (opening v) (blank v) d d' o o (Err halt)

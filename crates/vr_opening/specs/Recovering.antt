@@ -1,6 +1,6 @@
 -- A replica is recovered from its disk.
 use Rattle.std.specs.Prelude.{ℕ, ◌≡◌, ◌≢◌, ◌==◌, not, Bool, true, false, if◌then◌else◌, List, [], ◌∷◌, map, Option, Some, None, IfSome, is_some, Result, Ok, Err}
-use Rattle.std.specs.Option.{option_and_then, option_map_or}
+use Rattle.std.specs.Option.{option_and_then}
 use Rattle.vr_base.specs.declared.table.Config.{Config}
 use Rattle.vr_disk.specs.DiskState.{Disk, Face, Runs, RunsFrom}
 use Rattle.vr_msg.specs.declared.output.Output.{Output}
@@ -11,6 +11,8 @@ use Rattle.vr_super.specs.Opens.{good_copies}
 use Rattle.vr_super.specs.Recovers.{copy_verdict}
 use Rattle.vr_super.specs.declared.recovering.CopyVerdict.{CopyVerdict}
 use Rattle.vr_super.specs.declared.recovering.CopyVerdict.TheVariants.{Good}
+use Rattle.vr_super.specs.declared.recovering.FindFault.{FindFault}
+use Rattle.vr_super.specs.declared.recovering.FindFault.TheVariants as find
 use Rattle.vr_journal.specs.Replica.{Replica}
 use Rattle.vr_journal.specs.Steps.{Word, ◌⨾◌}
 use Rattle.vr_journal.specs.Opening.{recover_parts, resuming, opening, blank}
@@ -53,10 +55,6 @@ opens_as wanted f = option_and_then (runs_as wanted) (superblock.opens f)
 abbrev pub opens : Face → Option SuperValue
 opens f = opens_as None f
 
--- two good copies agree, on a value that is left alone
-abbrev pub is_left_in : Option ℕ → Face → Bool
-is_left_in wanted f = option_map_or (is_left wanted) (superblock.opens f) false
-
 abbrev pub all_good : List CopyVerdict
 all_good = Good ∷ Good ∷ Good ∷ Good ∷ []
 
@@ -96,6 +94,11 @@ FindsValue wanted d d' (Ok v) = MendsValue wanted v d d'
 FindsValue wanted d d' (Err (Lost verdicts)) = LosesValue wanted d d' verdicts
 FindsValue wanted d d' (Err (OtherMember found)) = ⊥
 FindsValue wanted d d' (Err (Halted halt)) = LeavesUnmended wanted d d' halt
+
+-- where no value was found: one that there was no memory for is left alone by its version
+unfoldable pub refusal_of : Option ℕ → FindFault → Refusal
+refusal_of wanted (find.Lost verdicts) = Lost verdicts
+refusal_of wanted (find.NoMemory version) = if is_other wanted version then Lost all_good else Halted NoMemory
 
 -- the value is that of another member
 pub record IsOther (asked found : Config) (d d' : Option Disk) : Type 0 where

@@ -6,17 +6,18 @@ ghost use Rattle.vr_journal.specs.Does.{Caused};
 ghost use Rattle.vr_journal.specs.Ready.{IsReady};
 ghost use Rattle.vr_opening.specs.Finding.{IsOpeningOld};
 ghost use Rattle.vr_journal.specs.Opening.{blank};
-ghost use Rattle.vr_opening.specs.Recovering.{after_mend, DoesTo, config_of, FindsValue, is_left_in, Recovered, RecoveredAny};
+ghost use Rattle.vr_opening.specs.Recovering.{after_mend, DoesTo, config_of, FindsValue, refusal_of, Recovered, RecoveredAny};
 ghost use Rattle.vr_journal.specs.Halt.TheVariants as Halt;
+ghost use Rattle.vr_super.specs.Recovers.{IsFound};
 
 use crate::begin::open_mended;
-use crate::wanted::{is_left, is_left_in};
+use crate::wanted::{is_left, is_other};
 use std::alloc::Global;
 use vr_base::{Config, Version};
 use vr_disk::SectorDisk;
 use vr_journal::{Halt, Replica};
 use vr_msg::Outbox;
-use vr_super::{CopyVerdict, Super, SuperFault};
+use vr_super::{CopyVerdict, FindFault, FoundValue, Super, find, mend_found};
 
 // The replica of a value that makes a good copy, before it looks at its disk.
 #[tactic(auto, using(crate::proofs::Begins::opening_blank))]
@@ -77,35 +78,44 @@ pub(crate) fn config_of(value: &Super) -> Config
     }
 }
 
-// What stood in the way of the superblock's value, where it isn't left alone. A disk that answers otherwise the second time is judged by its
-// second answer.
-#[tactic(auto, using(crate::proofs::Recovers::found_value, crate::proofs::Recovers::found_left, crate::proofs::Recovers::lost, crate::proofs::Recovers::mend_faulted, crate::proofs::Recovers::mend_wanted))]
+// The value that was found, mended. The copies of one that is left alone aren't mended.
+#[tactic(auto, using(crate::proofs::Recovers::left_alone, crate::proofs::Recovers::mended, crate::proofs::Recovers::mend_faulted))]
 fn mended_value<D: SectorDisk>(
-    alloc: Global,
     disk: &mut D,
+    found: FoundValue,
     wanted: &Option<Version>,
 ) -> Result<Super, Refusal>
-    requires { IfSome (D.told disk.old) (λ d. is_left_in wanted.now d.face ≡ false) }
+    requires { IfSome (D.told disk.old) (λ d. IsFound d.face found) }
     ensures cause { CountsFault (Refusal.Halted Halt.DiskFault) (D.faults disk.old) (D.faults disk.new) result }
     ensures value { FindsValue wanted.now (D.told disk.old) (D.told disk.new) result }
 {
-    match vr_super::recover(alloc, disk) {
-        Ok(value) => {
-            if is_left(&value, wanted) {
-                Err(Refusal::Lost([CopyVerdict::Good; 4]))
-            } else {
-                Ok(value)
-            }
-        }
-        Err(SuperFault::Lost(verdicts)) => Err(Refusal::Lost(verdicts)),
-        Err(SuperFault::DiskFault) => Err(Refusal::Halted(Halt::DiskFault)),
-        Err(SuperFault::NoMemory) => Err(Refusal::Halted(Halt::NoMemory)),
+    if is_left(&found.value, wanted) {
+        return Err(Refusal::Lost([CopyVerdict::Good; 4]));
+    }
+    match mend_found(disk, found) {
+        Ok(value) => Ok(value),
+        Err(_) => Err(Refusal::Halted(Halt::DiskFault)),
     }
 }
 
-// What stood in the way of the superblock's value, in a file of the version that is asked for. The copies of one that is left alone aren't
-// mended.
-#[tactic(auto, using(crate::proofs::Recovers::left_lost, crate::proofs::Recovers::left_not))]
+// Why a disk gives no replica on which no value was found. One that there was no memory for is left alone by its version.
+#[tactic(auto, unfolding(crate::specs::Recovering::refusal_of))]
+fn refusal_of(fault: FindFault, wanted: &Option<Version>) -> Refusal
+    ensures { result ≡ refusal_of wanted.now fault }
+{
+    match fault {
+        FindFault::Lost(verdicts) => Refusal::Lost(verdicts),
+        FindFault::NoMemory(version) => {
+            if is_other(version, wanted) {
+                Refusal::Lost([CopyVerdict::Good; 4])
+            } else {
+                Refusal::Halted(Halt::NoMemory)
+            }
+        }
+    }
+}
+
+// What stood in the way of the superblock's value, in a file of the version that is asked for.
 pub(crate) fn find_value<D: SectorDisk>(
     alloc: Global,
     disk: &mut D,
@@ -114,10 +124,9 @@ pub(crate) fn find_value<D: SectorDisk>(
     ensures cause { CountsFault (Refusal.Halted Halt.DiskFault) (D.faults disk.old) (D.faults disk.new) result }
     ensures value { FindsValue wanted.now (D.told disk.old) (D.told disk.new) result }
 {
-    if is_left_in(disk, wanted) {
-        Err(Refusal::Lost([CopyVerdict::Good; 4]))
-    } else {
-        mended_value(alloc, disk, wanted)
+    match find(alloc, disk) {
+        Ok(found) => mended_value(disk, found, wanted),
+        Err(fault) => Err(refusal_of(fault, wanted)),
     }
 }
 

@@ -3,17 +3,22 @@ use Rattle.std.proofs.Common.{ℕ, ◌≡◌, refl, sym, ap, ◌∙◌, true, fa
 use Rattle.std.specs.Prelude.{is_ok, is_some, map, IsSome, IfErr, IfOk, IfSome}
 use Rattle.std.specs.List.{AllByRecursion}
 use Rattle.std.specs.Option.{option_and_then}
-use Rattle.vr_disk.specs.DiskState.{Disk, IsFace, Runs, RunsFrom}
+use Rattle.vr_disk.specs.DiskState.{Disk, Face, IsFace, Runs, RunsFrom}
 use Rattle.vr_super.specs.declared.reading.Reading.{Reading}
+use Rattle.vr_super.specs.declared.recovering.CopyVerdict.{CopyVerdict}
+use Rattle.vr_super.specs.declared.recovering.FindFault.{FindFault}
+use Rattle.vr_super.specs.declared.recovering.FindFault.TheVariants as find
+use Rattle.vr_super.specs.declared.recovering.FoundValue.{FoundValue}
 use Rattle.vr_super.specs.declared.recovering.SuperFault.{SuperFault}
 use Rattle.vr_super.specs.declared.recovering.SuperFault.TheVariants as fault
-use Rattle.vr_super.specs.Copies.{SuperValue, value_of}
+use Rattle.vr_super.specs.Copies.{SuperValue, value_of, version_at}
 use Rattle.vr_super.specs.Calls.{mend_calls}
 use Rattle.vr_super.specs.Opens.{good_copies, opened, opens}
 use Rattle.vr_super.specs.Laws.{MendKeeps, Mended}
-use Rattle.vr_super.specs.Recovers.{Chosen, Recovers, RecoversFrom, copy_verdict}
+use Rattle.vr_super.specs.Recovers.{Chosen, Finds, IsFound, IsUnread, Recovers, RecoversFrom}
 use Rattle.vr_super.specs.Seen.{IsHonest, seen}
 use Rattle.vr_super.proofs.Best.{Among, opened_among}
+use Rattle.vr_super.proofs.Format.{versioned}
 use Rattle.vr_super.proofs.Keeping.{mend_law, mend_leaves}
 
 seen_good : (b : List ℕ) (r : Reading) → IsHonest r → seen r ≡ Some b → is_some (value_of b) ≡ true
@@ -32,46 +37,59 @@ among_good b (r ∷ rs) h (inr a) = among_good b rs h.1 a
 pub opened_good : (b : List ℕ) (rs : List Reading) → AllByRecursion IsHonest rs → opened (map seen rs) ≡ Some b → is_some (value_of b) ≡ true
 opened_good b rs h e = among_good b rs h (opened_among b (map seen rs) e)
 
-pub chosen_none : (copies : List (Option (List ℕ))) → opened copies ≡ None → option_and_then value_of (opened copies) ≡ None
-chosen_none copies e = rw e refl
-
 pub chosen_some : (copies : List (Option (List ℕ))) (b : List ℕ) (v : SuperValue) → opened copies ≡ Some b → value_of b ≡ Some v → option_and_then value_of (opened copies) ≡ Some v
 chosen_some copies b v e h = rw e h
 
-is_some_fact : {X : Type 0} → (o : Option X) → is_some o ≡ true → IsSome o
-is_some_fact None e = absurd cc
-is_some_fact (Some x) e = search rules
+unread : (b : List ℕ) (o : Option SuperValue) → value_of b ≡ o → is_some o ≡ true → IsUnread o (version_at b)
+unread b None e h = absurd cc
+unread b (Some v) e h = record { value = v; opens = refl; named = versioned b v e }
 
-pub chosen_there : (copies : List (Option (List ℕ))) (b : List ℕ) → opened copies ≡ Some b → is_some (value_of b) ≡ true → IsSome (option_and_then value_of (opened copies))
-chosen_there copies b e h = rw e (is_some_fact (value_of b) h)
+pub chosen_unread : (copies : List (Option (List ℕ))) (b : List ℕ) → opened copies ≡ Some b → is_some (value_of b) ≡ true → IsUnread (option_and_then value_of (opened copies)) (version_at b)
+chosen_unread copies b e h = rw e (unread b (value_of b) refl h)
 
 -- ---- over a disk
 
-pub opens_is : (d : Disk) (copies : List (Option (List ℕ))) → copies ≡ good_copies d.face → opens d.face ≡ option_and_then value_of (opened copies)
+-- what copies open as that are those of the disk, it opens as
+pub chosen_from : (t : Option Disk) (copies : List (Option (List ℕ))) (r : Result SuperValue FindFault) → IfSome t (λ d. copies ≡ good_copies d.face) → Chosen copies r → IfSome t (λ d. Chosen (good_copies d.face) r)
+chosen_from None copies r s c = tt
+chosen_from (Some d) copies r s c = subst (λ (cs : List (Option (List ℕ))). Chosen cs r) s c
+
+pub opens_chosen : (f : Face) (v : SuperValue) → Chosen (good_copies f) (Ok v) → opens f ≡ Some v
 unfolding opens
-opens_is d copies e = ap (λ c. option_and_then value_of (opened c)) (sym e)
+opens_chosen f v c = c
 
-pub stops_on : (d : Disk) (new : Option Disk) (copies : List (Option (List ℕ))) (e : SuperFault) → copies ≡ good_copies d.face → new ≡ Some d → Chosen copies (Err e) → Recovers d new (Err e)
-stops_on d new copies (fault.Lost vs) s n c = (opens_is d copies s ∙ c.0, n, c.1 ∙ ap (map copy_verdict) s)
-stops_on d new copies fault.DiskFault s n c = elim c [ ]
-stops_on d new copies fault.NoMemory s n c = (subst (λ (o : Option SuperValue). IsSome o) (sym (opens_is d copies s)) c, n)
+fails_on : (f : Face) (e : FindFault) → Chosen (good_copies f) (Err e) → Finds f (Err e)
+unfolding opens
+fails_on f (find.Lost vs) c = c
+fails_on f (find.NoMemory version) c = c
 
-pub stops_from : (t new : Option Disk) (copies : List (Option (List ℕ))) (e : SuperFault) → IfSome t (λ d. copies ≡ good_copies d.face) → new ≡ t → Chosen copies (Err e) → RecoversFrom t new (Err e)
-stops_from None new copies e s n c = n
-stops_from (Some d) new copies e s n c = stops_on d new copies e s n c
+pub fails : (t : Option Disk) (e : FindFault) → IfSome t (λ d. Chosen (good_copies d.face) (Err e)) → IfSome t (λ d. Finds d.face (Err e))
+fails None e c = tt
+fails (Some d) e c = fails_on d.face e c
 
-pub not_disk : (copies : List (Option (List ℕ))) (e : SuperFault) → Chosen copies (Err e) → e ≡ fault.DiskFault → ⊥
-not_disk copies e c s = let x : Chosen copies (Err fault.DiskFault) = subst (λ (e : SuperFault). Chosen copies (Err e)) s c in x
+-- copies that may differ are read again
+pub found_apart : (t : Option Disk) (v : SuperValue) → IfSome t (λ d. Chosen (good_copies d.face) (Ok v)) → IfSome t (λ d. IsFound d.face (record { value = v; alike = false }))
+found_apart None v c = tt
+found_apart (Some d) v c = record { opens = opens_chosen d.face v c; alike = λ e. absurd cc }
 
-mended_on : (d : Disk) (new : Option Disk) (copies : List (Option (List ℕ))) (v : SuperValue) (r : Result SuperValue SuperFault) → copies ≡ good_copies d.face → Chosen copies (Ok v)
-    → RunsFrom (mend_calls v) (Some d) new (is_ok r) → IfOk r (λ x. x ≡ v) → IfErr r (λ e. e ≡ fault.DiskFault) → Recovers d new r
-mended_on d new copies v (Ok x) s c h k f = subst (λ (y : SuperValue). Recovers d new (Ok y)) (sym k) (opens_is d copies s ∙ c, h)
-mended_on d new copies v (Err e) s c h k f = subst (λ (y : SuperFault). Recovers d new (Err y)) (sym f) (record { value = v; opens = opens_is d copies s ∙ c; ran = h })
+-- ---- the value that was found, mended
 
-pub mended_from : (t mid new : Option Disk) (copies : List (Option (List ℕ))) (v : SuperValue) (r : Result SuperValue SuperFault) → mid ≡ t → IfSome t (λ d. copies ≡ good_copies d.face) → Chosen copies (Ok v)
-    → RunsFrom (mend_calls v) mid new (is_ok r) → IfOk r (λ x. x ≡ v) → IfErr r (λ e. e ≡ fault.DiskFault) → RecoversFrom t new r
-mended_from None mid new copies v r m s c h k f = let h' : RunsFrom (mend_calls v) None new (is_ok r) = rw m at h in h'
-mended_from (Some d) mid new copies v r m s c h k f = let h' : RunsFrom (mend_calls v) (Some d) new (is_ok r) = rw m at h in mended_on d new copies v r s c h' k f
+mended_on : (d : Disk) (new : Option Disk) (v : SuperValue) (r : Result SuperValue SuperFault) → opens d.face ≡ Some v → RunsFrom (mend_calls v) (Some d) new (is_ok r) → IfOk r (λ x. x ≡ v) → IfErr r (λ e. e ≡ fault.DiskFault) → Recovers d new r
+mended_on d new v (Ok x) o h k f = subst (λ (y : SuperValue). Recovers d new (Ok y)) (sym k) (o, h)
+mended_on d new v (Err e) o h k f = subst (λ (y : SuperFault). Recovers d new (Err y)) (sym f) (record { value = v; opens = o; ran = h })
+
+pub mended_from : (t mid new : Option Disk) (found : FoundValue) (r : Result SuperValue SuperFault) → mid ≡ t → IfSome t (λ d. IsFound d.face found) → RunsFrom (mend_calls found.value) mid new (is_ok r) → IfOk r (λ x. x ≡ found.value) → IfErr r (λ e. e ≡ fault.DiskFault)
+    → RecoversFrom t new r
+mended_from None mid new found r m s h k f = let h' : RunsFrom (mend_calls found.value) None new (is_ok r) = rw m at h in h'
+mended_from (Some d) mid new found r m s h k f = let h' : RunsFrom (mend_calls found.value) (Some d) new (is_ok r) = rw m at h in mended_on d new found.value r s.opens h' k f
+
+pub lost_from : (t new : Option Disk) (vs : List CopyVerdict) → new ≡ t → IfSome t (λ d. Finds d.face (Err (find.Lost vs))) → RecoversFrom t new (Err (fault.Lost vs))
+lost_from None new vs n c = n
+lost_from (Some d) new vs n c = (c.0, n, c.1)
+
+pub wanted_from : (t new : Option Disk) (version : ℕ) → new ≡ t → IfSome t (λ d. Finds d.face (Err (find.NoMemory version))) → RecoversFrom t new (Err fault.NoMemory)
+wanted_from None new version n c = n
+wanted_from (Some d) new version n c = (subst (λ (o : Option SuperValue). IsSome o) (sym c.opens) (search rules), n)
 
 -- ---- what a stop leaves, and what the call leaves
 

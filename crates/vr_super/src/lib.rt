@@ -16,6 +16,6 @@ mod writing;
 pub use fields::Fields;
 pub use laws::superblock_laws;
 pub use opening::{Found, opens};
-pub use recovering::{CopyVerdict, SuperFault, recover};
+pub use recovering::{CopyVerdict, FindFault, FoundValue, SuperFault, find, mend_found, recover};
 pub use value::Super;
 pub use writing::{mend_value, write, write_copies};

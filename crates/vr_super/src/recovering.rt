@@ -5,18 +5,19 @@ ghost use Rattle.vr_base.specs.Causes.{HasCause};
 ghost use Rattle.vr_disk.specs.Counts.{CountsFault};
 ghost use Rattle.vr_disk.specs.DiskState.{RunsFrom};
 ghost use Rattle.vr_super.specs.Calls.{mend_calls};
-ghost use Rattle.vr_super.specs.Copies.{SuperValue, value_of};
+ghost use Rattle.vr_super.specs.Copies.{SuperValue, value_of, version_at};
 ghost use Rattle.vr_super.specs.Laws.{MendKeeps, Mended};
-ghost use Rattle.vr_super.specs.Opens.{four, if_good, opens};
-ghost use Rattle.vr_super.specs.Recovers.{Chosen, RecoversFrom, copy_verdict};
+ghost use Rattle.vr_super.specs.Opens.{four, good_copies, if_good, opens};
+ghost use Rattle.vr_super.specs.Recovers.{Chosen, Finds, IsFound, RecoversFrom, copy_verdict};
 ghost use Rattle.vr_super.specs.Seen.{IsHonest, seen};
 
 use crate::Super;
-use crate::check::is_good;
+use crate::check::{is_good, version_at};
 use crate::opening::best_of;
 use crate::reading::{Reading, read_alike, read_all, unread};
-use crate::writing::mend;
+use crate::writing::mend_value;
 use std::alloc::Global;
+use vr_base::Version;
 use vr_disk::{COPY_SIZE, SectorDisk};
 
 /// Whether a copy is good.
@@ -35,6 +36,23 @@ pub enum SuperFault {
     DiskFault,
     /// There was no memory.
     NoMemory,
+}
+
+/// Why no value was found.
+#[derive(Clone, Copy, Debug, PartialEq, Eq)]
+pub enum FindFault {
+    /// No two good copies agree. The verdicts are those of copies 0 to 3.
+    Lost([CopyVerdict; 4]),
+    /// There was no memory for the value. Its file is of this version.
+    NoMemory(Version),
+}
+
+/// A value that a disk opens as.
+#[derive(Drop)]
+pub struct FoundValue {
+    pub value: Super,
+    /// All four copies were read as its bytes.
+    pub alike: bool,
 }
 
 fn copy_verdict(r: &Reading) -> CopyVerdict
@@ -60,15 +78,15 @@ fn copy_verdicts(readings: &[Reading; 4]) -> [CopyVerdict; 4]
 }
 
 // The value of a good copy.
-fn read_value(alloc: Global, bytes: &[u8]) -> Result<Super, SuperFault>
+fn read_value(alloc: Global, bytes: &[u8]) -> Result<Super, FindFault>
     requires size { length bytes.now ≡ COPY_SIZE }
     requires good { is_some (value_of bytes.now) ≡ true }
     ensures value { IfOk result (λ v. value_of bytes.now ≡ Some v) }
-    ensures fault { IfErr result (λ e. e ≡ SuperFault.NoMemory) }
+    ensures fault { IfErr result (λ e. e ≡ FindFault.NoMemory (version_at bytes.now)) }
 {
     match Super::read(alloc, bytes) {
         Ok(value) => Ok(value),
-        Err(_) => Err(SuperFault::NoMemory),
+        Err(_) => Err(FindFault::NoMemory(version_at(bytes))),
     }
 }
 
@@ -77,7 +95,7 @@ fn choose_alike<D: SectorDisk>(
     alloc: Global,
     disk: &mut D,
     bytes: &[u8],
-) -> Result<Super, SuperFault>
+) -> Result<Super, FindFault>
     requires { length bytes.now ≡ COPY_SIZE }
     ensures told { D.told disk.new ≡ D.told disk.old }
     ensures faults { D.faults disk.new ≡ D.faults disk.old }
@@ -87,45 +105,73 @@ fn choose_alike<D: SectorDisk>(
     if is_good(disk, bytes) {
         read_value(alloc, bytes)
     } else {
-        Err(SuperFault::Lost([CopyVerdict::Bad; 4]))
+        Err(FindFault::Lost([CopyVerdict::Bad; 4]))
     }
 }
 
 // The value that these copies open as.
-fn choose(alloc: Global, readings: &[Reading; 4]) -> Result<Super, SuperFault>
+fn choose(alloc: Global, readings: &[Reading; 4]) -> Result<Super, FindFault>
     requires { AllByRecursion IsHonest readings.now }
     ensures { Chosen (map seen readings.now) result }
 {
     match best_of(readings) {
-        None => Err(SuperFault::Lost(copy_verdicts(readings))),
+        None => Err(FindFault::Lost(copy_verdicts(readings))),
         Some(best) => read_value(alloc, &best.bytes),
     }
 }
 
-fn mended<D: SectorDisk>(disk: &mut D, value: Super) -> Result<Super, SuperFault>
-    ensures runs { RunsFrom (mend_calls value) (D.told disk.old) (D.told disk.new) (is_ok result) }
-    ensures kept { IfOk result (λ v. v ≡ value) }
-    ensures fault { IfErr result (λ e. e ≡ SuperFault.DiskFault) }
-    ensures cause { HasCause (D.faults disk.old) (D.faults disk.new) result }
+// The value that the disk opens as, where its copies may differ.
+fn choose_apart<D: SectorDisk>(alloc: Global, disk: &mut D) -> Result<Super, FindFault>
+    ensures told { D.told disk.new ≡ D.told disk.old }
+    ensures faults { D.faults disk.new ≡ D.faults disk.old }
     ensures reads { D.read_faults disk.old ≤ D.read_faults disk.new }
-{
-    match mend(disk, value.bytes()) {
-        Ok(()) => Ok(value),
-        Err(_) => Err(SuperFault::DiskFault),
-    }
-}
-
-// The value that the disk opens as, with its copies mended, where they may differ.
-fn recover_apart<D: SectorDisk>(alloc: Global, disk: &mut D) -> Result<Super, SuperFault>
-    ensures value { RecoversFrom (D.told disk.old) (D.told disk.new) result }
-    ensures cause { CountsFault SuperFault.DiskFault (D.faults disk.old) (D.faults disk.new) result }
-    ensures reads { D.read_faults disk.old ≤ D.read_faults disk.new }
+    ensures value { IfSome (D.told disk.old) (λ d. Chosen (good_copies d.face) result) }
 {
     let mut readings = unread();
     read_all(disk, &mut readings);
-    match choose(alloc, &readings) {
-        Ok(value) => mended(disk, value),
-        Err(fault) => Err(fault),
+    choose(alloc, &readings)
+}
+
+/// The value that the disk opens as. It writes nothing.
+pub fn find<D: SectorDisk>(alloc: Global, disk: &mut D) -> Result<FoundValue, FindFault>
+    ensures told { D.told disk.new ≡ D.told disk.old }
+    ensures faults { D.faults disk.new ≡ D.faults disk.old }
+    ensures reads { D.read_faults disk.old ≤ D.read_faults disk.new }
+    ensures value { IfSome (D.told disk.old) (λ d. Finds d.face result) }
+{
+    let mut first = [0; COPY_SIZE];
+    if read_alike(disk, &mut first) {
+        match choose_alike(alloc, disk, &first) {
+            Ok(value) => Ok(FoundValue { value, alike: true }),
+            Err(fault) => Err(fault),
+        }
+    } else {
+        match choose_apart(alloc, disk) {
+            Ok(value) => Ok(FoundValue {
+                value,
+                alike: false,
+            }),
+            Err(fault) => Err(fault),
+        }
+    }
+}
+
+/// The value that was found, with its copies mended. Where all four were read as its bytes the disk is left alone, and they aren't read again.
+pub fn mend_found<D: SectorDisk>(disk: &mut D, found: FoundValue) -> Result<Super, SuperFault>
+    requires { IfSome (D.told disk.old) (λ d. IsFound d.face found) }
+    ensures runs { RunsFrom (mend_calls found.value) (D.told disk.old) (D.told disk.new) (is_ok result) }
+    ensures kept { IfOk result (λ v. v ≡ found.value) }
+    ensures fault { IfErr result (λ e. e ≡ SuperFault.DiskFault) }
+    ensures cause { HasCause (D.faults disk.old) (D.faults disk.new) result }
+    ensures reads { D.read_faults disk.old ≤ D.read_faults disk.new }
+    ensures alike { found.alike ≡ true → disk.new ≡ disk.old }
+{
+    if found.alike {
+        return Ok(found.value);
+    }
+    match mend_value(disk, &found.value) {
+        Ok(()) => Ok(found.value),
+        Err(_) => Err(SuperFault::DiskFault),
     }
 }
 
@@ -141,10 +187,9 @@ pub fn recover<D: SectorDisk>(alloc: Global, disk: &mut D) -> Result<Super, Supe
     // So does the disk as the call leaves it, whatever it answers; after an `Ok` all four copies have the value.
     ensures left { IfSome (D.told disk.old) (λ d. d.face.waiting ≡ [] → (v : SuperValue) → opens d.face ≡ Some v → IfSome (D.told disk.new) (λ e. Mended v (is_ok result) e.face)) }
 {
-    let mut first = [0; COPY_SIZE];
-    if read_alike(disk, &mut first) {
-        choose_alike(alloc, disk, &first)
-    } else {
-        recover_apart(alloc, disk)
+    match find(alloc, disk) {
+        Ok(found) => mend_found(disk, found),
+        Err(FindFault::Lost(verdicts)) => Err(SuperFault::Lost(verdicts)),
+        Err(FindFault::NoMemory(_)) => Err(SuperFault::NoMemory),
     }
 }
