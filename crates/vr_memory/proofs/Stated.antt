@@ -1,6 +1,6 @@
 -- What a replica states of its log.
-use Rattle.std.proofs.Common.{arith, ℕ, zero, suc, ◌≡◌, ◌≤◌, ◌<◌, ◌+◌, ◌-◌, ◌∙◌, refl, ap, inl, inr, true, false, not, List, [], ◌∷◌, ◌++◌, length, take, drop, get_or, add-one, Some, None, Option}
-use Rattle.std.specs.Prelude.{reverse}
+use Rattle.std.proofs.Common.{arith, ℕ, zero, suc, ◌≡◌, ◌≤◌, ◌<◌, ◌+◌, ◌-◌, ◌∙◌, refl, sym, ap, inl, inr, true, false, not, List, [], ◌∷◌, ◌++◌, length, take, drop, get_or, add-one, Some, None, Option}
+use Rattle.std.specs.Prelude.{Bool, is_some, reverse}
 use Rattle.std.specs.List.{prefix_len, range_with_len, filter_map}
 use Rattle.std.specs.Option.{option_to_list}
 use Rattle.std.proofs.lemmas.Bool.{cases_eq, eq-eqb, ne_eqb}
@@ -9,16 +9,12 @@ use Rattle.std.proofs.lemmas.List.{reverse-append, length-append, length-drop, l
 use Rattle.std.proofs.lemmas.List.Sums.{prefix_len-le-length}
 use Rattle.std.proofs.lemmas.List.Folds.{prefix_len-append}
 use Rattle.std.proofs.lemmas.List.Elements.{filter_map-append}
-use Rattle.vr_header.specs.declared.header.Header.{Header}
 use Rattle.vr_header.specs.declared.part.Part.{Part}
 use Rattle.vr_header.specs.declared.part.Part.TheVariants.{Nothing}
-use Rattle.vr_msg.specs.Logs.{header_of}
 use Rattle.vr_msg.specs.declared.statement.Statement.{Statement}
 use Rattle.vr_rules.specs.Replica.{Replica, is_nothing, trimmed}
 use Rattle.vr_rules.specs.Words.{stated}
-use Rattle.vr_window.specs.Runs.{run_of}
 use Rattle.vr_memory.specs.States.{last_told, stated_by, stated_to}
-use Rattle.vr_window.proofs.Lists.{run_more, run_none, run_stops}
 
 -- ---- the last that isn't Nothing
 
@@ -115,19 +111,6 @@ told_ends xs from i end e k = rw (k, e, trimmed_is (drop from xs), last_drop fro
 
 pub ruleset tells = (told_none, told_more, told_ends)
 
--- ---- the run
-
-pub length_none : (xs : List Part) → 0 ≡ length (run_of 0 xs)
-length_none xs = rw (run_none xs) refl
-
-pub length_more : (xs : List Part) (i : ℕ) (h : Header) → header_of (get_or xs i Nothing) ≡ Some h → length (run_of (i + 1) xs) ≡ length (run_of i xs) + 1
-length_more xs i h e = rw (run_more xs i h e) (length-append (run_of i xs) (h ∷ []))
-
-pub length_stops : (xs : List Part) (i : ℕ) → i < length xs → header_of (get_or xs i Nothing) ≡ None → length (run_of (i + 1) xs) ≡ 0
-length_stops xs i l e = rw (run_stops xs i l e) refl
-
-pub ruleset runs = (length_none, length_more, length_stops)
-
 -- ---- all statements
 
 range_more : (a n j : ℕ) → a + n ≡ j → range_with_len a (n + 1) ≡ range_with_len a n ++ j ∷ []
@@ -151,3 +134,31 @@ unfolding stated_to stated
 stated_all r i n ss e a b k = let same : i ≡ r.n = omega arith in k ∙ rw same refl
 
 pub ruleset alls = (stated_none, stated_more, stated_all)
+
+-- ---- how many have stated
+
+count_one : (r : Replica) (i : ℕ) → length (stated_to r (i + 1)) ≡ length (stated_to r i) + length (option_to_list (stated_by r i))
+count_one r i =
+    rw (← stated_more r i (stated_by r i) (stated_to r i) (stated_to r i ++ option_to_list (stated_by r i)) refl refl refl)
+    (length-append (stated_to r i) (option_to_list (stated_by r i)))
+
+pub count_none : (r : Replica) → 0 ≡ length (stated_to r 0)
+count_none r = rw (← stated_none r) refl
+
+pub count_more : (r : Replica) (i : ℕ) (b : Bool) → b ≡ is_some (stated_by r i) → b ≡ true → length (stated_to r (i + 1)) ≡ length (stated_to r i) + 1
+count_more r i b e t =
+    let one : length (option_to_list (stated_by r i)) ≡ 1 =
+    elim (stated_by r i) as (λ (o : Option Statement). is_some o ≡ true → length (option_to_list o) ≡ 1) [ None ↦ λ s. absurd cc | Some s ↦ λ s. refl ] (sym e ∙ t) in
+    count_one r i ∙ rw one refl
+
+pub count_less : (r : Replica) (i : ℕ) (b : Bool) → b ≡ is_some (stated_by r i) → b ≡ false → length (stated_to r (i + 1)) ≡ length (stated_to r i)
+count_less r i b e t =
+    let none : length (option_to_list (stated_by r i)) ≡ 0 =
+    elim (stated_by r i) as (λ (o : Option Statement). is_some o ≡ false → length (option_to_list o) ≡ 0) [ None ↦ λ s. refl | Some s ↦ λ s. absurd cc ] (sym e ∙ t) in
+    let one = count_one r i in
+    omega (arith, one, none)
+
+pub count_all : (r : Replica) (i n : ℕ) → n ≡ r.n → n ≤ i → i ≤ n → length (stated_to r i) ≡ length (stated r)
+count_all r i n e a b = rw (stated_all r i n (stated_to r i) e a b refl) refl
+
+pub ruleset counts = (count_none, count_more, count_less, count_all)

@@ -1,9 +1,8 @@
 //! What a replica states of its log.
-ghost use Rattle.std.specs.Prelude.{◌≡◌, ◌≤◌, ◌<◌, ◌+◌, ◌-◌, ◌++◌, IfOk, OnOk, None, drop, length, not, slice_index_or};
+ghost use Rattle.std.specs.Prelude.{◌≡◌, ◌≤◌, ◌<◌, ◌+◌, ◌-◌, ◌++◌, IfOk, OnOk, None, drop, is_some, length, not, slice_index_or};
 ghost use Rattle.std.specs.Option.{option_to_list};
 ghost use Rattle.vr_header.specs.declared.part.Part.TheVariants.{Nothing};
 ghost use Rattle.vr_memory.specs.Ready.{HasWindow};
-ghost use Rattle.vr_window.specs.Runs.{run_of};
 ghost use Rattle.vr_memory.specs.States.{last_told, stated_by};
 ghost use Rattle.vr_rules.specs.Replica.{is_nothing, parts_from, run_start, statement_of, trimmed};
 ghost use Rattle.vr_rules.specs.Words.{stated};
@@ -13,7 +12,7 @@ use std::alloc::{AllocError, Global};
 use vr_base::Seq;
 use vr_header::Part;
 use vr_msg::{DvcBody, Statement};
-use vr_window::{Window, known_at};
+use vr_window::{Window, run_length};
 
 /// Whether something is known of the op at a place.
 fn is_told(parts: &Window<Part>, at: usize) -> bool
@@ -51,23 +50,6 @@ fn told_from(alloc: Global, parts: &Window<Part>, from: usize) -> Result<Seq<Par
         told.push(parts.get_or(i, Part::Nothing))?;
     }
     Ok(told)
-}
-
-/// How many known headers reach the end of the first items without a hole.
-#[tactic(auto, using(crate::proofs::Stated::runs))]
-fn run_length(parts: &Window<Part>, count: usize) -> usize
-    requires { count ≤ length parts.now }
-    ensures value { result ≡ length (run_of count parts.now) }
-    ensures within { result ≤ count }
-{
-    let mut known = 0;
-    for i in 0..count {
-        match known_at(parts, i) {
-            Some(_) => known += 1,
-            None => known = 0,
-        }
-    }
-    known
 }
 
 fn push_some(all: &mut Seq<Statement>, one: Option<Statement>) -> Result<(), AllocError>
@@ -142,5 +124,33 @@ impl Replica {
             push_some(&mut all, one)?;
         }
         Ok(all)
+    }
+
+    /// Whether a replica has stated for this view; this one always has.
+    #[tactic(auto, using(vr_window::proofs::Lists::past_is, vr_window::proofs::Lists::found_is))]
+    fn has_stated(&self, i: u8) -> bool
+        ensures { result ≡ is_some (stated_by self.now i) }
+    {
+        if i == self.index {
+            return true;
+        }
+        match self.statements.as_slice().get(usize::from(i)) {
+            Some(Some(_)) => true,
+            _ => false,
+        }
+    }
+
+    /// How many replicas have stated for this view, this one among them.
+    #[tactic(auto, using(crate::proofs::Stated::counts))]
+    pub fn stated_count(&self) -> usize
+        ensures { result ≡ length (stated self.now) }
+    {
+        let mut count = 0;
+        for i in 0..self.n() {
+            if self.has_stated(i) {
+                count += 1;
+            }
+        }
+        count
     }
 }

@@ -1,7 +1,9 @@
 -- What the statements of a group decide, and the log that its primary chooses.
-use Rattle.std.proofs.Common.{arith, ℕ, ◌≡◌, ◌≤◌, ◌<◌, ◌^◌, ◌∙◌, refl, sym, subst, List, ◌++◌, Option, Result, Ok}
-use Rattle.std.specs.Prelude.{All, Bool, true, false, ◌&&◌, if◌then◌else◌, not}
+use Rattle.std.proofs.Common.{arith, ℕ, ◌≡◌, ◌≤◌, ◌<◌, ◌^◌, ◌∙◌, refl, sym, subst, List, ◌++◌, Option, Some, None, Result, Ok}
+use Rattle.std.specs.Prelude.{All, Bool, true, false, ◌&&◌, if◌then◌else◌, length, nat_lt, not}
+use Rattle.std.specs.Option.{option_map_or}
 use Rattle.std.proofs.lemmas.List.Elements.{All-weaker}
+use Rattle.vr_base.specs.declared.table.Quorums.{Quorums}
 use Rattle.vr_base.specs.Groups.{quorums_of}
 use Rattle.vr_choose.specs.Statements.{IsSomeStatement}
 use Rattle.vr_choose.proofs.Bounds.{some_statements}
@@ -11,11 +13,11 @@ use Rattle.vr_msg.specs.declared.choice.Choice.{Choice}
 use Rattle.vr_msg.specs.declared.choice.Choice.TheVariants.{Ends, WaitsAt, TooFew}
 use Rattle.vr_msg.specs.declared.output.Output.{Output}
 use Rattle.vr_msg.specs.declared.statement.Statement.{Statement}
-use Rattle.vr_msg.specs.Choice.{top_view}
+use Rattle.vr_msg.specs.Choice.{choice, top_view}
 use Rattle.vr_msg.specs.Logs.{IsStatement}
 use Rattle.vr_journal.specs.Outputs.{send_to_all, start_view, wait_line}
 use Rattle.vr_journal.specs.Steps.{◌⨾◌, by, says}
-use Rattle.vr_journal.specs.Replica.{Replica, is_alone, is_primary, is_started, last_view, version}
+use Rattle.vr_journal.specs.Replica.{Replica, is_alone, is_primary, is_started, last_view, version, view_change}
 use Rattle.vr_journal.specs.Sound.{IsStated}
 use Rattle.vr_journal.specs.Words.{Log, advance, apply, begin_view, choose_line, chosen_log, decided, obey_choice, prepare_again, stated, take, try, try_log}
 use Rattle.vr_journal.proofs.Storing.{head_number}
@@ -79,7 +81,18 @@ module _ (r : Replica) (c : Choice) where
       subst (λ (x : Choice). Does (obey_choice (stated r) x) r r' d d' o o' result) (sym same)
       (does_by (λ (x : Replica). try_log (stated r) (chosen_log x (stated r) hs)) r r' d d' o o' result (rw (s, log) at h))
 
-pub ruleset choices = (choice_few, choice_waits, choice_ends)
+-- fewer than a view-change quorum decide nothing
+few_of : (o : Option Quorums) (ss : List Statement) → nat_lt (length ss) (option_map_or (λ q. q.view_change) o 0) ≡ true → option_map_or (λ q. choice q ss) o TooFew ≡ TooFew
+unfolding choice
+few_of None ss t = refl
+few_of (Some q) ss t = let few : nat_lt (length ss) q.view_change ≡ true = t in rw few refl
+
+pub choice_small : (r : Replica) (b : Bool) (d : Option Disk) (o : List Output) → b ≡ nat_lt (length (stated r)) (view_change r.n) → b ≡ true → Does (obey_choice (stated r) (decided r)) r r d d o o (Ok tt)
+choice_small r b d o e t =
+    let same : decided r ≡ TooFew = few_of (quorums_of r.n) (stated r) (sym e ∙ t) in
+    subst (λ (x : Choice). Does (obey_choice (stated r) x) r r d d o o (Ok tt)) (sym same) (does_quiet r d o)
+
+pub ruleset choices = (choice_small, choice_few, choice_waits, choice_ends)
 
 -- ---- whether it chooses
 

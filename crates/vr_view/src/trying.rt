@@ -1,5 +1,5 @@
 //! Try: the primary of a view that isn't started chooses the log with which it begins.
-ghost use Rattle.std.specs.Prelude.{◌≡◌, ◌<◌, ◌≤◌, ◌+◌, ◌^◌, ◌++◌, IfOk, OnOk, ◌&&◌, if◌then◌else◌, nat_le, not};
+ghost use Rattle.std.specs.Prelude.{◌≡◌, ◌<◌, ◌≤◌, ◌+◌, ◌^◌, ◌++◌, IfOk, OnOk, ◌&&◌, if◌then◌else◌, length, nat_le, nat_lt, not};
 ghost use Rattle.vr_base.specs.Replicas.{size};
 ghost use Rattle.vr_journal.specs.Ready.{IsReady};
 ghost use Rattle.vr_journal.specs.Replica.{is_alone, is_primary, is_started, last_view, view_change};
@@ -178,7 +178,18 @@ fn try_log<D: SectorDisk>(
     }
 }
 
-// Obeys what the statements of the group decide.
+// Whether too few replicas have stated for its view to choose a log.
+fn are_too_few(replica: &Replica) -> bool
+    ensures { result ≡ nat_lt (length (stated replica.now)) (view_change replica.now.n) }
+{
+    match quorums(replica.n()) {
+        Some(quorums) => replica.stated_count() < quorums.view_change as usize,
+        // No group has such a size; by the definition its quorum is 0.
+        None => false,
+    }
+}
+
+// Obeys what the statements of the group decide; they are copied only where they are enough.
 #[tactic(auto, using(crate::proofs::Choices::choices, crate::proofs::Choices::chosen_taught, vr_journal::proofs::Memory::window_of, vr_journal::proofs::Stepping::wants))]
 fn choose_log<D: SectorDisk>(
     replica: &mut Replica,
@@ -193,6 +204,9 @@ fn choose_log<D: SectorDisk>(
     ensures cause { Caused (D.faults disk.old) (D.faults disk.new) result }
     ensures step { Does (obey_choice (stated replica.old) (decided replica.old)) replica.old replica.new (D.told disk.old) (D.told disk.new) out.old out.new result }
 {
+    if are_too_few(replica) {
+        return Ok(());
+    }
     let statements = replica.stated(alloc)?;
     match decide(replica, alloc, &statements)? {
         Choice::TooFew => Ok(()),

@@ -1,9 +1,10 @@
 -- Lists of Parts.
-use Rattle.std.proofs.Common.{arith, ℕ, zero, suc, ◌+◌, ◌-◌, ◌≤◌, ◌<◌, ◌≡◌, refl, ap, inl, inr, true, false, List, [], ◌∷◌, ◌++◌, length, take, drop, get_or, set, add-one, append-nil, append_assoc, ◌∙◌, replicate, slice_get, Some, None}
+use Rattle.std.proofs.Common.{arith, ℕ, zero, suc, ◌+◌, ◌-◌, ◌≤◌, ◌<◌, ◌≡◌, refl, sym, ap, inl, inr, true, false, List, [], ◌∷◌, ◌++◌, length, take, drop, get_or, set, add-one, append-nil, append_assoc, ◌∙◌, replicate, slice_get, Option, Some, None}
 use Rattle.std.specs.Prelude.{take_while, filter_map, reverse}
 use Rattle.std.specs.List.{prefix_len}
 use Rattle.std.proofs.lemmas.Bool.{cases_lt}
-use Rattle.std.proofs.lemmas.List.{drop_all, reverse-append, get_or_past, length-append, length-replicate, length-drop}
+use Rattle.std.proofs.lemmas.List.{drop_all, drop-append-le, reverse-append, get_or_past, length-append, length-replicate, length-drop, length-take, length-take-le}
+use Rattle.std.proofs.lemmas.List.Elements.{filter_map-append}
 use Rattle.std.proofs.lemmas.List.Sums.{take_while-cons}
 use Rattle.vr_header.specs.declared.header.Header.{Header}
 use Rattle.vr_header.specs.declared.part.Part.{Part}
@@ -116,6 +117,88 @@ run_more xs i h e =
 pub run_stops : (xs : List Part) (i : ℕ) → i < length xs → header_of (get_or xs i Nothing) ≡ None → run_of (i + 1) xs ≡ []
 unfolding run_of
 run_stops xs i l e = rw (back_more xs i l, none_more (get_or xs i Nothing) (reverse (take i xs)) e) refl
+
+-- how many they are
+
+pub length_none : (xs : List Part) → 0 ≡ length (run_of 0 xs)
+length_none xs = rw (run_none xs) refl
+
+pub length_more : (xs : List Part) (i : ℕ) (h : Header) → header_of (get_or xs i Nothing) ≡ Some h → length (run_of (i + 1) xs) ≡ length (run_of i xs) + 1
+length_more xs i h e = rw (run_more xs i h e) (length-append (run_of i xs) (h ∷ []))
+
+pub length_stops : (xs : List Part) (i : ℕ) → i < length xs → header_of (get_or xs i Nothing) ≡ None → length (run_of (i + 1) xs) ≡ 0
+length_stops xs i l e = rw (run_stops xs i l e) refl
+
+pub ruleset runs = (length_none, length_more, length_stops)
+
+-- the headers from a place on, one after the other
+
+pub row_none : (xs : List Part) (i : ℕ) → [] ≡ filter_map header_of (drop i (take i xs))
+row_none xs i = let n = length-take i xs in rw (drop_all i (take i xs) (omega (arith, n))) refl
+
+row_one : (xs : List Part) (from i : ℕ) → from ≤ i → i < length xs
+    → filter_map header_of (drop from (take (i + 1) xs)) ≡ filter_map header_of (drop from (take i xs)) ++ filter_map header_of (get_or xs i Nothing ∷ [])
+row_one xs from i a l =
+    let n : length (take i xs) ≡ i = length-take-le i xs (omega arith) in
+    rw (take_more xs i l, drop-append-le from (take i xs) (get_or xs i Nothing ∷ []) (omega (arith, n)))
+    (filter_map-append header_of (drop from (take i xs)) (get_or xs i Nothing ∷ []))
+
+one_header : (p : Part) (h : Header) → header_of p ≡ Some h → filter_map header_of (p ∷ []) ≡ h ∷ []
+one_header p h e = rw e refl
+
+no_header : (p : Part) → header_of p ≡ None → filter_map header_of (p ∷ []) ≡ []
+no_header p e = rw e refl
+
+pub row_knows : (xs : List Part) (from i : ℕ) (h : Header) → from ≤ i → i < length xs → header_of (get_or xs i Nothing) ≡ Some h
+    → filter_map header_of (drop from (take i xs)) ++ h ∷ [] ≡ filter_map header_of (drop from (take (i + 1) xs))
+row_knows xs from i h a l e = sym (row_one xs from i a l ∙ rw (one_header (get_or xs i Nothing) h e) refl)
+
+pub row_lacks : (xs : List Part) (from i : ℕ) → from ≤ i → i < length xs → header_of (get_or xs i Nothing) ≡ None
+    → filter_map header_of (drop from (take i xs)) ≡ filter_map header_of (drop from (take (i + 1) xs))
+row_lacks xs from i a l e = sym (row_one xs from i a l ∙ rw (no_header (get_or xs i Nothing) e, append-nil (filter_map header_of (drop from (take i xs)))) refl)
+
+-- The run's headers are those of as many of the last of the first items.
+
+within_more : (xs : List Part) (n : ℕ) → n < length xs → length (run_of n xs) ≤ n → length (run_of (n + 1) xs) ≤ n + 1
+within_more xs n l few =
+    let cases : (o : Option Header) → header_of (get_or xs n Nothing) ≡ o → length (run_of (n + 1) xs) ≤ n + 1 = elim [
+      | None ↦ λ e. let none = length_stops xs n l e in omega (arith, none)
+      | Some h ↦ λ e. let more = length_more xs n h e in omega (arith, more, few)
+    ] in cases (header_of (get_or xs n Nothing)) refl
+
+run_within : (xs : List Part) (n : ℕ) → n ≤ length xs → length (run_of n xs) ≤ n
+run_within xs zero l = let none = length_none xs in omega (arith, none)
+run_within xs (suc n) l =
+    let next : suc n ≡ n + 1 = omega arith in
+    rw next (within_more xs n (omega arith) (run_within xs n (omega arith)))
+
+-- the headers of the last items, as many as the run has
+abbrev tail_of : List Part → ℕ → List Header
+tail_of xs n = filter_map header_of (drop (n - length (run_of n xs)) (take n xs))
+
+tail_more : (xs : List Part) (n : ℕ) → n < length xs → length (run_of n xs) ≤ n → tail_of xs n ≡ run_of n xs → tail_of xs (n + 1) ≡ run_of (n + 1) xs
+tail_more xs n l few rest =
+    let cases : (o : Option Header) → header_of (get_or xs n Nothing) ≡ o → tail_of xs (n + 1) ≡ run_of (n + 1) xs = elim [
+      | None ↦ λ e.
+          let none = length_stops xs n l e in
+          let all : n + 1 - length (run_of (n + 1) xs) ≡ n + 1 = omega (arith, none) in
+          rw (all, run_stops xs n l e) (sym (row_none xs (n + 1)))
+      | Some h ↦ λ e.
+          let more = length_more xs n h e in
+          let same : n + 1 - length (run_of (n + 1) xs) ≡ n - length (run_of n xs) = omega (arith, more, few) in
+          rw (same, ← row_knows xs (n - length (run_of n xs)) n h (omega arith) l e, run_more xs n h e) (ap (λ (hs : List Header). hs ++ h ∷ []) rest)
+    ] in cases (header_of (get_or xs n Nothing)) refl
+
+tail_is : (xs : List Part) (n : ℕ) → n ≤ length xs → tail_of xs n ≡ run_of n xs
+tail_is xs zero l = rw (run_none xs) refl
+tail_is xs (suc n) l =
+    let next : suc n ≡ n + 1 = omega arith in
+    rw next (tail_more xs n (omega arith) (run_within xs n (omega arith)) (tail_is xs n (omega arith)))
+
+pub row_ends : (xs : List Part) (from i n : ℕ) → n ≤ length xs → from ≡ n - length (run_of n xs) → i ≡ n → filter_map header_of (drop from (take i xs)) ≡ run_of n xs
+row_ends xs from i n l e k = rw (k, e) (tail_is xs n l)
+
+pub ruleset rows = (row_none, row_knows, row_lacks, row_ends)
 
 pub places_more : {X : Type 0} (i : ℕ) (x : X) → replicate i x ++ x ∷ [] ≡ replicate (i + 1) x
 places_more i x = more_one [] i x

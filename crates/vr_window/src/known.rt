@@ -56,17 +56,35 @@ pub fn known_from(parts: &Window<Part>, from: usize) -> usize
     count
 }
 
+/// How many known headers reach the end of the first items without a hole.
+#[tactic(auto, using(crate::proofs::Lists::runs))]
+pub fn run_length(parts: &Window<Part>, count: usize) -> usize
+    requires { count ≤ length parts.now }
+    ensures value { result ≡ length (run_of count parts.now) }
+    ensures within { result ≤ count }
+{
+    let mut known = 0;
+    for i in 0..count {
+        match known_at(parts, i) {
+            Some(_) => known += 1,
+            None => known = 0,
+        }
+    }
+    known
+}
+
 /// The known headers of the first items that reach the last of them without a hole.
-#[tactic(auto, using(crate::proofs::Lists::run_none, crate::proofs::Lists::run_more, crate::proofs::Lists::run_stops))]
+#[tactic(auto, using(crate::proofs::Lists::rows))]
 pub fn run_of(alloc: Global, parts: &Window<Part>, count: usize) -> Result<HeaderList, AllocError>
     requires { count ≤ length parts.now }
     ensures { IfOk result (λ hs. hs ≡ run_of count parts.now) }
 {
-    let mut headers = Seq::new(alloc);
-    for i in 0..count {
+    let known = run_length(parts, count);
+    let mut headers = Seq::from_vec(Vec::with_capacity(alloc, known)?);
+    for i in count - known..count {
         match known_at(parts, i) {
             Some(header) => headers.push(header)?,
-            None => headers.clear(),
+            None => {}
         }
     }
     Ok(headers)

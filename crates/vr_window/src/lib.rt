@@ -7,7 +7,7 @@ mod places;
 mod standing;
 mod window;
 
-pub use known::{has_header, known_at, known_from, run_of, valued};
+pub use known::{has_header, known_at, known_from, run_length, run_of, valued};
 pub use places::Places;
 pub use standing::Standing;
 pub use window::Window;

@@ -1,6 +1,6 @@
 use Rattle.std.proofs.Common.{◌≡◌, ◌≤◌, length}
 use Rattle.vr_window.specs.Runs.{run_of}
-use Rattle.vr_memory.proofs.stating.run_length.Given as goal
+use Rattle.vr_window.proofs.known.run_length.Given as goal
 
 abbrev pub invariant-loop-i : goal.invariant-loop-i
 invariant-loop-i l = record {
