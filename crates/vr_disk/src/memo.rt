@@ -7,6 +7,9 @@ use std::alloc::{AllocError, Global};
 use std::marker::Model;
 use vr_base::{Sum, checksum, is_zeros};
 
+// How many bytes a header without its name has.
+const NAMELESS: usize = 112;
+
 // In a header without its name: the last byte of its op, its kind, the last two bytes of its address.
 const OP_END: usize = 79;
 
@@ -91,10 +94,60 @@ impl Text {
     }
 }
 
+// A header without its name, with its name. It stands where it is looked up, since headers are asked for most of all, and a
+// text that stands elsewhere is a second wait for memory. What stands here before the first one is kept has none.
+#[derive(Drop)]
+struct Nameless {
+    bytes: [u8; NAMELESS],
+    name: Option<Sum>,
+}
+
+impl Model for Nameless {
+    ghost use Rattle.std.specs.Prelude.{◌≡◌, IfSome, ⊤};
+    ghost use Rattle.vr_base.specs.Bytes.{name_of};
+
+    ghost Value = { ⊤ };
+
+    ghost view = { λ _. tt };
+
+    ghost invariant = { λ h. IfSome h.name (λ name. name.0 ≡ name_of h.bytes) };
+}
+
+impl Nameless {
+    fn none() -> Nameless {
+        Nameless {
+            bytes: [0; NAMELESS],
+            name: None,
+        }
+    }
+
+    // The name of these bytes, where they are the ones that stand here.
+    fn name_of(&self, bytes: &[u8]) -> Option<Sum>
+        ensures { IfSome result (λ name. name.0 ≡ name_of bytes.now) }
+    {
+        if self.bytes.as_slice() == bytes {
+            self.name
+        } else {
+            None
+        }
+    }
+
+    // Keeps these bytes in the place of others. Bytes of another length aren't kept.
+    fn set(&mut self, bytes: &[u8], name: Sum)
+        requires { name.0 ≡ name_of bytes.now }
+    {
+        if bytes.len() == NAMELESS {
+            self.bytes.copy_from_slice(bytes);
+            self.name = Some(name);
+        }
+    }
+}
+
 /// Texts with their names: the one that was kept last in each room. Contracts see nothing of them.
 #[derive(Drop)]
 pub struct Memo {
-    places: Vec<Text>,
+    headers: Vec<Nameless>,
+    texts: Vec<Text>,
 }
 
 impl Model for Memo {
@@ -119,63 +172,89 @@ pub enum Room {
     Value(u64),
 }
 
-// Where the rooms of each kind begin: those of headers by op, those of headers by address, and so on.
+// Where the places of headers begin by op, and those by address.
 const BY_OP: usize = 0;
 
 const BY_ADDRESS: usize = 256;
 
-const BODIES: usize = BY_ADDRESS + BLOCKS as usize;
+const HEADERS: usize = BY_ADDRESS + BLOCKS as usize;
+
+// Where the places of other texts begin: those of bodies, of payloads and of values.
+const BODIES: usize = 0;
 
 const PAYLOADS: usize = BODIES + SLOTS as usize;
 
 const VALUES: usize = PAYLOADS + BLOCKS as usize;
 
-const ROOMS: usize = VALUES + 2;
+const TEXTS: usize = VALUES + 2;
 
-// The room of an address, by its last two bytes.
-fn address_room(high: u8, low: u8) -> usize {
+// The place of a header by its address, of which these are the last two bytes.
+fn address_place(high: u8, low: u8) -> usize {
     BY_ADDRESS + (256 * usize::from(high) + usize::from(low)) % BLOCKS as usize
 }
 
-// The room of a header without its name: those of blocks have theirs by address, and all others by op.
-fn header_room(bytes: &[u8]) -> usize {
+// The place of a header without its name: those of blocks have theirs by address, and all others by op.
+fn header_place(bytes: &[u8]) -> usize {
     if let (Some(op), Some(0)) = (bytes.get(OP_END), bytes.get(KIND)) {
         return BY_OP + usize::from(*op);
     }
     match (bytes.get(AUX_HIGH), bytes.get(AUX_END)) {
-        (Some(high), Some(low)) => address_room(*high, *low),
+        (Some(high), Some(low)) => address_place(*high, *low),
         _ => BY_OP,
     }
 }
 
+// Where a text is kept: a header by its bytes, or another text.
+#[derive(Clone, Copy)]
+enum Place {
+    Header(usize),
+    Text(usize),
+}
+
 impl Room {
-    // Its number; which header it is its bytes say.
-    fn number(self, bytes: &[u8]) -> usize {
+    fn place(self, bytes: &[u8]) -> Place {
         match self {
-            Room::Header => header_room(bytes),
-            Room::Body(slot) => BODIES + (slot % SLOTS) as usize,
-            Room::Payload(address) => PAYLOADS + (address % u64::from(BLOCKS)) as usize,
-            Room::Value(sequence) => VALUES + (sequence % 2) as usize,
+            Room::Header => Place::Header(header_place(bytes)),
+            Room::Body(slot) => Place::Text(BODIES + (slot % SLOTS) as usize),
+            Room::Payload(address) => {
+                Place::Text(PAYLOADS + (address % u64::from(BLOCKS)) as usize)
+            }
+            Room::Value(sequence) => Place::Text(VALUES + (sequence % 2) as usize),
         }
     }
+}
+
+fn no_headers(alloc: Global) -> Result<Vec<Nameless>, AllocError> {
+    let mut headers = Vec::with_capacity(alloc, HEADERS)?;
+    for _ in 0..HEADERS {
+        headers.push(Nameless::none())?;
+    }
+    Ok(headers)
+}
+
+fn no_texts(alloc: Global) -> Result<Vec<Text>, AllocError> {
+    let mut texts = Vec::with_capacity(alloc, TEXTS)?;
+    for _ in 0..TEXTS {
+        texts.push(Text::none(alloc))?;
+    }
+    Ok(texts)
 }
 
 impl Memo {
     /// No text is kept.
     pub fn new(alloc: Global) -> Result<Memo, AllocError> {
-        let mut places = Vec::with_capacity(alloc, ROOMS)?;
-        for _ in 0..ROOMS {
-            places.push(Text::none(alloc))?;
-        }
-        Ok(Memo { places })
+        Ok(Memo {
+            headers: no_headers(alloc)?,
+            texts: no_texts(alloc)?,
+        })
     }
 
     fn kept(&self, room: Room, bytes: &[u8]) -> Option<Sum>
         ensures { IfSome result (λ name. name.0 ≡ name_of bytes.now) }
     {
-        match self.places.as_slice().get(room.number(bytes)) {
-            Some(text) => text.name_of(bytes),
-            None => None,
+        match room.place(bytes) {
+            Place::Header(at) => self.headers.as_slice().get(at)?.name_of(bytes),
+            Place::Text(at) => self.texts.as_slice().get(at)?.name_of(bytes),
         }
     }
 
@@ -183,9 +262,17 @@ impl Memo {
     pub fn keep(&mut self, room: Room, bytes: &[u8], name: Sum)
         requires { name.0 ≡ name_of bytes.now }
     {
-        match self.places.as_mut_slice().get_mut(room.number(bytes)) {
-            Some(text) => text.set(bytes, name),
-            None => {}
+        match room.place(bytes) {
+            Place::Header(at) => {
+                if let Some(header) = self.headers.as_mut_slice().get_mut(at) {
+                    header.set(bytes, name);
+                }
+            }
+            Place::Text(at) => {
+                if let Some(text) = self.texts.as_mut_slice().get_mut(at) {
+                    text.set(bytes, name);
+                }
+            }
         }
     }
 
