@@ -4,6 +4,7 @@ pub mod FieldLaws
 pub mod Members
 pub mod Places
 mod Rows
+mod SameNames
 pub mod Sets
 pub mod Versions
 pub mod Writing
