@@ -1,29 +1,19 @@
--- Zeros, each as the one before it.
-use Rattle.std.proofs.Common.{ℕ, zero, suc, ◌-◌, ◌≤◌, ◌≡◌, arith, refl, ap, ◌∙◌, true, false, eqb, ◌&&◌, List, [], ◌∷◌, length, drop, take, get_or, sym}
-use Rattle.std.specs.Prelude.{nat_eq, replicate}
-use Rattle.std.specs.Cmp.Lexicographic.{pointwise}
-use Rattle.std.proofs.lemmas.Bool.{and_parts, eq-eqb, eqb-true}
-use Rattle.std.proofs.lemmas.List.{take_all}
+-- Zeros, by the bits of all.
+use Rattle.std.proofs.Common.{ℕ, zero, suc, ◌+◌, ◌<◌, ◌≡◌, arith, refl, ap, ◌∙◌, true, eqb, ◌&&◌, List, ◌∷◌, [], length, take, get_or, sym}
+use Rattle.std.specs.Prelude.{replicate}
+use Rattle.std.specs.Int.Bits.{bit_or}
+use Rattle.std.proofs.lemmas.Bool.{and_parts, eqb-true, ne_eqb}
+use Rattle.std.proofs.lemmas.Nat.{le_or_l}
+use Rattle.std.proofs.lemmas.List.Folds.{list_all_more}
 use Rattle.vr_base.specs.Bytes.{is_zeros}
 
-shifted : (b : ℕ) (bs : List ℕ) → b ≡ 0 → pointwise nat_eq bs (take (length bs) (b ∷ bs)) ≡ is_zeros bs
-shifted b [] z = refl
-shifted b (c ∷ bs) z =
-    let same : pointwise nat_eq (c ∷ bs) (take (length (c ∷ bs)) (b ∷ c ∷ bs)) ≡ (eqb c 0 && pointwise nat_eq bs (take (length bs) (c ∷ bs))) = rw z refl in
-    same
-    ∙ (elim (eqb c 0) as (λ x. eqb c 0 ≡ x → (x && pointwise nat_eq bs (take (length bs) (c ∷ bs))) ≡ (x && is_zeros bs)) [
-      | true ↦ λ e. shifted c bs (eqb-true c 0 e)
-      | false ↦ λ e. refl
-    ] refl)
+-- no bit is set in either
+pub or_zeros : (a b : ℕ) → eqb (bit_or a b) 0 ≡ (eqb a 0 && eqb b 0)
+or_zeros zero b = refl
+or_zeros (suc a) b = ne_eqb (bit_or (suc a) b) 0 (let l = le_or_l (suc a) b in λ e. omega (arith, l, e)) ∙ ap (λ x. x && eqb b 0) (sym (ne_eqb (suc a) 0 (λ e. omega (arith, e))))
 
-pub zeros_by : (bytes : List ℕ) (first : ℕ) → 1 ≤ length bytes → first ≡ get_or bytes 0 0 → first ≡ 0
-    → let rest = take (length bytes - 1) (drop 1 bytes) in pointwise nat_eq rest (take (length rest) bytes) ≡ is_zeros bytes
-zeros_by [] first l f z = absurd (omega arith)
-zeros_by (b ∷ bs) first l f z =
-    let size : length (b ∷ bs) - 1 ≡ length bs = omega arith in
-    let all : take (length (b ∷ bs) - 1) bs ≡ bs = ap (λ n. take n bs) size ∙ take_all (length bs) bs (omega arith) in
-    let zero : b ≡ 0 = sym f ∙ z in
-    ap (λ x. pointwise nat_eq x (take (length x) (b ∷ bs))) all ∙ (shifted b bs zero ∙ ap (λ x. x && is_zeros bs) (sym (eq-eqb b 0 zero)))
+pub zeros_more : (bytes : List ℕ) (i : ℕ) → i < length bytes → is_zeros (take (i + 1) bytes) ≡ (is_zeros (take i bytes) && eqb (get_or bytes i 0) 0)
+zeros_more bytes i l = list_all_more (λ b. eqb b 0) bytes i 0 l
 
 pub zeros_are : (n : ℕ) → is_zeros (replicate n 0) ≡ true
 zeros_are zero = refl
