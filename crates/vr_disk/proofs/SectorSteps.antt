@@ -1,16 +1,16 @@
 -- Sector after sector: so many of them written, compared with bytes, or read into room.
-use Rattle.std.proofs.Common.{ℕ, suc, ◌+◌, ◌-◌, ◌*◌, ◌≤◌, ◌<◌, ◌≡◌, arith, refl, sym, ap, ◌∙◌, Bool, true, false, List, [], ◌∷◌, ◌++◌, length, drop, take, Option, Some, None, append_assoc, ◌&&◌}
-use Rattle.std.proofs.lemmas.List.{append-nil, drop_all, drop_at, drop-drop, take_all, take_at, take-append-drop}
+use Rattle.std.proofs.Common.{ℕ, zero, suc, ◌+◌, ◌-◌, ◌*◌, ◌≤◌, ◌<◌, ◌≡◌, arith, refl, sym, ap, ◌∙◌, Bool, true, false, List, [], ◌∷◌, ◌++◌, length, drop, take, Option, Some, None, append_assoc, ◌&&◌}
+use Rattle.std.proofs.lemmas.List.{append-nil, drop_all, drop_at, drop-drop, drop-replicate, take_all, take_at, take-append-drop, take-replicate}
 use Rattle.std.proofs.lemmas.Bool.{and_parts, and_from}
 use Rattle.std.proofs.lemmas.Slice.Eq.{bytes_eq-Decides}
-use Rattle.std.specs.Prelude.{nat_eq}
+use Rattle.std.specs.Prelude.{nat_eq, replicate}
 use Rattle.std.specs.Cmp.Lexicographic.{pointwise}
 use Rattle.vr_base.specs.Bytes.{piece}
 use Rattle.vr_disk.specs.Regions.{sectors}
 use Rattle.vr_disk.specs.DiskState.{Write, Face, IsFace, reads}
 use Rattle.vr_disk.specs.Sectors.{behind, has, together, writes}
 use Rattle.vr_disk.proofs.Faces.{there}
-use Rattle.vr_disk.proofs.Together.{together_cons}
+use Rattle.vr_disk.proofs.Together.{together_cons, together_size}
 
 -- ---- written
 
@@ -34,6 +34,18 @@ pub writes_past : (at count k : ℕ) (bytes : List ℕ) → k ≡ count → writ
 unfolding writes
 writes_past at count k bytes e = let n : count - k ≡ 0 = omega arith in rw n refl
 
+-- those of the first sectors, then those of the others
+pub writes_split : (k n at : ℕ) (bytes : List ℕ) → writes at (k + n) bytes ≡ writes at k bytes ++ writes (at + k) n (drop (512 * k) bytes)
+unfolding writes
+writes_split zero n at bytes = let z : at + 0 ≡ at = omega arith in let m : 0 + n ≡ n = omega arith in rw (z, m) refl
+writes_split (suc k) n at bytes =
+    let i : at + 1 + k ≡ at + suc k = omega arith in
+    let m : suc k + n ≡ suc (k + n) = omega arith in
+    let rest = writes_split k n (at + 1) (drop 512 bytes) in
+    ap (λ t. writes at t bytes) m
+    ∙ ap (λ cs. Write at (piece 0 512 bytes) ∷ cs)
+    (rest ∙ (ap (λ j. writes (at + 1) k (drop 512 bytes) ++ writes j n (drop (512 * k) (drop 512 bytes))) i ∙ ap (λ b. writes (at + 1) k (drop 512 bytes) ++ writes (at + suc k) n b) (drop-drop (512 * k) 512 bytes ∙ ap (λ m. drop m bytes) (omega arith))))
+
 -- ---- compared
 
 bool_ext : (p q : Bool) → (p ≡ true → q ≡ true) → (q ≡ true → p ≡ true) → p ≡ q
@@ -45,18 +57,18 @@ and_false : (p : Bool) → (p && false) ≡ false
 and_false true = refl
 and_false false = refl
 
-both_same : (x y b : List ℕ) → length x ≡ 512 → pointwise nat_eq (x ++ y) b ≡ (pointwise nat_eq x (take 512 b) && pointwise nat_eq y (drop 512 b))
-both_same x y b l =
+both_same : (m : ℕ) (x y b : List ℕ) → length x ≡ m → pointwise nat_eq (x ++ y) b ≡ (pointwise nat_eq x (take m b) && pointwise nat_eq y (drop m b))
+both_same m x y b l =
     bool_ext _ _
     (λ e. let s : x ++ y ≡ b = (bytes_eq-Decides (x ++ y) b).0 e in
-    and_from _ _ ((bytes_eq-Decides x (take 512 b)).1 (sym (ap (take 512) (sym s) ∙ take_at x y 512 l))) ((bytes_eq-Decides y (drop 512 b)).1 (sym (ap (drop 512) (sym s) ∙ drop_at x y 512 l))))
-    (λ e. let p = and_parts (pointwise nat_eq x (take 512 b)) (pointwise nat_eq y (drop 512 b)) e in
-    (bytes_eq-Decides (x ++ y) b).1 (ap (λ z. z ++ y) ((bytes_eq-Decides x (take 512 b)).0 p.0) ∙ (ap (λ z. take 512 b ++ z) ((bytes_eq-Decides y (drop 512 b)).0 p.1) ∙ take-append-drop 512 b)))
+    and_from _ _ ((bytes_eq-Decides x (take m b)).1 (sym (ap (take m) (sym s) ∙ take_at x y m l))) ((bytes_eq-Decides y (drop m b)).1 (sym (ap (drop m) (sym s) ∙ drop_at x y m l))))
+    (λ e. let p = and_parts (pointwise nat_eq x (take m b)) (pointwise nat_eq y (drop m b)) e in
+    (bytes_eq-Decides (x ++ y) b).1 (ap (λ z. z ++ y) ((bytes_eq-Decides x (take m b)).0 p.0) ∙ (ap (λ z. take m b ++ z) ((bytes_eq-Decides y (drop m b)).0 p.1) ∙ take-append-drop m b)))
 
-has_both : (b : List ℕ) (a r : Option (List ℕ)) → ((x : List ℕ) → a ≡ Some x → length x ≡ 512) → has b (behind a r) ≡ (has (take 512 b) a && has (drop 512 b) r)
-has_both b None r h = refl
-has_both b (Some x) None h = sym (and_false (pointwise nat_eq x (take 512 b)))
-has_both b (Some x) (Some y) h = both_same x y b (h x refl)
+has_both : (m : ℕ) (b : List ℕ) (a r : Option (List ℕ)) → ((x : List ℕ) → a ≡ Some x → length x ≡ m) → has b (behind a r) ≡ (has (take m b) a && has (drop m b) r)
+has_both m b None r h = refl
+has_both m b (Some x) None h = sym (and_false (pointwise nat_eq x (take m b)))
+has_both m b (Some x) (Some y) h = both_same m x y b (h x refl)
 
 pub has_start : (i n : ℕ) (b : List ℕ) (f : Face) → has b (together i n f) ≡ has (drop (512 * 0) b) (together (i + 0) (n - 0) f)
 has_start i n b f = let z : i + 0 ≡ i = omega arith in let m : n - 0 ≡ n = omega arith in rw (z, m) refl
@@ -71,7 +83,7 @@ has_step i n k b f h l m =
     let rest = together (i + k + 1) (n - (k + 1)) f in
     ap (λ m. has (drop (512 * k) b) (together (i + k) m f)) s
     ∙ (ap (has (drop (512 * k) b)) (together_cons (n - (k + 1)) (i + k) f)
-    ∙ (has_both (drop (512 * k) b) (reads f (i + k)) rest (λ x e. ((there f (i + k) h (omega arith)).reads x e).size)
+    ∙ (has_both 512 (drop (512 * k) b) (reads f (i + k)) rest (λ x e. ((there f (i + k) h (omega arith)).reads x e).size)
     ∙ (ap (λ y. has (take 512 (drop (512 * k) b)) (reads f (i + k)) && has y rest) (drop-drop 512 (512 * k) b ∙ ap (λ m. drop m b) d)
     ∙ ap (λ m. has (take 512 (drop (512 * k) b)) (reads f (i + k)) && has (drop (512 * (k + 1)) b) (together m (n - (k + 1)) f)) j)))
 
@@ -82,11 +94,36 @@ has_past i n k b f l m o =
     let e : drop (512 * k) b ≡ [] = drop_all (512 * k) b (omega arith) in
     rw (z, e) refl
 
--- ---- read into room
-
 behind_nothing : (r : Option (List ℕ)) → behind (Some []) r ≡ r
 behind_nothing None = refl
 behind_nothing (Some x) = refl
+
+behind_assoc : (a b r : Option (List ℕ)) → behind a (behind b r) ≡ behind (behind a b) r
+behind_assoc None b r = refl
+behind_assoc (Some x) None r = refl
+behind_assoc (Some x) (Some y) None = refl
+behind_assoc (Some x) (Some y) (Some z) = ap Some (sym (append_assoc x y z))
+
+-- what the first sectors read as, then the others
+pub together_split : (k n i : ℕ) (f : Face) → together i (k + n) f ≡ behind (together i k f) (together (i + k) n f)
+unfolding together
+together_split zero n i f = let z : i + 0 ≡ i = omega arith in let m : 0 + n ≡ n = omega arith in rw (z, m) (sym (behind_nothing (together i n f)))
+together_split (suc k) n i f =
+    let j : i + 1 + k ≡ i + suc k = omega arith in
+    let m : suc k + n ≡ suc (k + n) = omega arith in
+    ap (λ t. together i t f) m
+    ∙ (ap (behind (reads f i)) (together_split k n (i + 1) f ∙ ap (λ m. behind (together (i + 1) k f) (together m n f)) j) ∙ behind_assoc (reads f i) (together (i + 1) k f) (together (i + suc k) n f))
+
+pub has_split : (k n i : ℕ) (b : List ℕ) (f : Face) → IsFace f → i + (k + n) ≤ sectors → has b (together i (k + n) f) ≡ (has (take (512 * k) b) (together i k f) && has (drop (512 * k) b) (together (i + k) n f))
+has_split k n i b f h l = ap (has b) (together_split k n i f) ∙ has_both (512 * k) b (together i k f) (together (i + k) n f) (together_size k i f h (omega arith))
+
+-- ---- sectors of zeros
+
+pub zeros_piece : (k n : ℕ) → k < n → piece (512 * k) 512 (replicate (512 * n) 0) ≡ replicate 512 0
+unfolding piece
+zeros_piece k n l = ap (take 512) (drop-replicate (512 * k) (512 * n) 0) ∙ take-replicate 512 (512 * n - 512 * k) 0 (omega (arith, l))
+
+-- ---- read into room
 
 behind_both : (x s : List ℕ) (r : Option (List ℕ)) → behind (Some x) (behind (Some s) r) ≡ behind (Some (x ++ s)) r
 behind_both x s None = refl

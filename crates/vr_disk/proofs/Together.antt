@@ -1,5 +1,5 @@
 -- What sectors one behind the other read as, before and after calls.
-use Rattle.std.proofs.Common.{ℕ, zero, suc, ◌+◌, ◌-◌, ◌*◌, ◌≤◌, ◌<◌, ◌≡◌, ◌⊎◌, inl, inr, arith, refl, sym, ap, ◌∙◌, true, List, [], ◌∷◌, ◌++◌, length, take, drop, Option, Some, None, subst, length-set}
+use Rattle.std.proofs.Common.{ℕ, zero, suc, ◌+◌, ◌-◌, ◌*◌, ◌≤◌, ◌<◌, ◌≡◌, ◌⊎◌, inl, inr, arith, refl, sym, ap, ◌∙◌, true, List, [], ◌∷◌, ◌++◌, length, take, drop, Option, Some, None, subst, length-append, length-set}
 use Rattle.std.specs.List.{AllByRecursion}
 use Rattle.std.proofs.lemmas.Bool.{cases_lt}
 use Rattle.std.proofs.lemmas.List.{get_or_append_left, get_or-append_right}
@@ -79,6 +79,26 @@ pub together_bytes : (n i : ℕ) (f : Face) → IsFace f → i + n ≤ sectors �
 unfolding together
 together_bytes zero i f h l b e = let same : [] ≡ b = cc in subst IsBytes same nothing_bytes
 together_bytes (suc n) i f h l b e = behind_bytes (reads f i) (together (i + 1) n f) b (λ x r. ((there f i h (omega arith)).reads x r).each) (together_bytes n (i + 1) f h (omega arith)) e
+
+-- ---- how many bytes sectors have
+
+behind_size : (a r : Option (List ℕ)) (b : List ℕ) (n : ℕ) → ((x : List ℕ) → a ≡ Some x → length x ≡ 512) → ((x : List ℕ) → r ≡ Some x → length x ≡ n) → behind a r ≡ Some b → length b ≡ 512 + n
+behind_size None r b n f g e = absurd cc
+behind_size (Some x) None b n f g e = absurd cc
+behind_size (Some x) (Some y) b n f g e =
+    let same : x ++ y ≡ b = cc in
+    let one = f x refl in
+    let two = g y refl in
+    let all = length-append x y in
+    let size : length (x ++ y) ≡ 512 + n = omega (arith, one, two, all) in
+    ap length (sym same) ∙ size
+
+pub together_size : (n i : ℕ) (f : Face) → IsFace f → i + n ≤ sectors → (b : List ℕ) → together i n f ≡ Some b → length b ≡ 512 * n
+unfolding together
+together_size zero i f h l b e = let same : [] ≡ b = cc in ap length (sym same)
+together_size (suc n) i f h l b e =
+    let x = behind_size (reads f i) (together (i + 1) n f) b (512 * n) (λ x r. ((there f i h (omega arith)).reads x r).size) (together_size n (i + 1) f h (omega arith)) e in
+    omega (arith, x)
 
 -- ---- calls one after another
 

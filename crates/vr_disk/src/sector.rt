@@ -8,3 +8,6 @@ pub const SECTOR_SIZE: usize = 512;
 pub struct Sector {
     pub bytes: [u8; 512],
 }
+
+/// A sector of zeros.
+pub const ZEROS: Sector = Sector { bytes: [0; 512] };

@@ -1,11 +1,11 @@
 //! Sectors one behind the other, written and read together.
-ghost use Rattle.std.specs.Prelude.{◌≡◌, ◌≤◌, ◌<◌, ◌+◌, ◌*◌, Some, None, if◌then◌else◌, length, IfSome, is_ok};
+ghost use Rattle.std.specs.Prelude.{◌≡◌, ◌≤◌, ◌<◌, ◌+◌, ◌*◌, Some, None, if◌then◌else◌, length, replicate, IfSome, is_ok};
 ghost use Rattle.vr_base.specs.Bytes.{piece};
 ghost use Rattle.vr_base.specs.Causes.{HasCause, one_more};
 ghost use Rattle.vr_disk.specs.DiskState.{Runs, reads};
 ghost use Rattle.vr_disk.specs.Sectors.{has, together, writes};
 
-use crate::{DiskFailed, SECTORS, Sector, SectorDisk};
+use crate::{DiskFailed, SECTORS, Sector, SectorDisk, ZEROS};
 use vr_base::put;
 
 /// The 512 bytes from a place on.
@@ -34,6 +34,19 @@ pub fn write_sectors<D: SectorDisk>(
 {
     for k in 0..count {
         disk.write(at + k, &sector_at(bytes, 512 * k as usize))?;
+    }
+    Ok(())
+}
+
+/// Writes zeros to so many sectors from one on. It copies nothing.
+pub fn write_zeros<D: SectorDisk>(disk: &mut D, at: u32, count: u32) -> Result<(), DiskFailed>
+    requires { at + count ≤ SECTORS }
+    ensures runs { Runs (writes at count (replicate (512 * count) 0)) (D.told disk.old) (D.told disk.new) (is_ok result) }
+    ensures cause { HasCause (D.faults disk.old) (D.faults disk.new) result }
+    ensures others { D.read_faults disk.new ≡ D.read_faults disk.old }
+{
+    for k in 0..count {
+        disk.write(at + k, &ZEROS)?;
     }
     Ok(())
 }
@@ -82,6 +95,22 @@ pub fn sectors_read_as<D: SectorDisk>(disk: &mut D, at: u32, count: u32, bytes: 
 {
     for k in 0..count {
         if !sector_reads_as(disk, at + k, bytes, 512 * k as usize) {
+            return false;
+        }
+    }
+    true
+}
+
+/// Whether so many sectors from one on read as zeros.
+pub fn are_zeros<D: SectorDisk>(disk: &mut D, at: u32, count: u32) -> bool
+    requires { at + count ≤ SECTORS }
+    ensures told { D.told disk.new ≡ D.told disk.old }
+    ensures faults { D.faults disk.new ≡ D.faults disk.old }
+    ensures value { IfSome (D.told disk.old) (λ d. result ≡ has (replicate (512 * count) 0) (together at count d.face)) }
+    ensures reads { D.read_faults disk.old ≤ D.read_faults disk.new }
+{
+    for k in 0..count {
+        if !disk.reads_zeros(at + k) {
             return false;
         }
     }

@@ -1,10 +1,10 @@
 -- A prepare that ends in its first sector.
-use Rattle.std.proofs.Common.{ℕ, zero, suc, Bool, ◌*◌, ◌+◌, ◌-◌, ◌<◌, ◌≤◌, ◌≡◌, arith, refl, sym, ap, ◌∙◌, true, false, cond, ◌&&◌, ◌==◌, List, [], ◌++◌, length, take, drop, Option, Some, None, append_assoc, length-append, length-drop}
+use Rattle.std.proofs.Common.{ℕ, suc, Bool, ◌*◌, ◌+◌, ◌-◌, ◌<◌, ◌≤◌, ◌≡◌, arith, refl, sym, ap, ◌∙◌, true, false, cond, ◌&&◌, ◌==◌, List, [], ◌++◌, length, take, drop, Option, Some, None, append_assoc, length-drop}
 use Rattle.std.specs.Prelude.{IfSome, nat_eq, replicate}
 use Rattle.std.specs.Option.{option_and_then, option_map, option_map_or}
 use Rattle.std.specs.Int.{from_be_bytes, w32}
 use Rattle.std.specs.Cmp.Lexicographic.{pointwise}
-use Rattle.std.proofs.lemmas.List.{drop-append-le, drop-replicate, replicate-append-replicate, take-append-le, take-replicate}
+use Rattle.std.proofs.lemmas.List.{drop-append-le, replicate-append-replicate, take-append-le}
 use Rattle.std.proofs.lemmas.List.Folds.{list_all-append}
 use Rattle.std.proofs.lemmas.Slice.Eq.{bytes_eq-Decides}
 use Rattle.vr_base.specs.Bytes.{is_zeros, number, piece}
@@ -14,16 +14,12 @@ use Rattle.vr_disk.specs.Regions.{prepare_place, prepare_sectors, sectors}
 use Rattle.vr_disk.specs.Sectors.{behind, has, together}
 use Rattle.vr_disk.proofs.Faces.{there}
 use Rattle.vr_disk.proofs.Places.{counted, inside}
-use Rattle.vr_disk.proofs.Together.{has_is, together_cons}
+use Rattle.vr_disk.proofs.Together.{has_is, together_cons, together_size}
 use Rattle.vr_header.specs.Made.{entry_of}
 use Rattle.vr_rings.specs.Readings.{Begins, IsNothing}
 use Rattle.vr_rings.specs.Slots.{in_front, padded, prepare_reading, size_at, whole_in, whole_of}
 
 -- ---- sectors of zeros
-
-pub zeros_piece : (k n : ℕ) → k < n → piece (512 * k) 512 (replicate (512 * n) 0) ≡ replicate 512 0
-unfolding piece
-zeros_piece k n l = ap (take 512) (drop-replicate (512 * k) (512 * n) 0) ∙ take-replicate 512 (512 * n - 512 * k) 0 (omega (arith, l))
 
 pub zeros_has : (b : List ℕ) → length b ≡ 512 → is_zeros b ≡ pointwise nat_eq b (replicate 512 0)
 zeros_has b n =
@@ -35,26 +31,6 @@ zeros_has b n =
             | false ↦ λ t. refl
           ] refl
     ] refl
-
--- ---- how many bytes sectors have
-
-behind_size : (a r : Option (List ℕ)) (b : List ℕ) (n : ℕ) → ((x : List ℕ) → a ≡ Some x → length x ≡ 512) → ((x : List ℕ) → r ≡ Some x → length x ≡ n) → behind a r ≡ Some b → length b ≡ 512 + n
-behind_size None r b n f g e = absurd cc
-behind_size (Some x) None b n f g e = absurd cc
-behind_size (Some x) (Some y) b n f g e =
-    let same : x ++ y ≡ b = cc in
-    let one = f x refl in
-    let two = g y refl in
-    let all = length-append x y in
-    let size : length (x ++ y) ≡ 512 + n = omega (arith, one, two, all) in
-    ap length (sym same) ∙ size
-
-together_size : (n i : ℕ) (f : Face) → IsFace f → i + n ≤ sectors → (b : List ℕ) → together i n f ≡ Some b → length b ≡ 512 * n
-unfolding together
-together_size zero i f h l b e = let same : [] ≡ b = cc in ap length (sym same)
-together_size (suc n) i f h l b e =
-    let x = behind_size (reads f i) (together (i + 1) n f) b (512 * n) (λ x r. ((there f i h (omega arith)).reads x r).size) (together_size n (i + 1) f h (omega arith)) e in
-    omega (arith, x)
 
 -- ---- the first sector, and those behind it
 

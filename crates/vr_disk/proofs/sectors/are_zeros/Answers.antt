@@ -1,16 +1,16 @@
 use Rattle.std.specs.Prelude.{replicate}
 use Rattle.std.proofs.lemmas.List.{length-replicate}
-use Rattle.vr_rings.proofs.Short.{zeros_piece}
+use Rattle.vr_disk.proofs.SectorSteps.{zeros_piece}
 use Rattle.std.proofs.Common.{ℕ, List, ◌≡◌, ◌∙◌, ◌+◌, ◌*◌, ◌≤◌, arith, refl, sym, ap, true, false, drop, ◌&&◌, ◌-◌}
 use Rattle.vr_disk.specs.DiskState.{Disk, IsFace, reads}
 use Rattle.vr_disk.specs.Sectors.{has, together}
 use Rattle.vr_base.specs.Bytes.{piece}
 use Rattle.vr_disk.proofs.SectorSteps.{has_past, has_start, has_step}
 use Rattle.vr_disk.proofs.Telling.{if_some, some_if}
-use Rattle.vr_rings.proofs.reading.are_zeros.Goals as goal
+use Rattle.vr_disk.proofs.sectors.are_zeros.Goals as goal
 
 pub loop-k-init : goal.loop-k-init
-loop-k-init g c = record { told = refl; faults = refl; rest = λ d e. has_start c.args.at c.args.count (replicate (512 * c.args.count) 0) d.face }
+loop-k-init g c = record { told = refl; faults = refl; reads = omega arith; rest = λ d e. has_start c.args.at c.args.count (replicate (512 * c.args.count) 0) d.face }
 
 pub loop-k-preserved : goal.loop-k-preserved
 loop-k-preserved g c =
@@ -22,6 +22,7 @@ loop-k-preserved g c =
     record {
       told = c.reads_zeros.ensures.told ∙ told;
       faults = c.reads_zeros.ensures.faults ∙ c.loop-k.invariant.faults;
+      reads = omega (arith, c.reads_zeros.ensures.reads, c.loop-k.invariant.reads);
       rest = λ d e.
           let whole : IsFace d.face = some_if (λ (d : Disk). IsFace d.face) (g.D.SectorDisk.told c.args.disk.now) d (g.met.D.SectorDisk.whole c.args.disk.now) e in
           let sector : has (piece (512 * k) 512 b) (reads d.face (i + k)) ≡ true =
