@@ -1,4 +1,5 @@
 pub mod Alike
+pub mod Behind
 pub mod Best
 pub mod Choice
 pub mod Choosing

@@ -1,5 +1,5 @@
 //! Copies on a disk, sector by sector.
-ghost use Rattle.std.specs.Prelude.{◌≡◌, ◌≤◌, ◌<◌, ◌+◌, ◌*◌, ◌++◌, ◌∷◌, [], length, IfSome, is_ok};
+ghost use Rattle.std.specs.Prelude.{◌≡◌, ◌≤◌, ◌<◌, ◌+◌, ◌-◌, ◌*◌, ◌++◌, ◌∷◌, [], drop, length, replicate, IfSome, is_ok};
 ghost use Rattle.vr_base.specs.Bytes.{piece};
 ghost use Rattle.vr_base.specs.Causes.{HasCause};
 ghost use Rattle.vr_disk.specs.DiskState.{Runs, RunsFrom, Sync, Write};
@@ -8,24 +8,50 @@ ghost use Rattle.vr_super.specs.Opens.{copy_reading};
 ghost use Rattle.vr_super.specs.Calls.{copy_calls, mend_copy, mend_unless};
 
 use vr_disk::{
-    COPY_SIZE, DiskFailed, SECTORS, SectorDisk, sector_at, sectors_read_as, write_sectors,
+    COPY_SIZE, DiskFailed, SECTORS, SectorDisk, are_zeros, sector_at, sectors_read_as,
+    write_sectors, write_zeros,
 };
 
-// Writes these bytes to so many sectors, and syncs them.
+// Writes these bytes to so many sectors: those that are filled, and zeros behind them.
+#[tactic(auto, using(crate::proofs::Behind::filled_then, crate::proofs::Behind::filled_stopped))]
+fn write_filled<D: SectorDisk>(
+    disk: &mut D,
+    at: u32,
+    count: u32,
+    filled: u32,
+    bytes: &[u8],
+) -> Result<(), DiskFailed>
+    requires within { at + count ≤ SECTORS }
+    requires size { length bytes.now ≡ 512 * count }
+    requires filled { filled ≤ count }
+    requires zeros { drop (512 * filled) bytes.now ≡ replicate (512 * (count - filled)) 0 }
+    ensures runs { Runs (writes at count bytes.now) (D.told disk.old) (D.told disk.new) (is_ok result) }
+    ensures cause { HasCause (D.faults disk.old) (D.faults disk.new) result }
+    ensures others { D.read_faults disk.new ≡ D.read_faults disk.old }
+{
+    write_sectors(disk, at, filled, bytes)?;
+    write_zeros(disk, at + filled, count - filled)?;
+    Ok(())
+}
+
+// Writes these bytes to so many sectors, of which the first are filled, and syncs them.
 #[tactic(auto, using(vr_disk::proofs::Running::Runs_then, vr_disk::proofs::Running::Runs_stopped))]
 fn write_synced<D: SectorDisk>(
     disk: &mut D,
     at: u32,
     count: u32,
+    filled: u32,
     bytes: &[u8],
 ) -> Result<(), DiskFailed>
     requires within { at + count ≤ SECTORS }
     requires size { length bytes.now ≡ 512 * count }
+    requires filled { filled ≤ count }
+    requires zeros { drop (512 * filled) bytes.now ≡ replicate (512 * (count - filled)) 0 }
     ensures runs { Runs (writes at count bytes.now ++ Sync ∷ []) (D.told disk.old) (D.told disk.new) (is_ok result) }
     ensures cause { HasCause (D.faults disk.old) (D.faults disk.new) result }
     ensures others { D.read_faults disk.new ≡ D.read_faults disk.old }
 {
-    write_sectors(disk, at, count, bytes)?;
+    write_filled(disk, at, count, filled, bytes)?;
     disk.sync()?;
     Ok(())
 }
@@ -43,16 +69,23 @@ fn write_first<D: SectorDisk>(disk: &mut D, i: u32, bytes: &[u8]) -> Result<(), 
     Ok(())
 }
 
-/// Writes and syncs a copy.
+/// Writes and syncs a copy, of which so many sectors stand in front of zeros.
 #[tactic(auto, unfolding(crate::specs::Calls::copy_calls))]
-pub fn write_copy<D: SectorDisk>(disk: &mut D, copy: u32, bytes: &[u8]) -> Result<(), DiskFailed>
+pub fn write_copy<D: SectorDisk>(
+    disk: &mut D,
+    copy: u32,
+    filled: u32,
+    bytes: &[u8],
+) -> Result<(), DiskFailed>
     requires copy { copy < 4 }
     requires size { length bytes.now ≡ COPY_SIZE }
+    requires filled { filled ≤ 20 }
+    requires zeros { drop (512 * filled) bytes.now ≡ replicate (512 * (20 - filled)) 0 }
     ensures runs { Runs (copy_calls copy bytes.now) (D.told disk.old) (D.told disk.new) (is_ok result) }
     ensures cause { HasCause (D.faults disk.old) (D.faults disk.new) result }
     ensures others { D.read_faults disk.new ≡ D.read_faults disk.old }
 {
-    write_synced(disk, 20 * copy, 20, bytes)
+    write_synced(disk, 20 * copy, 20, filled, bytes)
 }
 
 /// Whether a copy reads as these bytes.
@@ -68,31 +101,66 @@ pub fn reads_as<D: SectorDisk>(disk: &mut D, copy: u32, bytes: &[u8]) -> bool
     sectors_read_as(disk, 20 * copy, 20, bytes)
 }
 
-/// Writes and syncs a copy's first sector, then the others.
-#[tactic(auto, using(vr_disk::proofs::Running::Runs_then, vr_disk::proofs::Running::Runs_stopped), unfolding(crate::specs::Calls::mend_copy))]
-pub fn mend_copy<D: SectorDisk>(disk: &mut D, copy: u32, bytes: &[u8]) -> Result<(), DiskFailed>
+// Whether a copy reads as these bytes, of which so many sectors stand in front of zeros.
+#[tactic(auto, unfolding(crate::specs::Opens::copy_reading))]
+fn reads_filled<D: SectorDisk>(disk: &mut D, copy: u32, filled: u32, bytes: &[u8]) -> bool
     requires copy { copy < 4 }
     requires size { length bytes.now ≡ COPY_SIZE }
+    requires filled { filled ≤ 20 }
+    requires zeros { drop (512 * filled) bytes.now ≡ replicate (512 * (20 - filled)) 0 }
+    ensures told { D.told disk.new ≡ D.told disk.old }
+    ensures value { IfSome (D.told disk.old) (λ d. result ≡ has bytes.now (copy_reading d.face copy)) }
+    ensures faults { D.faults disk.new ≡ D.faults disk.old }
+    ensures reads { D.read_faults disk.old ≤ D.read_faults disk.new }
+{
+    let (front, _) = bytes.split_at(512 * filled as usize);
+    if !sectors_read_as(disk, 20 * copy, filled, front) {
+        return false;
+    }
+    are_zeros(disk, 20 * copy + filled, 20 - filled)
+}
+
+/// Writes and syncs a copy's first sector, then the others.
+#[tactic(auto, using(vr_disk::proofs::Running::Runs_then, vr_disk::proofs::Running::Runs_stopped), unfolding(crate::specs::Calls::mend_copy))]
+pub fn mend_copy<D: SectorDisk>(
+    disk: &mut D,
+    copy: u32,
+    filled: u32,
+    bytes: &[u8],
+) -> Result<(), DiskFailed>
+    requires copy { copy < 4 }
+    requires size { length bytes.now ≡ COPY_SIZE }
+    requires least { 1 ≤ filled }
+    requires filled { filled ≤ 20 }
+    requires zeros { drop (512 * filled) bytes.now ≡ replicate (512 * (20 - filled)) 0 }
     ensures runs { Runs (mend_copy copy bytes.now) (D.told disk.old) (D.told disk.new) (is_ok result) }
     ensures cause { HasCause (D.faults disk.old) (D.faults disk.new) result }
     ensures others { D.read_faults disk.new ≡ D.read_faults disk.old }
 {
     let (_, rest) = bytes.split_at(512);
     write_first(disk, 20 * copy, bytes)?;
-    write_synced(disk, 20 * copy + 1, 19, rest)?;
+    write_synced(disk, 20 * copy + 1, 19, filled - 1, rest)?;
     Ok(())
 }
 
 /// Mends a copy unless it reads as these bytes.
-pub fn mend_unless<D: SectorDisk>(disk: &mut D, copy: u32, bytes: &[u8]) -> Result<(), DiskFailed>
+pub fn mend_unless<D: SectorDisk>(
+    disk: &mut D,
+    copy: u32,
+    filled: u32,
+    bytes: &[u8],
+) -> Result<(), DiskFailed>
     requires copy { copy < 4 }
     requires size { length bytes.now ≡ COPY_SIZE }
+    requires least { 1 ≤ filled }
+    requires filled { filled ≤ 20 }
+    requires zeros { drop (512 * filled) bytes.now ≡ replicate (512 * (20 - filled)) 0 }
     ensures runs { RunsFrom (mend_unless copy bytes.now) (D.told disk.old) (D.told disk.new) (is_ok result) }
     ensures cause { HasCause (D.faults disk.old) (D.faults disk.new) result }
     ensures reads { D.read_faults disk.old ≤ D.read_faults disk.new }
 {
-    if !reads_as(disk, copy, bytes) {
-        mend_copy(disk, copy, bytes)?;
+    if !reads_filled(disk, copy, filled, bytes) {
+        mend_copy(disk, copy, filled, bytes)?;
     }
     Ok(())
 }

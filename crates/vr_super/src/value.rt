@@ -1,5 +1,5 @@
 //! A value of the superblock.
-ghost use Rattle.std.specs.Prelude.{◌≡◌, ◌≤◌, ◌+◌, IfOk, Some, is_some, length, true};
+ghost use Rattle.std.specs.Prelude.{◌≡◌, ◌≤◌, ◌+◌, ◌-◌, ◌*◌, IfOk, Some, drop, is_some, length, replicate, true};
 ghost use Rattle.vr_base.specs.Bytes.{piece};
 ghost use Rattle.vr_header.specs.Spelling.{header_bytes};
 ghost use Rattle.vr_super.specs.Copies.{IsGood, SuperValue, copy_bytes, count_at, value_of};
@@ -155,6 +155,28 @@ impl Super {
         for at in 0..self.headers.len() {
             self.tell_name(at, names);
         }
+    }
+
+    // Whether the list has this header in the place of its op.
+    pub(crate) fn lists(&self, header: &Header) -> bool {
+        let headers = self.headers.as_slice();
+        match headers.first() {
+            Some(first) => {
+                let at = header.op.saturating_sub(first.op) as usize;
+                at < headers.len() && headers[at] == *header
+            }
+            None => false,
+        }
+    }
+
+    // How many sectors of a copy stand in front of zeros: in each of them the bytes of four headers fit, and the numbers take
+    // the room of one.
+    pub(crate) fn filled(&self) -> u32
+        ensures least { 1 ≤ result }
+        ensures most { result ≤ 20 }
+        ensures zeros { drop (512 * result) (copy_bytes self.now) ≡ replicate (512 * (20 - result)) 0 }
+    {
+        1 + self.headers.len() as u32 / 4
     }
 
     // The 10,240 bytes of a copy.

@@ -1,5 +1,5 @@
 //! Mending and writing a value.
-ghost use Rattle.std.specs.Prelude.{◌≡◌, ◌≤◌, ◌<◌, [], length, IfErr, IfSome, is_ok, Some};
+ghost use Rattle.std.specs.Prelude.{◌≡◌, ◌≤◌, ◌<◌, ◌-◌, ◌*◌, [], drop, length, replicate, IfErr, IfSome, is_ok, Some};
 ghost use Rattle.vr_base.specs.Causes.{HasCause};
 ghost use Rattle.vr_disk.specs.DiskState.{Runs, RunsFrom};
 ghost use Rattle.vr_super.specs.Calls.{mend_calls, mend_from, save_from, write_calls};
@@ -12,29 +12,34 @@ use crate::{Super, SuperFault};
 use vr_base::{sum_at, u64_at};
 use vr_disk::{COPY_SIZE, DiskFailed, DiskFault, Room, SectorDisk};
 
-/// Mends each copy that doesn't read as these bytes.
-pub fn mend<D: SectorDisk>(disk: &mut D, bytes: &[u8]) -> Result<(), DiskFailed>
-    requires { length bytes.now ≡ COPY_SIZE }
+// Mends each copy that doesn't read as these bytes, of which so many sectors stand in front of zeros.
+fn mend<D: SectorDisk>(disk: &mut D, filled: u32, bytes: &[u8]) -> Result<(), DiskFailed>
+    requires size { length bytes.now ≡ COPY_SIZE }
+    requires least { 1 ≤ filled }
+    requires filled { filled ≤ 20 }
+    requires zeros { drop (512 * filled) bytes.now ≡ replicate (512 * (20 - filled)) 0 }
     ensures runs { RunsFrom (mend_from 0 4 bytes.now) (D.told disk.old) (D.told disk.new) (is_ok result) }
     ensures cause { HasCause (D.faults disk.old) (D.faults disk.new) result }
     ensures reads { D.read_faults disk.old ≤ D.read_faults disk.new }
 {
     for copy in 0..4 {
-        mend_unless(disk, copy, bytes)?;
+        mend_unless(disk, copy, filled, bytes)?;
     }
     Ok(())
 }
 
-// Writes all four copies.
+// Writes all four copies, of which so many sectors stand in front of zeros.
 #[tactic(auto, using(vr_disk::proofs::Running::Runs_then, vr_disk::proofs::Running::Runs_stopped))]
-fn save<D: SectorDisk>(disk: &mut D, bytes: &[u8]) -> Result<(), DiskFailed>
-    requires { length bytes.now ≡ COPY_SIZE }
+fn save<D: SectorDisk>(disk: &mut D, filled: u32, bytes: &[u8]) -> Result<(), DiskFailed>
+    requires size { length bytes.now ≡ COPY_SIZE }
+    requires filled { filled ≤ 20 }
+    requires zeros { drop (512 * filled) bytes.now ≡ replicate (512 * (20 - filled)) 0 }
     ensures runs { Runs (save_from 0 4 bytes.now) (D.told disk.old) (D.told disk.new) (is_ok result) }
     ensures cause { HasCause (D.faults disk.old) (D.faults disk.new) result }
     ensures others { D.read_faults disk.new ≡ D.read_faults disk.old }
 {
     for copy in 0..4 {
-        write_copy(disk, copy, bytes)?;
+        write_copy(disk, copy, filled, bytes)?;
     }
     Ok(())
 }
@@ -45,7 +50,7 @@ pub fn mend_value<D: SectorDisk>(disk: &mut D, value: &Super) -> Result<(), Disk
     ensures cause { HasCause (D.faults disk.old) (D.faults disk.new) result }
     ensures reads { D.read_faults disk.old ≤ D.read_faults disk.new }
 {
-    mend(disk, value.bytes())?;
+    mend(disk, value.filled(), value.bytes())?;
     Ok(())
 }
 
@@ -89,6 +94,30 @@ fn keep_names<D: SectorDisk>(disk: &mut D, value: &Super)
     }
 }
 
+// The disk keeps the bytes of a header of its list with their name, unless an old value has it: then it was kept already.
+fn keep_new_header<D: SectorDisk>(disk: &mut D, old: &Super, value: &Super, at: usize)
+    requires { at < length value.now.headers }
+    ensures told { D.told disk.new ≡ D.told disk.old }
+    ensures faults { D.faults disk.new ≡ D.faults disk.old }
+    ensures reads { D.read_faults disk.new ≡ D.read_faults disk.old }
+{
+    if !old.lists(&value.headers()[at]) {
+        keep_header(disk, value, at);
+    }
+}
+
+// The disk keeps what stands in a value with its name: the whole, and each header that the old value doesn't have.
+fn keep_new_names<D: SectorDisk>(disk: &mut D, old: &Super, value: &Super)
+    ensures told { D.told disk.new ≡ D.told disk.old }
+    ensures faults { D.faults disk.new ≡ D.faults disk.old }
+    ensures reads { D.read_faults disk.new ≡ D.read_faults disk.old }
+{
+    keep_value(disk, value);
+    for at in 0..value.headers().len() {
+        keep_new_header(disk, old, value, at);
+    }
+}
+
 /// Writes a value to all four copies of a disk that has none to be mended.
 pub fn write_copies<D: SectorDisk>(disk: &mut D, value: &Super) -> Result<(), DiskFault>
     ensures runs { Runs (save_from 0 4 (copy_bytes value.now)) (D.told disk.old) (D.told disk.new) (is_ok result) }
@@ -96,7 +125,7 @@ pub fn write_copies<D: SectorDisk>(disk: &mut D, value: &Super) -> Result<(), Di
     ensures others { D.read_faults disk.new ≡ D.read_faults disk.old }
 {
     keep_names(disk, value);
-    save(disk, value.bytes())?;
+    save(disk, value.filled(), value.bytes())?;
     Ok(())
 }
 
@@ -110,9 +139,9 @@ fn write_value<D: SectorDisk>(disk: &mut D, old: &Super, new: &Super) -> Result<
     ensures good { IsGood new.now }
 {
     let bytes = new.bytes();
-    keep_names(disk, new);
-    mend(disk, old.bytes())?;
-    save(disk, bytes)?;
+    keep_new_names(disk, old, new);
+    mend(disk, old.filled(), old.bytes())?;
+    save(disk, new.filled(), bytes)?;
     Ok(())
 }
 

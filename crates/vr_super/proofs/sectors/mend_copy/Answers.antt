@@ -5,7 +5,11 @@ use Rattle.vr_disk.specs.DiskState.{Runs, Sync, Write}
 use Rattle.vr_disk.proofs.Running.{Runs_then, Runs_stopped}
 use Rattle.vr_disk.specs.Sectors.{writes}
 use Rattle.vr_super.specs.Calls.{mend_copy}
+use Rattle.vr_super.proofs.Behind.{zeros_rest}
 use Rattle.vr_super.proofs.sectors.mend_copy.Goals as goal
+
+pub write_synced-requires-clause-zeros : goal.write_synced-requires-clause-zeros
+write_synced-requires-clause-zeros g c = zeros_rest c.args.filled c.args.bytes.now c.split_at.result.1.now c.requires.least c.requires.filled c.split_at.ensures.back c.requires.zeros
 
 pub returns-in_err-write_first-clause-runs : goal.returns-in_err-write_first-clause-runs
 unfolding mend_copy
