@@ -1,3 +1,4 @@
+pub mod Clearing
 pub mod Ends
 pub mod Faces
 pub mod Frames
