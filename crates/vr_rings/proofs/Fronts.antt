@@ -1,15 +1,14 @@
 -- The front of a prepare, behind which zeros stand.
-use Rattle.std.proofs.Common.{ℕ, Bool, ◌*◌, ◌+◌, ◌-◌, ◌<◌, ◌≤◌, ◌≡◌, arith, refl, sym, ap, ◌∙◌, true, false, cond, ◌&&◌, ◌==◌, List, ◌++◌, length, take, drop, Option, Some, None, append_assoc, length-append}
+use Rattle.std.proofs.Common.{ℕ, Bool, ◌*◌, ◌+◌, ◌-◌, ◌≤◌, ◌≡◌, arith, refl, sym, ap, ◌∙◌, true, false, cond, ◌&&◌, ◌==◌, List, ◌++◌, length, take, drop, Option, Some, None, length-append}
 use Rattle.std.specs.Prelude.{IfSome, min, replicate}
 use Rattle.std.specs.Option.{option_map}
 use Rattle.std.specs.Int.{from_be_bytes, w32}
-use Rattle.std.proofs.lemmas.List.{append-nil, drop-append-le, drop-replicate, drop_at, length-drop, length-replicate, replicate-append-replicate, take-append-le, take-replicate, take_at}
+use Rattle.std.proofs.lemmas.List.{append-nil, drop-append-le, drop-replicate, drop_at, length-drop, length-replicate, take-append-le, take_all}
 use Rattle.std.proofs.lemmas.List.Folds.{list_all-append}
-use Rattle.vr_base.specs.Bytes.{IsBytes, is_zeros, number, piece}
+use Rattle.vr_base.specs.Bytes.{IsBytes, is_zeros, number}
 use Rattle.vr_base.proofs.AreBytes.{IsBytes-append, IsBytes-zeros}
 use Rattle.vr_base.proofs.ZeroLaws.{zeros_are}
 use Rattle.vr_disk.proofs.Places.{counted}
-use Rattle.vr_disk.specs.Buffers.{with_bytes}
 use Rattle.vr_disk.specs.DiskState.{Disk}
 use Rattle.vr_disk.specs.Regions.{prepare_place, prepare_sectors}
 use Rattle.vr_disk.specs.Sectors.{together}
@@ -95,22 +94,11 @@ put_in_front b new t d =
 -- ---- the sectors of a front
 
 -- behind the bytes of a front zeros stand
-past_front : (n : ℕ) (b : List ℕ) → length b ≤ n → drop n (in_front b) ≡ replicate (4096 - n) 0
+pub past_front : (n : ℕ) (b : List ℕ) → length b ≤ n → drop n (in_front b) ≡ replicate (4096 - n) 0
 unfolding in_front
 past_front n b l =
     let zs : List ℕ = replicate (4096 - length b) 0 in
     further (length b) n (b ++ zs) (replicate 4096 0) l (drop_at b zs (length b) refl ∙ sym (drop-replicate (length b) 4096 0)) ∙ drop-replicate n 4096 0
-
-pub sector_given : (b : List ℕ) (filled k : ℕ) → length b ≡ 512 * filled → k < filled → piece (512 * k) 512 b ≡ piece (512 * k) 512 (in_front b)
-unfolding piece in_front
-sector_given b filled k n l =
-    let zs : List ℕ = replicate (4096 - length b) 0 in
-    let m = length-drop (512 * k) b in
-    sym (ap (take 512) (drop-append-le (512 * k) b zs (omega (arith, n, l))) ∙ take-append-le 512 (drop (512 * k) b) zs (omega (arith, n, l, m)))
-
-pub sector_past : (b : List ℕ) (filled k : ℕ) → length b ≡ 512 * filled → filled ≤ k → k < 8 → replicate 512 0 ≡ piece (512 * k) 512 (in_front b)
-unfolding piece
-sector_past b filled k n l m = sym (ap (take 512) (past_front (512 * k) b (omega (arith, n, l))) ∙ take-replicate 512 (4096 - 512 * k) 0 (omega (arith, m)))
 
 -- so many bytes of a prepare, which are all of its entry, in front of zeros
 pub front_prepare : (n : ℕ) (e : Whole) (bytes : List ℕ) → IsWhole e → length (entry_bytes e) ≤ n → n ≤ 4096 → bytes ≡ take n (prepare_bytes e) → in_front bytes ≡ prepare_bytes e
@@ -125,28 +113,11 @@ front_prepare n e bytes w l m q =
 -- ---- a buffer that was filled
 
 -- a front, and zeros behind it
-pub filled_front : (old b one two : List ℕ) (half : ℕ) → length b ≤ 4096 → half ≤ 4096 - length b → one ≡ replicate half 0 → two ≡ replicate (4096 - length b - half) 0
-    → take 4096 (with_bytes (with_bytes (with_bytes old 0 b) (length b) one) (length b + half) two) ≡ in_front b
+pub front_set : (b new : List ℕ) → length b ≤ 4096 → new ≡ b ++ replicate (4096 - length b) 0 → take 4096 new ≡ in_front b
 unfolding in_front
-filled_front old b one two half l m y z =
-    let rest : List ℕ = drop (0 + length b) old in
-    let past : List ℕ = drop (length b + length one) (b ++ rest) in
-    let last : List ℕ = drop (length b + half + length two) ((b ++ one) ++ past) in
-    let k : length one ≡ half = ap length y ∙ length-replicate {A = ℕ} half 0 in
-    let j : length two ≡ 4096 - length b - half = ap length z ∙ length-replicate {A = ℕ} (4096 - length b - half) 0 in
-    let a = length-append b one in
-    let c = length-append (b ++ one) two in
-    let first : take (length b) (b ++ rest) ≡ b = take_at b rest (length b) refl in
-    let once : with_bytes (with_bytes old 0 b) (length b) one ≡ (b ++ one) ++ past = ap (λ x. (x ++ one) ++ past) first in
-    let here : take (length b + half) ((b ++ one) ++ past) ≡ b ++ one = take_at (b ++ one) past (length b + half) (omega (arith, a, k)) in
-    let twice : with_bytes ((b ++ one) ++ past) (length b + half) two ≡ ((b ++ one) ++ two) ++ last = ap (λ x. (x ++ two) ++ last) here in
-    let n : length ((b ++ one) ++ two) ≡ 4096 = omega (arith, a, c, k, j, l, m) in
-    let zeros : one ++ two ≡ replicate (4096 - length b) 0 =
-    ap (λ x. x ++ two) y ∙ (ap (λ x. replicate half 0 ++ x) z ∙ (replicate-append-replicate half (4096 - length b - half) 0 ∙ ap (λ n. replicate {A = ℕ} n 0) (omega (arith, m)))) in
-    ap (λ x. take 4096 (with_bytes x (length b + half) two)) once ∙ (ap (take 4096) twice ∙ (take_at ((b ++ one) ++ two) last 4096 n ∙ (append_assoc b one two ∙ ap (λ x. b ++ x) zeros)))
-
-pub zeros_some : (n : ℕ) (rest : List ℕ) → n ≤ 2048 → rest ≡ take n (replicate 2048 0) → rest ≡ replicate n 0
-zeros_some n rest l e = e ∙ take-replicate n 2048 0 l
+front_set b new l e =
+    let size : length (b ++ replicate (4096 - length b) 0) ≡ 4096 = length_in_front b l in
+    ap (take 4096) e ∙ take_all 4096 (b ++ replicate (4096 - length b) 0) (omega (arith, size))
 
 -- how many bytes a prepare has
 pub front_size : (ver : ℕ) (b : List ℕ) → length b ≡ 512 * prepare_sectors ver → (2048 ≤ length b) × (length b ≤ 4096)

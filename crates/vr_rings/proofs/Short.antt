@@ -1,5 +1,5 @@
 -- A prepare that ends in its first sector.
-use Rattle.std.proofs.Common.{ℕ, suc, Bool, ◌*◌, ◌+◌, ◌-◌, ◌<◌, ◌≤◌, ◌≡◌, arith, refl, sym, ap, ◌∙◌, true, false, cond, ◌&&◌, ◌==◌, List, [], ◌++◌, length, take, drop, Option, Some, None, append_assoc, length-drop}
+use Rattle.std.proofs.Common.{ℕ, suc, Bool, ◌*◌, ◌+◌, ◌-◌, ◌<◌, ◌≤◌, ◌≡◌, arith, refl, sym, ap, ◌∙◌, true, false, cond, ◌&&◌, ◌==◌, List, ◌++◌, length, take, drop, Option, Some, None, append_assoc, length-drop}
 use Rattle.std.specs.Prelude.{IfSome, nat_eq, replicate}
 use Rattle.std.specs.Option.{option_and_then, option_map, option_map_or}
 use Rattle.std.specs.Int.{from_be_bytes, w32}
@@ -7,10 +7,10 @@ use Rattle.std.specs.Cmp.Lexicographic.{pointwise}
 use Rattle.std.proofs.lemmas.List.{drop-append-le, replicate-append-replicate, take-append-le}
 use Rattle.std.proofs.lemmas.List.Folds.{list_all-append}
 use Rattle.std.proofs.lemmas.Slice.Eq.{bytes_eq-Decides}
-use Rattle.vr_base.specs.Bytes.{is_zeros, number, piece}
+use Rattle.vr_base.specs.Bytes.{is_zeros, number}
 use Rattle.vr_base.proofs.ZeroLaws.{are_zeros, zeros_are}
 use Rattle.vr_disk.specs.DiskState.{Disk, Face, IsFace, reads}
-use Rattle.vr_disk.specs.Regions.{prepare_place, prepare_sectors, sectors}
+use Rattle.vr_disk.specs.Regions.{prepare_place, prepare_sectors}
 use Rattle.vr_disk.specs.Sectors.{behind, has, together}
 use Rattle.vr_disk.proofs.Faces.{there}
 use Rattle.vr_disk.proofs.Places.{counted, inside}

@@ -1,6 +1,5 @@
 //! Writing a slot.
 ghost use Rattle.std.specs.Prelude.{ℕ, ◌≡◌, ◌≤◌, ◌<◌, ◌+◌, ◌*◌, [], IfSome, is_ok, length, replicate, take};
-ghost use Rattle.vr_base.specs.Bytes.{piece};
 ghost use Rattle.vr_base.specs.Causes.{HasCause};
 ghost use Rattle.vr_disk.specs.DiskState.{Runs};
 ghost use Rattle.vr_disk.specs.Sectors.{writes};
@@ -13,23 +12,10 @@ use crate::bytes::{header_sector, put_prepare, sector_by};
 use crate::slot::slot_of;
 use vr_base::Version;
 use vr_disk::{
-    DiskFailed, DiskFault, Room, SECTOR_SIZE, SECTORS, Sector, SectorDisk, header_place,
-    prepare_place, prepare_sectors, sector_at,
+    DiskFailed, DiskFault, Room, SECTORS, Sector, SectorDisk, header_place, prepare_place,
+    prepare_sectors, write_sectors, write_zeros,
 };
 use vr_header::{Entry, Header};
-
-// A sector of these bytes in front of zeros, of which so many sectors are given.
-fn sector_in(bytes: &[u8], filled: u32, k: u32) -> Sector
-    requires size { length bytes.now ≡ 512 * filled }
-    requires k { k < 8 }
-    ensures { result.bytes ≡ piece (512 * k) 512 (in_front bytes.now) }
-{
-    if k < filled {
-        sector_at(bytes, SECTOR_SIZE * k as usize)
-    } else {
-        Sector { bytes: [0; 512] }
-    }
-}
 
 // Writes these bytes, so many sectors of them, and zeros behind them to so many sectors from one on.
 fn write_front<D: SectorDisk>(
@@ -45,10 +31,9 @@ fn write_front<D: SectorDisk>(
     ensures runs { Runs (writes at count (in_front bytes.now)) (D.told disk.old) (D.told disk.new) (is_ok result) }
     ensures cause { HasCause (D.faults disk.old) (D.faults disk.new) result }
 {
-    for k in 0..count {
-        disk.write(at + k, &sector_in(bytes, filled, k))?;
-    }
-    Ok(())
+    let given = filled.min(count);
+    write_sectors(disk, at, given, bytes)?;
+    write_zeros(disk, at + given, count - given)
 }
 
 // Writes the sectors of an entry, whose prepare begins with these bytes, and syncs them.
