@@ -15,12 +15,16 @@ use vr_base::{NoMemory, Version};
 /// The clients with their sessions.
 pub type SessionTable = IndexMap<u64, Session>;
 
-/// Gives the client this session.
+/// Gives the client this session, in place where it has one: nothing moves then, and no place is searched.
 pub fn insert(table: &mut SessionTable, client: u64, session: Session) -> Result<(), NoMemory>
     requires { IsMap nat_cmp table.old.entries }
     ensures ok { OnOk result (table.new.entries ≡ put nat_cmp client session table.old.entries) }
     ensures err { OnErr result (table.new.entries ≡ table.old.entries) }
 {
+    if let Some(held) = table.get_mut(&client) {
+        *held = session;
+        return Ok(());
+    }
     table.insert_sorted(client, session)?;
     Ok(())
 }
