@@ -1,5 +1,6 @@
 //! Pieces of text.
-ghost use Rattle.std.specs.Prelude.{◌≡◌, ◌++◌, OnOk};
+ghost use Rattle.std.specs.Fmt.{decimal};
+ghost use Rattle.std.specs.Prelude.{◌≡◌, ◌++◌, ◌<◌, OnOk};
 ghost use Rattle.vr_header.specs.Bodies.{IsOperation, IsOutcome};
 ghost use Rattle.vr_text.specs.Fronts.{IsFront};
 ghost use Rattle.vr_text.specs.Text.{client_text, entry_text, numbered, operation_text, outcome_text, viewed};
@@ -9,7 +10,8 @@ use std::alloc::AllocError;
 use vr_base::ByteList;
 use vr_header::{Operation, Outcome};
 
-/// Bytes at the end.
+/// Bytes at the end. It is in line, as are its callers below: words that a caller spells are then moved, not copied by a call.
+#[inline(always)]
 #[tactic(auto, using(std::proofs::lemmas::Grind::common_steps, crate::proofs::Fronts::front_grown))]
 pub fn put_bytes(to: &mut ByteList, bytes: &[u8]) -> Result<(), AllocError>
     ensures text { OnOk result (to.new ≡ to.old ++ bytes.now) }
@@ -19,6 +21,7 @@ pub fn put_bytes(to: &mut ByteList, bytes: &[u8]) -> Result<(), AllocError>
 }
 
 /// Words at the end.
+#[inline(always)]
 pub fn put(to: &mut ByteList, words: &str) -> Result<(), AllocError>
     ensures text { OnOk result (to.new ≡ to.old ++ words.now) }
     ensures front { IsFront to.old to.new }
@@ -27,12 +30,37 @@ pub fn put(to: &mut ByteList, words: &str) -> Result<(), AllocError>
 }
 
 /// Words with a number behind them.
+#[inline(always)]
 #[tactic(auto, using(std::proofs::lemmas::Grind::common_steps, crate::proofs::Fronts::front_then), unfolding(crate::specs::Text::numbered))]
 pub fn put_number(to: &mut ByteList, words: &str, n: u64) -> Result<(), AllocError>
     ensures text { OnOk result (to.new ≡ to.old ++ numbered words.now n) }
     ensures front { IsFront to.old to.new }
 {
     put(to, words)?;
+    // most numbers of a line have one digit
+    if n < 10 {
+        put_digit(to, n as u8)
+    } else {
+        put_digits(to, n)
+    }
+}
+
+/// A number below 10, at the end.
+#[inline(always)]
+#[tactic(auto, using(std::proofs::lemmas::Grind::common_steps, std::proofs::lemmas::Fmt::decimal_digit, crate::proofs::Fronts::front_grown))]
+fn put_digit(to: &mut ByteList, n: u8) -> Result<(), AllocError>
+    requires { n < 10 }
+    ensures text { OnOk result (to.new ≡ to.old ++ decimal n) }
+    ensures front { IsFront to.old to.new }
+{
+    to.push(b'0' + n)
+}
+
+/// A number, at the end.
+fn put_digits(to: &mut ByteList, n: u64) -> Result<(), AllocError>
+    ensures text { OnOk result (to.new ≡ to.old ++ decimal n) }
+    ensures front { IsFront to.old to.new }
+{
     put_bytes(to, Buffer::new().format(n).as_bytes())
 }
 
