@@ -46,29 +46,39 @@ one_untold ps p e =
     let some = first_untold p (reverse ps) e in
     rw (last_back ps p) (omega (arith, size, some))
 
-pub last_none : (xs : List Part) → 0 ≡ last_told (take 0 xs)
+pub last_all : (xs : List Part) (n : ℕ) → n ≡ length xs → last_told (take n xs) ≡ last_told xs
+last_all xs n e = rw (take_all n xs (omega arith)) refl
+
+-- one item fewer, where the last is Nothing
+pub last_less : (xs : List Part) (n : ℕ) → 0 < n → n ≤ length xs → not (is_nothing (get_or xs (n - 1) Nothing)) ≡ false → last_told (take n xs) ≡ last_told xs
+    → last_told (take (n - 1) xs) ≡ last_told xs
+last_less xs n some l e same =
+    let p : is_nothing (get_or xs (n - 1) Nothing) ≡ true = elim (is_nothing (get_or xs (n - 1) Nothing)) as (λ b. not b ≡ false → b ≡ true) [ true ↦ λ t. refl | false ↦ λ t. cc ] e in
+    let step : last_told (take (n - 1 + 1) xs) ≡ last_told (take (n - 1) xs) = rw (take_one xs (n - 1) (omega arith)) (one_untold (take (n - 1) xs) (get_or xs (n - 1) Nothing) p) in
+    let next : n - 1 + 1 ≡ n = omega arith in
+    sym step ∙ ap (λ k. last_told (take k xs)) next ∙ same
+
+-- the last is told
+pub last_here : (xs : List Part) (n : ℕ) → 0 < n → n ≤ length xs → not (is_nothing (get_or xs (n - 1) Nothing)) ≡ true → last_told (take n xs) ≡ last_told xs
+    → n ≡ last_told xs
+last_here xs n some l e same =
+    let p : is_nothing (get_or xs (n - 1) Nothing) ≡ false = elim (is_nothing (get_or xs (n - 1) Nothing)) as (λ b. not b ≡ true → b ≡ false) [ true ↦ λ t. cc | false ↦ λ t. refl ] e in
+    let size : length (take (n - 1) xs) ≡ n - 1 = length-take-le (n - 1) xs (omega arith) in
+    let here : last_told (take (n - 1 + 1) xs) ≡ length (take (n - 1) xs) + 1 = rw (take_one xs (n - 1) (omega arith)) (one_told (take (n - 1) xs) (get_or xs (n - 1) Nothing) p) in
+    let next : n - 1 + 1 ≡ n = omega arith in
+    let whole : last_told (take (n - 1 + 1) xs) ≡ last_told xs = ap (λ k. last_told (take k xs)) next ∙ same in
+    omega (arith, size, here, whole)
+
+pub last_none : (xs : List Part) (n : ℕ) → n ≤ 0 → last_told (take n xs) ≡ last_told xs → 0 ≡ last_told xs
 unfolding last_told
-last_none xs = refl
-
-pub last_more : (xs : List Part) (i : ℕ) → i < length xs → not (is_nothing (get_or xs i Nothing)) ≡ true → i + 1 ≡ last_told (take (i + 1) xs)
-last_more xs i l e =
-    let p : is_nothing (get_or xs i Nothing) ≡ false = elim (is_nothing (get_or xs i Nothing)) as (λ b. not b ≡ true → b ≡ false) [ true ↦ λ t. cc | false ↦ λ t. refl ] e in
-    let n : length (take i xs) ≡ i = length-take-le i xs (omega arith) in
-    rw (take_one xs i l, one_told (take i xs) (get_or xs i Nothing) p, n) refl
-
-pub last_less : (xs : List Part) (i : ℕ) → i < length xs → not (is_nothing (get_or xs i Nothing)) ≡ false → last_told (take i xs) ≡ last_told (take (i + 1) xs)
-last_less xs i l e =
-    let p : is_nothing (get_or xs i Nothing) ≡ true = elim (is_nothing (get_or xs i Nothing)) as (λ b. not b ≡ false → b ≡ true) [ true ↦ λ t. refl | false ↦ λ t. cc ] e in
-    rw (take_one xs i l, one_untold (take i xs) (get_or xs i Nothing) p) refl
-
-pub last_all : (xs : List Part) (i : ℕ) → length xs ≤ i → last_told (take i xs) ≡ last_told xs
-last_all xs i l = rw (take_all i xs l) refl
+last_none xs zero l same = same
+last_none xs (suc i) l same = absurd (omega arith)
 
 pub last_within : (xs : List Part) → last_told xs ≤ length xs
 unfolding last_told
 last_within xs = omega arith
 
-pub ruleset ends = (last_none, last_more, last_less, last_all, last_within)
+pub ruleset ends = (last_all, last_less, last_here, last_none, last_within)
 
 -- ---- the Parts from an op on
 

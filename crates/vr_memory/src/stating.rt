@@ -14,13 +14,24 @@ use vr_header::Part;
 use vr_msg::{DvcBody, Statement};
 use vr_window::{Window, run_length};
 
-/// Whether something is known of the op at a place.
-fn is_told(parts: &Window<Part>, at: usize) -> bool
-    ensures { result ≡ not (is_nothing (slice_index_or parts.now at Nothing)) }
+/// Whether something is known of the op.
+fn is_told(part: &Part) -> bool
+    ensures { result ≡ not (is_nothing part.now) }
 {
-    match parts.get_or(at, Part::Nothing) {
+    match part {
         Part::Here(_) | Part::Lost(_) | Part::Wanted(_) | Part::Unknown => true,
         Part::Nothing => false,
+    }
+}
+
+/// Whether something is known of the op at a place.
+#[tactic(auto, using(vr_window::proofs::Lists::past_is, vr_window::proofs::Lists::found_is))]
+fn is_told_at(parts: &Window<Part>, at: usize) -> bool
+    ensures { result ≡ not (is_nothing (slice_index_or parts.now at Nothing)) }
+{
+    match parts.item(at) {
+        Some(part) => is_told(part),
+        None => false,
     }
 }
 
@@ -30,13 +41,14 @@ fn last_told(parts: &Window<Part>) -> usize
     ensures value { result ≡ last_told parts.now }
     ensures within { result ≤ length parts.now }
 {
-    let mut end = 0;
-    for i in 0..parts.len() {
-        if is_told(parts, i) {
-            end = i + 1;
+    let mut end = parts.len();
+    while end > 0 {
+        if is_told_at(parts, end - 1) {
+            return end;
         }
+        end -= 1;
     }
-    end
+    0
 }
 
 /// The items from a place on, up to the last that isn't `Nothing`.
