@@ -1,7 +1,7 @@
 pub mod Honest
-pub mod Kept
 pub mod Made
-pub mod Marks
 pub mod Noted
+pub mod Places
 pub mod Room
 pub mod Settling
+pub mod Zeros

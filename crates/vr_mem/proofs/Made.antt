@@ -1,5 +1,5 @@
 -- A disk as it is made.
-use Rattle.std.proofs.Common.{ℕ, zero, suc, ◌≡◌, ◌<◌, ◌≤◌, refl, ◌∙◌, arith, [], get_or, subst, Some}
+use Rattle.std.proofs.Common.{ℕ, zero, suc, ◌≡◌, ◌<◌, ◌≤◌, refl, ◌∙◌, arith, [], get_or, subst}
 use Rattle.std.specs.List.{All}
 use Rattle.std.specs.Prelude.{replicate}
 use Rattle.std.specs.Vec.{vec_capacity}
@@ -7,8 +7,8 @@ use Rattle.std.proofs.lemmas.List.Elements.{All-replicate}
 use Rattle.vr_disk.specs.DiskState.{IsCell, IsContent}
 use Rattle.vr_disk.specs.Regions.{sectors}
 use Rattle.vr_mem.specs.declared.cells.MemFace.{MemFace}
-use Rattle.vr_mem.specs.Seen.{AreBlank, IsMemFace, copies, face_of, seen, zero_cell}
-use Rattle.vr_mem.proofs.Kept.{length_copies, length_seen, none_kept}
+use Rattle.vr_mem.specs.Seen.{AreRooms, IsMemFace, copies, face_of, seen, zero_cell}
+use Rattle.vr_mem.proofs.Places.{length_copies, length_seen}
 
 all_copies : {X : Type 0} → (P : X → Type 0) (n : ℕ) (x : X) → P x → All P (copies n x)
 unfolding copies
@@ -29,32 +29,23 @@ zero_is =
     let z = zeros_are 512 refl in
     record { truth = z; reads = λ b e. let same : copies 512 0 ≡ b = cc in subst IsContent same z; before = z }
 
-none_wait : (f : MemFace) → f.count ≡ 0 → (face_of f).waiting ≡ []
+none_wait : (f : MemFace) → f.indices.items ≡ [] → (face_of f).waiting ≡ []
 none_wait f e = rw e refl
 
-pub whole_made : (f : MemFace) → f.cells.items ≡ [] → f.count ≡ 0 → sectors ≤ vec_capacity f.cells → sectors ≤ vec_capacity f.waiting
-    → f.blank.items ≡ [] → sectors ≤ vec_capacity f.blank → AreBlank f.blank.items (seen f.cells.items) → IsMemFace f
-whole_made f e n c r m s b = record {
+pub whole_made : (f : MemFace) → AreRooms f.rooms → seen f.rooms ≡ copies sectors zero_cell → f.indices.items ≡ [] → sectors ≤ vec_capacity f.waiting → sectors ≤ vec_capacity f.indices → IsMemFace f
+whole_made f h e n r p = record {
   face = record {
-    count = length_seen f.cells.items (rw e (omega arith));
-    cells = rw (none_kept f.cells.items e) (all_copies IsCell sectors zero_cell zero_is);
+    count = length_seen f.rooms h;
+    cells = rw e (all_copies IsCell sectors zero_cell zero_is);
     waiting = rw (none_wait f n) (λ k d l. absurd (omega arith));
   };
-  count = rw e (omega arith);
-  space = c;
-  held = omega arith;
-  kept = rw (none_wait f n) (λ k d l. absurd (omega arith));
+  rooms = h;
+  listed = record { count = rw n (omega arith); each = rw n refl };
   once = rw (none_wait f n) refl;
   room = r;
-  marks = rw (e, m) refl;
-  marks_space = s;
-  blank = b;
+  list_space = p;
 }
 
 pub zeros_copies : replicate {A = ℕ} 512 0 ≡ copies 512 0
 unfolding copies
 zeros_copies = refl
-
-pub zero_reads : Some (copies 512 0) ≡ zero_cell.reads
-unfolding zero_cell
-zero_reads = refl

@@ -1,22 +1,20 @@
 use Rattle.std.proofs.Common.{ℕ, suc, ◌+◌, ◌/◌, ◌%◌, ◌≤◌, ◌<◌, ◌≡◌, arith, refl, sym, ap, ◌∙◌, true, false, Bool, cond, eqb, not, ◌||◌, ◌&&◌, ◌++◌, inl, inr, List, Option, Some, length-set, get_or-set_other, get_or-set_same, [], ◌∷◌, length, get_or, set, drop, drop-cons, add-one}
 use Rattle.std.specs.Prelude.{map, take}
 use Rattle.std.specs.List.{list_any}
-use Rattle.std.proofs.lemmas.List.{drop_all, get_or-map, length-map, length-take-le, map-append}
+use Rattle.std.proofs.lemmas.List.{drop_all, take_all, get_or-map, length-map, length-take-le, length_push, map-append}
 use Rattle.std.specs.List.{All}
-use Rattle.std.proofs.lemmas.List.Elements.{All-push, All-set}
-use Rattle.std.proofs.lemmas.Bool.{and_parts, cases_eq, cond_both, eq-eqb, eqb-false, eqb-true, not-true, or_parts}
+use Rattle.std.proofs.lemmas.List.Elements.{All-set}
+use Rattle.std.proofs.lemmas.Bool.{and_parts, cases_eq, cases_lt, cond_both, eq-eqb, eqb-false, eqb-true, not-true, or_parts}
 use Rattle.vr_disk.specs.Regions.{sectors}
 use Rattle.vr_disk.specs.DiskState.{Cell, Face, IsCell, IsContent, IsFace, Waiting, Write, after, cell, digit_at, IsWaiting, blank, noted, settled, settled_cell, waits}
 use Rattle.vr_mem.specs.declared.bytes.MemBytes.{MemBytes}
-use Rattle.vr_mem.specs.declared.cells.MemRoom.{MemRoom}
 use Rattle.vr_mem.specs.declared.cells.MemWaiting.{MemWaiting}
 use Rattle.std.specs.Vec.{vec_capacity}
 use Rattle.vr_disk.proofs.Faces.{face_after, there}
 use Rattle.vr_mem.specs.declared.cells.MemFace.{MemFace}
 use Rattle.vr_mem.specs.Lies.{lied}
-use Rattle.vr_mem.specs.Seen.{AreBlank, IsMemFace, bytes_of, room_of, face_of, once, kept_with, seen, taken, waiting_in, waiting_of, was_of}
+use Rattle.vr_mem.specs.Seen.{AreRooms, IsListed, IsMemFace, bytes_of, face_of, once, kept_with, seen, taken, waiting_in, waiting_of, was_of}
 use Rattle.vr_mem.proofs.Room.{once_push}
-use Rattle.vr_mem.proofs.Kept.{length_seen, seen_here, seen_set}
 use Rattle.vr_mem.proofs.Noted.{bytes_taken}
 
 abbrev is_in : MemWaiting → Cell → Waiting
@@ -99,22 +97,18 @@ same_face a b p q e k = rw (e, k) refl
 pub noted_again : (ws : List Waiting) (i : ℕ) (was : Cell) → waits i ws ≡ true → ws ≡ noted ws i was
 noted_again ws i was h = sym (ap (λ b. cond b ws (ws ++ record { index = i; was = was } ∷ [])) h)
 
-pub settle_step : (code : ℕ) (ws : List MemWaiting) (i : ℕ) (d : MemWaiting) (cells : List MemRoom) (x e : MemRoom)
-    → i < length ws → (get_or ws i d).index < length cells
-    → once (waiting_of (seen cells) (drop i ws)) ≡ true
-    → room_of x ≡ settled_cell (code % 3) (was_of (get_or ws i d) (room_of (get_or cells (get_or ws i d).index e))) (room_of (get_or cells (get_or ws i d).index e))
-    → settled code (waiting_of (seen cells) (drop i ws)) (seen cells)
-    ≡ settled (code / 3) (waiting_of (seen (set cells (get_or ws i d).index x)) (drop (i + 1) ws)) (seen (set cells (get_or ws i d).index x))
-settle_step code ws i d cells x e l b o h =
+pub settle_step : (code : ℕ) (ws : List MemWaiting) (i : ℕ) (d : MemWaiting) (xs : List Cell) (x : Cell)
+    → i < length ws
+    → once (waiting_of xs (drop i ws)) ≡ true
+    → (let w = get_or ws i d in let now = get_or xs w.index blank in x ≡ settled_cell (code % 3) (was_of w now) now)
+    → settled code (waiting_of xs (drop i ws)) xs ≡ settled (code / 3) (waiting_of (set xs (get_or ws i d).index x) (drop (i + 1) ws)) (set xs (get_or ws i d).index x)
+settle_step code ws i d xs x l o h =
     let w = get_or ws i d in
     let at = w.index in
     let rest = drop (suc i) ws in
-    let xs = seen cells in
-    let now : get_or xs at blank ≡ room_of (get_or cells at e) = seen_here cells at e b in
-    let same : settled_cell (code % 3) (was_of w (get_or xs at blank)) (get_or xs at blank) ≡ room_of x = ap (λ (c : Cell). settled_cell (code % 3) (was_of w c) c) now ∙ sym h in
     let alone : waits at (waiting_of xs rest) ≡ false = not-true (waits at (waiting_of xs rest)) (and_parts (not (waits at (waiting_of xs rest))) (once (waiting_of xs rest)) (rw (drop-cons ws i d) at o)).0 in
-    rw (add-one, drop-cons ws i d, seen_set cells at x b)
-    (ap (λ c. settled (code / 3) (waiting_of xs rest) (set xs at c)) same ∙ ap (λ r. settled (code / 3) r (set xs at (room_of x))) (sym (apart xs at (room_of x) rest alone)))
+    rw (add-one, drop-cons ws i d)
+    (ap (λ c. settled (code / 3) (waiting_of xs rest) (set xs at c)) (sym h) ∙ ap (λ r. settled (code / 3) r (set xs at x)) (sym (apart xs at x rest alone)))
 
 -- none of those behind waits twice
 pub once_behind : (ws : List MemWaiting) (i : ℕ) (d : MemWaiting) (xs ys : List Cell) → i < length ws → once (waiting_of xs (drop i ws)) ≡ true → once (waiting_of ys (drop (i + 1) ws)) ≡ true
@@ -126,13 +120,6 @@ once_behind ws i d xs ys l o =
 pub waiting_below : (n : ℕ) (ws : List Waiting) → All IsWaiting ws → n ≡ sectors → All (λ (w : Waiting). w.index < n) ws
 waiting_below n ws h e = λ k d l. (let i = (h k d l).index in omega arith)
 
--- what waits is kept, also where more is
-abbrev Kept : List MemRoom → List Waiting → Type 0
-Kept cells ws = All (λ (w : Waiting). w.index < length cells) ws
-
-kept_more : (cells more : List MemRoom) (ws : List Waiting) → Kept cells ws → length cells ≤ length more → Kept more ws
-kept_more cells more ws h l = λ k d b. (let i = h k d b in omega arith)
-
 pub waits_below : (n : ℕ) (xs : List Cell) (ws : List MemWaiting) → All (λ (w : Waiting). w.index < n) (waiting_of xs ws) → All (λ (w : MemWaiting). w.index < n) ws
 waits_below n xs ws h = λ k d l.
     (let t : (get_or (waiting_of xs ws) k (waiting_in xs d)).index < n = h k (waiting_in xs d) (rw length-map l) in
@@ -140,62 +127,83 @@ waits_below n xs ws h = λ k d l.
     let i = ap (λ (w : Waiting). w.index) e in
     omega (arith, t, i))
 
-pub length_waiting : (f : MemFace) → f.count ≤ length f.waiting.items → length (face_of f).waiting ≡ f.count
-length_waiting f l = length-map (take f.count f.waiting.items) (waiting_in (seen f.cells.items)) ∙ length-take-le f.count f.waiting.items l
+pub length_waiting : (f : MemFace) → IsListed f.indices.items f.waiting.items → length (face_of f).waiting ≡ length f.indices.items
+length_waiting f l = length-map (take (length f.indices.items) f.waiting.items) (waiting_in (seen f.rooms)) ∙ length-take-le (length f.indices.items) f.waiting.items l.count
 
-none_wait : (f : MemFace) → f.count ≡ 0 → (face_of f).waiting ≡ []
+-- whether one waits, by the indices of those that do
+any_index : (i : ℕ) (ws : List MemWaiting) → list_any (λ w. eqb w.index i) ws ≡ list_any (λ j. eqb j i) (map (λ (w : MemWaiting). w.index) ws)
+any_index i [] = refl
+any_index i (w ∷ ws) = ap (λ b. eqb w.index i || b) (any_index i ws)
+
+pub waits_listed : (i : ℕ) (xs : List Cell) (is : List ℕ) (ws : List MemWaiting) → IsListed is ws → waits i (waiting_of xs (take (length is) ws)) ≡ list_any (λ j. eqb j i) is
+waits_listed i xs is ws l = waits_of i xs (take (length is) ws) ∙ (any_index i (take (length is) ws) ∙ ap (list_any (λ j. eqb j i)) (sym l.each))
+
+-- none waits
+pub none_listed : (is : List ℕ) (ws : List MemWaiting) → is ≡ [] → IsListed is ws
+none_listed is ws e = record { count = rw e (omega arith); each = rw e refl }
+
+-- those that wait keep their indices
+kept_index : (i : ℕ) (s : MemBytes) (w : MemWaiting) → (kept_with i s w).index ≡ w.index
+kept_index i s w = cond_both (eqb w.index i && not w.again) (record w { again = true; truth = taken w.truth s }) w (λ (v : MemWaiting). v.index ≡ w.index) (λ _. refl) (λ _. refl)
+
+pub kept_indices : (i : ℕ) (s : MemBytes) (ws : List MemWaiting) → map (λ (w : MemWaiting). w.index) (map (kept_with i s) ws) ≡ map (λ (w : MemWaiting). w.index) ws
+kept_indices i s [] = refl
+kept_indices i s (w ∷ ws) = ap (λ j. j ∷ map (λ (w : MemWaiting). w.index) (map (kept_with i s) ws)) (kept_index i s w) ∙ ap (λ r. w.index ∷ r) (kept_indices i s ws)
+
+pub kept_listed : (i : ℕ) (s : MemBytes) (is : List ℕ) (old new : List MemWaiting) → IsListed is old → take (length is) new ≡ map (kept_with i s) (take (length is) old) → IsListed is new
+kept_listed i s is old new l e = record {
+  count =
+      let size = ap length e ∙ (length-map (take (length is) old) (kept_with i s) ∙ length-take-le (length is) old l.count) in
+      elim (cases_lt (length new) (length is)) [
+        | inl g ↦ let all = ap length (take_all (length is) new (omega (arith, g))) in omega (arith, size, all)
+        | inr g ↦ g
+      ];
+  each = l.each ∙ (sym (kept_indices i s (take (length is) old)) ∙ ap (map (λ (w : MemWaiting). w.index)) (sym e));
+}
+
+-- one more waits
+pub more_listed : (is : List ℕ) (old new : List MemWaiting) (w : MemWaiting) (i : ℕ) → IsListed is old → w.index ≡ i → length is + 1 ≤ length new → take (length is + 1) new ≡ take (length is) old ++ w ∷ [] → IsListed (is ++ i ∷ []) new
+more_listed is old new w i l e n t =
+    let size = length_push is i in
+    let front : take (length (is ++ i ∷ [])) new ≡ take (length is) old ++ w ∷ [] = ap (λ k. take k new) size ∙ t in
+    record {
+      count = omega (arith, size, n);
+      each = ap (λ (x : List ℕ). x ++ i ∷ []) l.each ∙ (ap (λ j. map (λ (w : MemWaiting). w.index) (take (length is) old) ++ j ∷ []) (sym e)
+          ∙ (sym (map-append (λ (w : MemWaiting). w.index) (take (length is) old) (w ∷ [])) ∙ ap (map (λ (w : MemWaiting). w.index)) (sym front)));
+    }
+
+none_wait : (f : MemFace) → f.indices.items ≡ [] → (face_of f).waiting ≡ []
 none_wait f e = rw e refl
 
-none_kept : (cells : List MemRoom) (ws : List Waiting) → ws ≡ [] → Kept cells ws
-none_kept cells ws e = rw e (λ k d l. absurd (omega arith))
-
--- its sectors are marked
-pub record Marked (f : MemFace) : Type 0 where
-  pub marks : length f.blank.items ≡ length f.cells.items
-  pub space : sectors ≤ vec_capacity f.blank
-  pub blank : AreBlank f.blank.items (seen f.cells.items)
-
 -- a disk after a settling or a sync
-pub settled_is : (old new : MemFace) → IsMemFace old → IsFace (face_of new) → new.count ≡ 0 → length new.cells.items ≡ length old.cells.items → sectors ≤ vec_capacity new.cells → new.waiting ≡ old.waiting
-    → Marked new → IsMemFace new
-settled_is old new h f w n s r m =
+pub settled_is : (old new : MemFace) → IsMemFace old → IsFace (face_of new) → new.indices.items ≡ [] → vec_capacity old.indices ≤ vec_capacity new.indices → new.waiting ≡ old.waiting → AreRooms new.rooms → IsMemFace new
+settled_is old new h f w p r m =
     record {
       face = f;
-      count = (let c = h.count in omega arith);
-      space = s;
-      held = rw w (omega arith);
-      kept = none_kept new.cells.items _ (none_wait new w);
+      rooms = m;
+      listed = none_listed _ _ w;
       once = rw (none_wait new w) refl;
       room = rw r h.room;
-      marks = m.marks;
-      marks_space = m.space;
-      blank = m.blank;
+      list_space = (let l = h.list_space in omega arith);
     }
 
 -- a sector that is noted
 once_noted : (ws : List Waiting) (i : ℕ) (c : Cell) → once ws ≡ true → once (noted ws i c) ≡ true
 once_noted ws i c o = cond_both (waits i ws) ws (ws ++ record { index = i; was = c } ∷ []) (λ ws. once ws ≡ true) (λ _. o) (λ f. once_push ws (record { index = i; was = c }) o f)
 
-kept_noted : (cells : List MemRoom) (ws : List Waiting) (i : ℕ) (c : Cell) → i < length cells → Kept cells ws → Kept cells (noted ws i c)
-kept_noted cells ws i c l h = cond_both (waits i ws) ws (ws ++ record { index = i; was = c } ∷ []) (Kept cells) (λ _. h) (λ _. All-push (λ (w : Waiting). w.index < length cells) ws (record { index = i; was = c }) h l)
-
 -- a disk with a sector written
 pub written_is : (old new : MemFace) (i : ℕ) (bytes : List ℕ) → IsMemFace old → i < sectors → IsContent bytes → face_of new ≡ after (face_of old) (Write i bytes)
-    → length new.cells.items ≤ sectors → length old.cells.items ≤ length new.cells.items → i < length new.cells.items → sectors ≤ vec_capacity new.cells → new.count ≤ length new.waiting.items → sectors ≤ vec_capacity new.waiting → Marked new → IsMemFace new
-written_is old new i bytes h l n same c g k s o r m =
+    → IsListed new.indices.items new.waiting.items → sectors ≤ vec_capacity new.waiting → sectors ≤ vec_capacity new.indices → AreRooms new.rooms → IsMemFace new
+written_is old new i bytes h l n same o r p m =
     let ws = (face_of old).waiting in
     let w : (face_of new).waiting ≡ noted ws i (cell (face_of old) i) = ap (λ (f : Face). f.waiting) same in
     record {
       face = rw same (face_after (face_of old) (Write i bytes) h.face (l, n));
-      count = c;
-      space = s;
-      held = o;
-      kept = rw w (kept_noted new.cells.items ws i (cell (face_of old) i) k (kept_more old.cells.items new.cells.items ws h.kept g));
+      rooms = m;
+      listed = o;
       once = rw w (once_noted ws i (cell (face_of old) i) h.once);
       room = r;
-      marks = m.marks;
-      marks_space = m.space;
-      blank = m.blank;
+      list_space = p;
     }
 
 -- a sector that reads as something else
@@ -205,34 +213,24 @@ lied_face f i r h l n =
     let was = there f i h l in
     record { count = length-set f.cells i (record (cell f i) { reads = r }) ∙ h.count; cells = All-set IsCell f.cells i (record (cell f i) { reads = r }) (record { truth = was.truth; reads = n; before = was.before }) h.cells; waiting = h.waiting }
 
-pub lied_is : (old new : MemFace) (i : ℕ) (r : Option (List ℕ)) → IsMemFace old → i < sectors → ((b : List ℕ) → r ≡ Some b → IsContent b) → face_of new ≡ lied (face_of old) i r
-    → length new.cells.items ≤ sectors → length old.cells.items ≤ length new.cells.items → sectors ≤ vec_capacity new.cells → new.waiting ≡ old.waiting → new.count ≡ old.count → Marked new → IsMemFace new
+pub lied_is : (old new : MemFace) (i : ℕ) (r : Option (List ℕ)) → IsMemFace old → i < sectors → ((b : List ℕ) → r ≡ Some b → IsContent b) → face_of new ≡ lied (face_of old) i r → new.waiting ≡ old.waiting → new.indices ≡ old.indices → AreRooms new.rooms → IsMemFace new
 unfolding lied
-lied_is old new i r h l n same c g s w k m =
+lied_is old new i r h l n same w k m =
     let ws = (face_of old).waiting in
     let x : (face_of new).waiting ≡ ws = ap (λ (f : Face). f.waiting) same in
     record {
       face = rw same (lied_face (face_of old) i r h.face l n);
-      count = c;
-      space = s;
-      held = rw (w, k) h.held;
-      kept = rw x (kept_more old.cells.items new.cells.items ws h.kept g);
+      rooms = m;
+      listed = rw (w, k) h.listed;
       once = rw x h.once;
       room = rw w h.room;
-      marks = m.marks;
-      marks_space = m.space;
-      blank = m.blank;
+      list_space = rw k h.list_space;
     }
 
-pub lied_cells : (cells more : List MemRoom) (ws : List MemWaiting) (i : ℕ) (was x : MemRoom) (r : Option (List ℕ)) → seen more ≡ seen cells → i < length more → length more ≤ sectors → was ≡ get_or more i was → room_of x ≡ record (room_of was) { reads = r }
-    → let f : Face = record { cells = seen cells; waiting = waiting_of (seen cells) ws } in let g : Face = record { cells = seen (set more i x); waiting = waiting_of (seen (set more i x)) ws } in g ≡ lied f i r
+pub lied_cells : (xs ys : List Cell) (ws : List MemWaiting) (i : ℕ) (r : Option (List ℕ)) → i < length xs → ys ≡ set xs i (record (get_or xs i blank) { reads = r })
+    → let f : Face = record { cells = xs; waiting = waiting_of xs ws } in let g : Face = record { cells = ys; waiting = waiting_of ys ws } in g ≡ lied f i r
 unfolding lied
-lied_cells cells more ws i was x r s l m w e =
-    let now : get_or (seen more) i blank ≡ room_of was = seen_here more i was l ∙ ap room_of (sym w) in
-    let long = length_seen more m in
-    let held : (room_of x).before ≡ (get_or (seen more) i blank).before = ap (λ (c : Cell). c.before) e ∙ ap (λ (c : Cell). c.before) (sym now) in
-    let same : waiting_of (set (seen more) i (room_of x)) ws ≡ waiting_of (seen more) ws = alike (seen more) i (room_of x) ws (omega (arith, long, l, m)) held in
-    rw (seen_set more i x l, same, ← s, now, e) refl
+lied_cells xs ys ws i r l e = let c : Cell = record (get_or xs i blank) { reads = r } in rw (e, alike xs i c ws l refl) refl
 
 -- the digit of a sector, from one of those that wait on
 digit_cons : (code k : ℕ) (w : Waiting) (ws : List Waiting) → digit_at code k (w ∷ ws) ≡ cond (eqb w.index k) (code % 3) (digit_at (code / 3) k ws)

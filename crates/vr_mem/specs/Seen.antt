@@ -1,7 +1,7 @@
 -- What a disk in memory holds, as the calls of a disk see it.
-use Rattle.std.specs.List.{list_any, All}
+use Rattle.std.specs.List.{count_by, list_any}
 use Rattle.std.specs.Vec.{vec_capacity}
-use Rattle.std.specs.Prelude.{◌==◌, ◌&&◌, ◌≡◌, ◌≤◌, ◌<◌, ◌-◌, ◌++◌, Bool, false, true, not, if◌then◌else◌, ℕ, List, [], ◌∷◌, length, map, replicate, Option, Some, None, take, slice_index_or}
+use Rattle.std.specs.Prelude.{◌==◌, ◌&&◌, ◌≡◌, ◌≤◌, ◌<◌, ◌+◌, Bool, true, not, if◌then◌else◌, ℕ, List, [], ◌∷◌, length, map, replicate, Option, Some, None, take, slice_index_or}
 use Rattle.vr_disk.specs.DiskState.{Cell, Waiting, Face, IsFace, Fate, Fuse, CallVerdict, Goes, Fails, Cuts, blank}
 use Rattle.vr_disk.specs.Regions.{sectors}
 use Rattle.vr_disk.specs.declared.sector.Sector.{Sector}
@@ -10,6 +10,7 @@ use Rattle.vr_mem.specs.declared.cells.MemCell.{MemCell}
 use Rattle.vr_mem.specs.declared.cells.MemReads.{MemReads}
 use Rattle.vr_mem.specs.declared.cells.MemReads.TheVariants as r
 use Rattle.vr_mem.specs.declared.cells.MemRoom.{MemRoom}
+use Rattle.vr_mem.specs.declared.cells.MemRooms.{MemRooms}
 use Rattle.vr_mem.specs.declared.cells.MemWaiting.{MemWaiting}
 use Rattle.vr_mem.specs.declared.cells.MemFace.{MemFace}
 use Rattle.vr_mem.specs.declared.fate.MemFuse.{MemFuse}
@@ -76,12 +77,15 @@ kept_with index truth w = if (w.index == index) && not w.again then record w { a
 unfoldable pub zero_cell : Cell
 zero_cell = record { truth = copies 512 0; reads = Some (copies 512 0); before = copies 512 0 }
 
--- those that are kept, and behind them those that nothing was done to
-unfoldable pub seen : List MemRoom → List Cell
-seen cells = map room_of cells ++ copies (sectors - length cells) zero_cell
+-- what each sector holds, by the place of its room
+unfoldable pub seen_by : List ℕ → List MemRoom → List Cell
+seen_by places rooms = map (λ p. slice_index_or (map room_of rooms) p blank) places
+
+abbrev pub seen : MemRooms → List Cell
+seen m = seen_by m.places.items m.rooms.items
 
 abbrev pub face_of : MemFace → Face
-face_of f = record { cells = seen f.cells.items; waiting = waiting_of (seen f.cells.items) (take f.count f.waiting.items) }
+face_of f = record { cells = seen f.rooms; waiting = waiting_of (seen f.rooms) (take (length f.indices.items) f.waiting.items) }
 
 abbrev pub fuse_of : Option MemFuse → Option Fuse
 fuse_of None = None
@@ -104,19 +108,25 @@ abbrev pub once : List Waiting → Bool
 once [] = true
 once (w ∷ ws) = not (list_any (λ x. x.index == w.index) ws) && once ws
 
--- each sector that is marked reads as zeros
-pub record AreBlank (marks : List Bool) (cells : List Cell) : Type 0 where
-  pub each : (i : ℕ) → slice_index_or marks i false ≡ true → (slice_index_or cells i blank).reads ≡ Some (copies 512 0)
+-- the first room is of zeros, for all sectors that have none of their own; no two share another one
+pub record AreRooms (m : MemRooms) : Type 0 where
+  pub count : length m.places.items ≡ sectors
+  pub first : slice_index_or (map room_of m.rooms.items) 0 blank ≡ zero_cell
+  pub within : (i : ℕ) → slice_index_or m.places.items i 0 < length m.rooms.items
+  pub own : (i j : ℕ) → 0 < slice_index_or m.places.items i 0 → slice_index_or m.places.items i 0 ≡ slice_index_or m.places.items j 0 → i ≡ j
+  pub given : length m.rooms.items + count_by (λ p. p == 0) m.places.items ≡ sectors + 1
+  pub space : sectors + 1 ≤ vec_capacity m.rooms
 
--- 3,984 sectors, each of which can be kept, and can wait where it is kept
+-- the indices of those that wait, which come first
+pub record IsListed (indices : List ℕ) (waiting : List MemWaiting) : Type 0 where
+  pub count : length indices ≤ length waiting
+  pub each : indices ≡ map (λ (w : MemWaiting). w.index) (take (length indices) waiting)
+
+-- 3,984 sectors, each of which can wait
 pub record IsMemFace (f : MemFace) : Type 0 where
   pub face : IsFace (face_of f)
-  pub count : length f.cells.items ≤ sectors
-  pub space : sectors ≤ vec_capacity f.cells
-  pub held : f.count ≤ length f.waiting.items
-  pub kept : All (λ (w : Waiting). w.index < length f.cells.items) (face_of f).waiting
+  pub rooms : AreRooms f.rooms
+  pub listed : IsListed f.indices.items f.waiting.items
   pub once : once (face_of f).waiting ≡ true
   pub room : sectors ≤ vec_capacity f.waiting
-  pub marks : length f.blank.items ≡ length f.cells.items
-  pub marks_space : sectors ≤ vec_capacity f.blank
-  pub blank : AreBlank f.blank.items (face_of f).cells
+  pub list_space : sectors ≤ vec_capacity f.indices

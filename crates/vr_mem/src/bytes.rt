@@ -1,14 +1,10 @@
 //! What a sector in memory holds.
 ghost use Rattle.std.specs.Prelude.{◌≡◌, length};
-ghost use Rattle.vr_base.specs.Bytes.{is_zeros};
 ghost use Rattle.vr_disk.specs.DiskState.{damaged};
 ghost use Rattle.vr_mem.specs.Seen.{bytes_of, copies, taken};
 
 use vr_base::is_zeros;
-use vr_disk::Sector;
-
-/// A sector of zeros.
-pub const ZEROS: Sector = Sector { bytes: [0; 512] };
+use vr_disk::{Sector, ZEROS};
 
 /// What a sector may hold. Zeros are only noted, since most sectors that are written are zeros: then what stands in `sector`
 /// means nothing.
@@ -55,19 +51,17 @@ impl MemBytes {
         if self.zeros { &ZEROS } else { &self.sector }
     }
 
-    /// Holds these bytes from now on, and gives whether they are zeros.
+    /// Holds these bytes from now on.
     #[tactic(auto, unfolding(crate::specs::Seen::bytes_of))]
-    pub fn set(&mut self, bytes: &[u8]) -> bool
+    pub fn set(&mut self, bytes: &[u8])
         requires { length bytes.now ≡ 512 }
-        ensures bytes { bytes_of self.new ≡ bytes.now }
-        ensures zeros { result ≡ is_zeros bytes.now }
+        ensures { bytes_of self.new ≡ bytes.now }
     {
         self.zeros = is_zeros(bytes);
         if self.zeros {
-            return true;
+            return;
         }
         self.sector.bytes.copy_from_slice(bytes);
-        false
     }
 
     /// Holds from now on what the other holds.

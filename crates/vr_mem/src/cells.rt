@@ -7,12 +7,12 @@ ghost use Rattle.vr_base.specs.Bytes.{is_zeros};
 ghost use Rattle.vr_disk.specs.DiskState.{Cell, after, blank, cell, damaged, digit_at, IsContent, noted, reads, settle, settled, settled_cell, written, Write, Sync};
 ghost use Rattle.vr_disk.specs.Sectors.{has};
 ghost use Rattle.vr_mem.specs.Lies.{lied};
-ghost use Rattle.vr_mem.specs.Seen.{AreBlank, IsMemFace, bytes_of, cell_of, copies, face_of, kept_with, once, room_of, seen, waiting_of, was_of, zero_cell};
+ghost use Rattle.vr_mem.specs.Seen.{AreRooms, IsListed, IsMemFace, bytes_of, cell_of, copies, face_of, kept_with, once, room_of, seen, waiting_of, was_of, zero_cell};
 
-use crate::bytes::{MemBytes, ZEROS};
+use crate::bytes::MemBytes;
 use std::alloc::Global;
 use vr_base::{NoMemory, is_zeros};
-use vr_disk::{SECTORS, Sector};
+use vr_disk::{SECTORS, Sector, ZEROS};
 
 /// A sector: what it should hold, what it reads as, and what it held before its last write.
 #[derive(Clone, Copy)]
@@ -59,33 +59,47 @@ pub struct MemWaiting {
     pub lie: Sector,
 }
 
-/// All sectors, and those that wait, in the order of their first write. Kept are the sectors up to the last one that was
-/// written or reads as something else; those behind it are zeros, and take no memory.
+/// What is kept of a sector of zeros that was never written.
+const BLANK: MemRoom = MemRoom {
+    turned: false,
+    reads: MemReads::Truth,
+    one: MemBytes {
+        zeros: true,
+        sector: ZEROS,
+    },
+    two: MemBytes {
+        zeros: true,
+        sector: ZEROS,
+    },
+    lie: ZEROS,
+};
+
+/// What is kept of all sectors. A sector gets a room when it needs one: most are zeros that were never written, and have none.
+#[derive(Drop)]
+pub struct MemRooms {
+    /// Of each sector the place of its room, 0 where it has none of its own.
+    pub places: Vec<u32>,
+    /// The first is that of all sectors that have none, and stays as it is. The others come in the order in which they were
+    /// needed.
+    pub rooms: Vec<MemRoom>,
+}
+
+/// All sectors, and those that wait, in the order of their first write.
 #[derive(Drop)]
 pub struct MemFace {
-    pub cells: Vec<MemRoom>,
-    /// Of each kept sector, whether it surely reads as zeros: such a one is read without a look at its room, which few caches
-    /// hold.
-    pub blank: Vec<bool>,
-    /// How many sectors wait.
-    pub count: usize,
+    pub rooms: MemRooms,
+    /// The index of each sector that waits. One is looked for here, since those that wait lie far apart.
+    pub indices: Vec<u32>,
     /// Those that wait, and behind them what stays of some that waited once: the next ones are written over it.
     pub waiting: Vec<MemWaiting>,
 }
 
 // A sector of zeros that was never written.
-#[tactic(auto, unfolding(crate::specs::Seen::zero_cell, crate::specs::Seen::room_of))]
-fn zero() -> MemRoom
-    ensures { room_of result ≡ zero_cell }
+#[tactic(auto, unfolding(crate::specs::Seen::zero_cell, crate::specs::Seen::room_of, crate::specs::Seen::bytes_of))]
+fn zero() -> &'static MemRoom
+    ensures { room_of result.now ≡ zero_cell }
 {
-    let zeros = MemBytes::zeros();
-    MemRoom {
-        turned: false,
-        reads: MemReads::Truth,
-        one: zeros,
-        two: zeros,
-        lie: ZEROS,
-    }
+    &BLANK
 }
 
 impl MemRoom {
@@ -126,22 +140,31 @@ impl MemRoom {
         }
     }
 
-    // Writes these bytes, and gives whether they are zeros.
+    // Whether it surely reads as zeros, by what is noted of it.
+    #[tactic(auto, unfolding(crate::specs::Seen::bytes_of, crate::specs::Seen::room_of))]
+    fn is_noted(&self) -> bool
+        ensures { result ≡ true → (room_of self.now).reads ≡ Some (copies 512 0) }
+    {
+        match self.reads {
+            MemReads::Truth => self.truth().zeros,
+            _ => false,
+        }
+    }
+
+    // Writes these bytes.
     #[tactic(auto, unfolding(crate::specs::Seen::room_of))]
-    fn write(&mut self, bytes: &[u8]) -> bool
+    fn write(&mut self, bytes: &[u8])
         requires { length bytes.now ≡ 512 }
         ensures cell { room_of self.new ≡ written (room_of self.old) bytes.now }
         ensures content { IsContent bytes.now }
-        ensures zeros { result ≡ is_zeros bytes.now }
     {
-        let zeros = if self.turned {
-            self.one.set(bytes)
+        if self.turned {
+            self.one.set(bytes);
         } else {
-            self.two.set(bytes)
-        };
+            self.two.set(bytes);
+        }
         self.turned = !self.turned;
         self.reads = MemReads::Truth;
-        zeros
     }
 
     // From now on it reads as these bytes.
@@ -215,21 +238,122 @@ impl MemRoom {
     }
 }
 
-// Settles the sectors that wait, by the digits of the code. What they read as then isn't looked at, so none is marked.
-fn settle_all(code: u64, waiting: &[MemWaiting], cells: &mut [MemRoom], blank: &mut [bool])
-    requires kept { All (λ w. w.index < length cells.old) waiting.now }
-    requires once { once (waiting_of (seen cells.old) waiting.now) ≡ true }
-    requires marks { length blank.old ≡ length cells.old }
-    requires blank { AreBlank blank.old (seen cells.old) }
-    ensures cells { seen cells.new ≡ settled code (waiting_of (seen cells.old) waiting.now) (seen cells.old) }
-    ensures count { length cells.new ≡ length cells.old }
-    ensures blank { AreBlank blank.new (seen cells.new) }
+impl MemRooms {
+    // No sector has a room, and each can get one.
+    fn new(alloc: Global) -> Result<MemRooms, NoMemory>
+        ensures zeros { IfOk result (λ m. seen m ≡ copies SECTORS zero_cell) }
+        ensures whole { IfOk result AreRooms }
+    {
+        let mut rooms = Vec::with_capacity(alloc, SECTORS as usize + 1)?;
+        rooms.push_reserved(*zero());
+        let places = Vec::from_elem(alloc, 0, SECTORS as usize)?;
+        Ok(MemRooms { places, rooms })
+    }
+
+    // What is kept of a sector.
+    fn room(&self, at: usize) -> &MemRoom
+        requires rooms { AreRooms self.now }
+        requires at { at < SECTORS }
+        ensures { slice_index_or (seen self.now) at blank ≡ room_of result.now }
+    {
+        &self.rooms[self.places[at] as usize]
+    }
+
+    // Gives a room to a sector that has none, and tells its place.
+    fn give(&mut self, at: usize) -> usize
+        requires rooms { AreRooms self.old }
+        requires at { at < SECTORS }
+        requires none { slice_index_or self.old.places.items at 0 ≡ 0 }
+        ensures rooms { AreRooms self.new }
+        ensures same { seen self.new ≡ seen self.old }
+        ensures own { 0 < result }
+        ensures place { slice_index_or self.new.places.items at 0 ≡ result }
+    {
+        let place = self.rooms.len();
+        self.rooms.push_reserved(*zero());
+        self.places[at] = place as u32;
+        place
+    }
+
+    // The place of a sector's own room, which it gets now where it had none.
+    fn place(&mut self, at: usize) -> usize
+        requires rooms { AreRooms self.old }
+        requires at { at < SECTORS }
+        ensures rooms { AreRooms self.new }
+        ensures same { seen self.new ≡ seen self.old }
+        ensures own { 0 < result }
+        ensures place { slice_index_or self.new.places.items at 0 ≡ result }
+    {
+        let place = self.places[at];
+        if place == 0 {
+            return self.give(at);
+        }
+        place as usize
+    }
+
+    // Writes these bytes into a sector. Zeros that are written into one with no room change nothing, so it gets none.
+    fn write(&mut self, at: usize, bytes: &[u8])
+        requires rooms { AreRooms self.old }
+        requires at { at < SECTORS }
+        requires size { length bytes.now ≡ 512 }
+        ensures rooms { AreRooms self.new }
+        ensures cells { seen self.new ≡ slice_set (seen self.old) at (written (slice_index_or (seen self.old) at blank) bytes.now) }
+        ensures content { IsContent bytes.now }
+    {
+        if self.places[at] == 0 && is_zeros(bytes) {
+            return;
+        }
+        let place = self.place(at);
+        self.rooms[place].write(bytes);
+    }
+
+    // From now on a sector reads as these bytes.
+    fn show(&mut self, at: usize, bytes: &[u8])
+        requires rooms { AreRooms self.old }
+        requires at { at < SECTORS }
+        requires size { length bytes.now ≡ 512 }
+        ensures rooms { AreRooms self.new }
+        ensures cells { seen self.new ≡ slice_set (seen self.old) at (record (slice_index_or (seen self.old) at blank) { reads = Some bytes.now }) }
+        ensures content { IsContent bytes.now }
+    {
+        let place = self.place(at);
+        self.rooms[place].show(bytes);
+    }
+
+    // From now on a sector can't be read.
+    fn hide(&mut self, at: usize)
+        requires rooms { AreRooms self.old }
+        requires at { at < SECTORS }
+        ensures rooms { AreRooms self.new }
+        ensures cells { seen self.new ≡ slice_set (seen self.old) at (record (slice_index_or (seen self.old) at blank) { reads = None }) }
+    {
+        let place = self.place(at);
+        self.rooms[place].hide();
+    }
+
+    // What a stop leaves of a sector, by a digit and what it was.
+    fn settle(&mut self, at: usize, digit: u64, was: &MemWaiting)
+        requires rooms { AreRooms self.old }
+        requires at { at < SECTORS }
+        ensures rooms { AreRooms self.new }
+        ensures cells { seen self.new ≡ slice_set (seen self.old) at (settled_cell digit (was_of was.now (slice_index_or (seen self.old) at blank)) (slice_index_or (seen self.old) at blank)) }
+    {
+        let place = self.place(at);
+        self.rooms[place].settle(digit, was);
+    }
+}
+
+// Settles the sectors that wait, by the digits of the code.
+fn settle_all(code: u64, waiting: &[MemWaiting], rooms: &mut MemRooms)
+    requires rooms { AreRooms rooms.old }
+    requires within { All (λ w. w.index < SECTORS) waiting.now }
+    requires once { once (waiting_of (seen rooms.old) waiting.now) ≡ true }
+    ensures rooms { AreRooms rooms.new }
+    ensures cells { seen rooms.new ≡ settled code (waiting_of (seen rooms.old) waiting.now) (seen rooms.old) }
 {
     let mut rest = code;
     for w in waiting {
-        let at = w.index as usize;
-        cells[at].settle(rest % 3, w);
-        blank[at] = false;
+        rooms.settle(w.index as usize, rest % 3, w);
         rest /= 3;
     }
 }
@@ -247,10 +371,10 @@ fn digit(code: u64, index: u32, waiting: &[MemWaiting]) -> u64
     0
 }
 
-fn is_waiting(index: u32, waiting: &[MemWaiting]) -> bool
-    ensures { result ≡ list_any (λ w. w.index == index) waiting.now }
+fn is_waiting(index: u32, indices: &[u32]) -> bool
+    ensures { result ≡ list_any (λ i. i == index) indices.now }
 {
-    waiting.iter().any(|w| w.index == index)
+    indices.iter().any(|i| *i == index)
 }
 
 // A place for one more that waits, behind so many.
@@ -290,76 +414,57 @@ fn note_in(place: &mut MemWaiting, index: u32, room: &MemRoom)
     place.before.take_from(room.before());
 }
 
-// Keeps what a sector should have held, where it is the one that waits here and was written once.
-fn keep_in(place: &mut MemWaiting, index: u32, truth: &MemBytes)
+// Keeps what a sector should have held, where it is the one that waits here and was written once. Which one waits here is
+// told, so no other's place is looked at.
+fn keep_in(place: &mut MemWaiting, listed: u32, index: u32, truth: &MemBytes)
+    requires { place.old.index ≡ listed }
     ensures { place.new ≡ kept_with index truth.now place.old }
 {
-    if place.index == index && !place.again {
+    if listed == index && !place.again {
         place.truth.take_from(truth);
         place.again = true;
     }
 }
 
-// Keeps what a sector should have held that is written again, with those of the first so many that it is.
-fn keep_truth(waiting: &mut [MemWaiting], count: usize, index: u32, truth: &MemBytes)
-    requires { count ≤ length waiting.old }
-    ensures { waiting.new ≡ map (kept_with index truth.now) (take count waiting.old) ++ drop count waiting.old }
+// Keeps what a sector should have held that is written again, with those listed that it is.
+fn keep_truth(waiting: &mut [MemWaiting], indices: &[u32], index: u32, truth: &MemBytes)
+    requires { IsListed indices.now waiting.old }
+    ensures { waiting.new ≡ map (kept_with index truth.now) (take (length indices.now) waiting.old) ++ drop (length indices.now) waiting.old }
 {
-    for i in 0..count {
-        keep_in(&mut waiting[i], index, truth);
+    for i in 0..indices.len() {
+        keep_in(&mut waiting[i], indices[i], index, truth);
     }
 }
 
-// Notes that a sector is to be written, behind so many that wait; and gives how many wait then.
-fn note(waiting: &mut Vec<MemWaiting>, count: usize, index: u32, room: &MemRoom) -> usize
-    requires count { count ≤ length waiting.old.items }
-    requires room { list_any (λ w. w.index == index) (take count waiting.old.items) ≡ false → count < vec_capacity waiting.old }
-    ensures items { (cells : List Cell) (now : Cell) → index < length cells → slice_index_or cells index blank ≡ room_of room.now → now.before ≡ (room_of room.now).truth → waiting_of (slice_set cells index now) (take result waiting.new.items) ≡ noted (waiting_of cells (take count waiting.old.items)) index (room_of room.now) }
-    ensures count { result ≤ length waiting.new.items }
+// Notes that a sector is to be written, behind those that wait.
+fn note(waiting: &mut Vec<MemWaiting>, indices: &mut Vec<u32>, index: u32, room: &MemRoom)
+    requires listed { IsListed indices.old.items waiting.old.items }
+    requires room { list_any (λ i. i == index) indices.old.items ≡ false → length indices.old.items < vec_capacity waiting.old }
+    requires list_room { list_any (λ i. i == index) indices.old.items ≡ false → length indices.old.items < vec_capacity indices.old }
+    ensures items { (cells : List Cell) (now : Cell) → index < length cells → slice_index_or cells index blank ≡ room_of room.now → now.before ≡ (room_of room.now).truth → waiting_of (slice_set cells index now) (take (length indices.new.items) waiting.new.items) ≡ noted (waiting_of cells (take (length indices.old.items) waiting.old.items)) index (room_of room.now) }
+    ensures listed { IsListed indices.new.items waiting.new.items }
     ensures capacity { vec_capacity waiting.old ≤ vec_capacity waiting.new }
+    ensures list_capacity { vec_capacity indices.old ≤ vec_capacity indices.new }
 {
-    if is_waiting(index, &waiting[..count]) {
-        keep_truth(waiting.as_mut_slice(), count, index, room.before());
-        return count;
+    if is_waiting(index, indices) {
+        keep_truth(waiting.as_mut_slice(), indices, index, room.before());
+        return;
     }
+    let count = indices.len();
     make_place(waiting, count);
     note_in(&mut waiting[count], index, room);
-    count + 1
-}
-
-// Keeps this sector too, and those before it. Each one more is zeros, and so marked.
-fn keep(cells: &mut Vec<MemRoom>, blank: &mut Vec<bool>, at: usize)
-    requires at { at < SECTORS }
-    requires count { length cells.old.items ≤ SECTORS }
-    requires space { SECTORS ≤ vec_capacity cells.old }
-    requires marks { length blank.old.items ≡ length cells.old.items }
-    requires marks_space { SECTORS ≤ vec_capacity blank.old }
-    requires blank { AreBlank blank.old.items (seen cells.old.items) }
-    ensures cells { seen cells.new.items ≡ seen cells.old.items }
-    ensures kept { at < length cells.new.items }
-    ensures count { length cells.new.items ≤ SECTORS }
-    ensures grown { length cells.old.items ≤ length cells.new.items }
-    ensures space { SECTORS ≤ vec_capacity cells.new }
-    ensures marks { length blank.new.items ≡ length cells.new.items }
-    ensures marks_space { SECTORS ≤ vec_capacity blank.new }
-    ensures blank { AreBlank blank.new.items (seen cells.new.items) }
-{
-    while cells.len() <= at {
-        cells.push_reserved(zero());
-        blank.push_reserved(true);
-    }
+    indices.push_reserved(index);
 }
 
 impl MemFace {
-    /// 3,984 sectors of zeros, with room for each of them to be kept and to wait.
+    /// 3,984 sectors of zeros, with memory for each of them to be written and to wait.
     pub fn new(alloc: Global) -> Result<MemFace, NoMemory>
         ensures face { IfOk result (λ f. face_of f ≡ record { cells = copies SECTORS zero_cell; waiting = [] }) }
         ensures whole { IfOk result IsMemFace }
     {
         Ok(MemFace {
-            cells: Vec::with_capacity(alloc, SECTORS as usize)?,
-            blank: Vec::with_capacity(alloc, SECTORS as usize)?,
-            count: 0,
+            rooms: MemRooms::new(alloc)?,
+            indices: Vec::with_capacity(alloc, SECTORS as usize)?,
             waiting: Vec::with_capacity(alloc, SECTORS as usize)?,
         })
     }
@@ -370,22 +475,7 @@ impl MemFace {
         requires index { index < SECTORS }
         ensures { cell (face_of self.now) index ≡ cell_of result }
     {
-        let at = index as usize;
-        if at < self.cells.len() {
-            self.cells[at].cell()
-        } else {
-            zero().cell()
-        }
-    }
-
-    // Whether a sector surely reads as zeros: it is marked so, or it isn't kept.
-    fn is_blank(&self, at: usize) -> bool
-        requires face { IsMemFace self.now }
-        requires at { at < SECTORS }
-        ensures zeros { result ≡ true → reads (face_of self.now) at ≡ Some (copies 512 0) }
-        ensures kept { result ≡ false → at < length self.now.cells.items }
-    {
-        at >= self.blank.len() || self.blank[at]
+        self.rooms.room(index as usize).cell()
     }
 
     /// What a sector reads as, `None` where it can't be read.
@@ -394,12 +484,7 @@ impl MemFace {
         requires index { index < SECTORS }
         ensures { option_map (λ s. s.now.bytes) result ≡ reads (face_of self.now) index }
     {
-        let at = index as usize;
-        if self.is_blank(at) {
-            Some(&ZEROS)
-        } else {
-            self.cells[at].reading()
-        }
+        self.rooms.room(index as usize).reading()
     }
 
     /// Whether a sector reads as zeros.
@@ -408,10 +493,11 @@ impl MemFace {
         requires index { index < SECTORS }
         ensures { result ≡ has (replicate 512 0) (reads (face_of self.now) index) }
     {
-        if self.is_blank(index as usize) {
+        let room = self.rooms.room(index as usize);
+        if room.is_noted() {
             return true;
         }
-        match self.reading(index) {
+        match room.reading() {
             Some(sector) => is_zeros(&sector.bytes),
             None => false,
         }
@@ -424,10 +510,7 @@ impl MemFace {
         ensures after { face_of self.new ≡ lied (face_of self.old) index (Some sector.now.bytes) }
         ensures face { IsMemFace self.new }
     {
-        let at = index as usize;
-        keep(&mut self.cells, &mut self.blank, at);
-        self.blank[at] = false;
-        self.cells[at].show(&sector.bytes);
+        self.rooms.show(index as usize, &sector.bytes);
     }
 
     /// From now on a sector can't be read, until it is written.
@@ -437,10 +520,7 @@ impl MemFace {
         ensures after { face_of self.new ≡ lied (face_of self.old) index None }
         ensures face { IsMemFace self.new }
     {
-        let at = index as usize;
-        keep(&mut self.cells, &mut self.blank, at);
-        self.blank[at] = false;
-        self.cells[at].hide();
+        self.rooms.hide(index as usize);
     }
 
     pub fn write(&mut self, index: u32, from: &Sector)
@@ -450,9 +530,13 @@ impl MemFace {
         ensures face { IsMemFace self.new }
     {
         let at = index as usize;
-        keep(&mut self.cells, &mut self.blank, at);
-        self.count = note(&mut self.waiting, self.count, index, &self.cells[at]);
-        self.blank[at] = self.cells[at].write(&from.bytes);
+        note(
+            &mut self.waiting,
+            &mut self.indices,
+            index,
+            self.rooms.room(at),
+        );
+        self.rooms.write(at, &from.bytes);
     }
 
     pub fn sync(&mut self)
@@ -460,7 +544,7 @@ impl MemFace {
         ensures after { face_of self.new ≡ after (face_of self.old) Sync }
         ensures face { IsMemFace self.new }
     {
-        self.count = 0;
+        self.indices.clear();
     }
 
     /// The digit of the code by which a sector that waits is settled, 0 where it doesn't wait.
@@ -468,7 +552,7 @@ impl MemFace {
         requires { IsMemFace self.now }
         ensures { result ≡ digit_at code index (face_of self.now).waiting }
     {
-        digit(code, index, &self.waiting[..self.count])
+        digit(code, index, &self.waiting[..self.indices.len()])
     }
 
     /// What a stop leaves of the sectors that wait.
@@ -477,12 +561,7 @@ impl MemFace {
         ensures after { face_of self.new ≡ settle code (face_of self.old) }
         ensures face { IsMemFace self.new }
     {
-        settle_all(
-            code,
-            &self.waiting[..self.count],
-            &mut self.cells,
-            &mut self.blank,
-        );
-        self.count = 0;
+        settle_all(code, &self.waiting[..self.indices.len()], &mut self.rooms);
+        self.indices.clear();
     }
 }

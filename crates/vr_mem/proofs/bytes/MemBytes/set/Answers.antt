@@ -2,5 +2,5 @@ use Rattle.std.proofs.Common.{◌∙◌, sym}
 use Rattle.vr_mem.proofs.Noted.{noted_zeros}
 use Rattle.vr_mem.proofs.bytes.MemBytes.set.Goals as goal
 
-pub returns-then-self-clause-bytes : goal.returns-then-self-clause-bytes
-returns-then-self-clause-bytes c = noted_zeros _ c.args.bytes.now c.if-self.true (sym c.is_zeros-self.ensures ∙ c.if-self.true) c.requires
+pub returns-then-self : goal.returns-then-self
+returns-then-self c = noted_zeros _ c.args.bytes.now c.if-self.true (sym c.is_zeros-self.ensures ∙ c.if-self.true) c.requires
