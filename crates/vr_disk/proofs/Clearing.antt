@@ -1,8 +1,8 @@
 -- Bytes that are zeros from a place on.
-use Rattle.std.proofs.Common.{ℕ, ◌≡◌, ◌≤◌, ◌+◌, ◌-◌, arith, refl, sym, ap, ◌∙◌, List, [], ◌++◌, length, take, drop, length-append, length-drop, max}
+use Rattle.std.proofs.Common.{ℕ, ◌≡◌, ◌≤◌, ◌+◌, ◌-◌, arith, refl, sym, ap, ◌∙◌, List, [], ◌++◌, length, take, drop, length-append, length-drop}
 use Rattle.std.specs.Prelude.{replicate}
-use Rattle.std.proofs.lemmas.List.{drop-drop, drop-replicate, drop_all, drop_at, length-replicate, replicate-append-replicate, length-take-le, take-append-drop}
-use Rattle.vr_disk.specs.Buffers.{IsUsed, with_bytes}
+use Rattle.std.proofs.lemmas.List.{drop-drop, drop-replicate, drop_all, drop_at, length-replicate, replicate-append-replicate}
+use Rattle.vr_disk.specs.Buffers.{IsUsed}
 
 -- from a later place on too
 later : (size u m : ℕ) (b : List ℕ) → u ≤ m → drop u b ≡ replicate (size - u) 0 → drop m b ≡ replicate (size - m) 0
@@ -36,27 +36,3 @@ used_front b new l e =
     let z : length zs ≡ 4096 - length b = length-replicate {A = ℕ} (4096 - length b) 0 in
     let size : length (b ++ zs) ≡ 4096 = omega (arith, a, z, l) in
     record { size = ap length e ∙ size; most = l; rest = ap (drop (length b)) e ∙ drop_at b zs (length b) refl }
-
--- bytes that were put into its midst
-pub put_there : (at : ℕ) (old new bytes : List ℕ) → take (at + length bytes) new ≡ take at old ++ bytes → drop (at + length bytes) new ≡ drop (at + length bytes) old → new ≡ with_bytes old at bytes
-put_there at old new bytes t d =
-    let end = at + length bytes in
-    sym (take-append-drop end new) ∙ (ap (λ x. x ++ drop end new) t ∙ ap (λ x. (take at old ++ bytes) ++ x) d)
-
-pub used_put : (u m at : ℕ) (old bytes new : List ℕ) → IsUsed u old → at + length bytes ≤ 4096 → m ≡ max u (at + length bytes) → new ≡ with_bytes old at bytes → IsUsed m new
-used_put u m at old bytes new w l e p =
-    let most = w.most in
-    let size = w.size in
-    let end = at + length bytes in
-    let top : m ≤ 4096 = omega (arith, e, l, most) in
-    let within : end ≤ m = omega (arith, e) in
-    let past : u ≤ m = omega (arith, e) in
-    let front = length-append (take at old) bytes in
-    let before : length (take at old) ≡ at = length-take-le at old (omega (arith, l, size)) in
-    let long : length (take at old ++ bytes) ≡ end = front ∙ ap (λ n. n + length bytes) before in
-    let rest = length-drop end old in
-    let all = length-append (take at old ++ bytes) (drop end old) in
-    let whole : length (with_bytes old at bytes) ≡ 4096 = omega (arith, all, long, rest, size, l) in
-    let behind : drop end new ≡ drop end old = ap (drop end) p ∙ drop_at (take at old ++ bytes) (drop end old) end long in
-    let same : drop m new ≡ drop m old = sym (drop-drop (m - end) end new ∙ ap (λ k. drop k new) (omega (arith, within))) ∙ (ap (drop (m - end)) behind ∙ (drop-drop (m - end) end old ∙ ap (λ k. drop k old) (omega (arith, within)))) in
-    record { size = ap length p ∙ whole; most = top; rest = same ∙ later 4096 u m old past w.rest }

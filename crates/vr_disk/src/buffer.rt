@@ -1,10 +1,10 @@
 //! Room for a block or a prepare.
-ghost use Rattle.std.specs.Prelude.{◌≡◌, ◌+◌, ◌-◌, ◌≤◌, ◌++◌, ℕ, List, drop, length, replicate, IfOk};
-ghost use Rattle.vr_disk.specs.Buffers.{IsUsed, with_bytes};
+ghost use Rattle.std.specs.Prelude.{◌≡◌, ◌-◌, ◌≤◌, ◌++◌, ℕ, List, drop, length, replicate, IfOk};
+ghost use Rattle.vr_disk.specs.Buffers.{IsUsed};
 
 use std::alloc::Global;
 use std::marker::Model;
-use vr_base::{NoMemory, put};
+use vr_base::NoMemory;
 
 /// 4,096 bytes.
 #[derive(Drop)]
@@ -57,15 +57,6 @@ impl Buffer {
     {
         fill_front(self.bytes.as_mut_slice(), self.used, bytes);
         self.used = bytes.len();
-    }
-
-    /// Puts these bytes in the place of as many.
-    pub fn put(&mut self, at: usize, bytes: &[u8])
-        requires { at + length bytes.now ≤ 4096 }
-        ensures { self.new ≡ with_bytes self.old at bytes.now }
-    {
-        put(self.bytes.as_mut_slice(), at, bytes);
-        self.used = self.used.max(at + bytes.len());
     }
 }
 
