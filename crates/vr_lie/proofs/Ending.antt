@@ -16,7 +16,8 @@ use Rattle.vr_disk.proofs.Together.{has_is}
 use Rattle.vr_rings.specs.Held.{entry_of_both, found, header_sector, is_prepare, looked}
 use Rattle.vr_rings.specs.Readings.{Begins}
 use Rattle.vr_rings.specs.Slots.{header_reading, in_front, prepare_reading, size_at, whole_in, whole_of}
-use Rattle.vr_rings.proofs.Short.{first_none, rest_other, rest_zeros, zeros_has}
+use Rattle.vr_rings.proofs.Short.{first_none, rest_other, rest_zeros}
+use Rattle.vr_mem.proofs.Zeros.{zeros_has}
 use Rattle.vr_lie.specs.Table.{IsOwnHeader, ends_first}
 use Rattle.vr_lie.proofs.Early.{both_parts, both_true, free_found, same_bool, whole_looked}
 
@@ -110,12 +111,6 @@ found_same h b true e = has_is b h e
 found_same h b false e = refl
 
 -- ---- sectors of zeros
-
-pub zero_has : (f : Face) (i : ℕ) (b : List ℕ) (r : Bool) → length b ≡ 512 → Some b ≡ reads f i → r ≡ is_zeros b → r ≡ has (replicate 512 0) (reads f i)
-zero_has f i b r n e k = k ∙ (zeros_has b n ∙ ap (has (replicate 512 0)) e)
-
-pub zero_none : (f : Face) (i : ℕ) → None ≡ reads f i → false ≡ has (replicate 512 0) (reads f i)
-zero_none f i e = ap (has (replicate 512 0)) e
 
 pub same_ends : (ver : ℕ) (f : Face) (slot at count : ℕ) (r : Bool) → at ≡ prepare_place ver slot → count ≡ prepare_sectors ver → r ≡ has (replicate (512 * (count - 1)) 0) (together (at + 1) (count - 1) f) → r ≡ ends_first ver f slot
 unfolding ends_first

@@ -1,14 +1,13 @@
 -- A prepare that ends in its first sector.
 use Rattle.std.proofs.Common.{ℕ, suc, Bool, ◌*◌, ◌+◌, ◌-◌, ◌<◌, ◌≤◌, ◌≡◌, arith, refl, sym, ap, ◌∙◌, true, false, cond, ◌&&◌, ◌==◌, List, ◌++◌, length, take, drop, Option, Some, None, append_assoc, length-drop}
-use Rattle.std.specs.Prelude.{IfSome, nat_eq, replicate}
+use Rattle.std.specs.Prelude.{IfSome, replicate}
 use Rattle.std.specs.Option.{option_and_then, option_map, option_map_or}
 use Rattle.std.specs.Int.{from_be_bytes, w32}
-use Rattle.std.specs.Cmp.Lexicographic.{pointwise}
 use Rattle.std.proofs.lemmas.List.{drop-append-le, replicate-append-replicate, take-append-le}
 use Rattle.std.proofs.lemmas.List.Folds.{list_all-append}
 use Rattle.std.proofs.lemmas.Slice.Eq.{bytes_eq-Decides}
 use Rattle.vr_base.specs.Bytes.{is_zeros, number}
-use Rattle.vr_base.proofs.ZeroLaws.{are_zeros, zeros_are}
+use Rattle.vr_base.proofs.ZeroLaws.{are_zeros}
 use Rattle.vr_disk.specs.DiskState.{Disk, Face, IsFace, reads}
 use Rattle.vr_disk.specs.Regions.{prepare_place, prepare_sectors}
 use Rattle.vr_disk.specs.Sectors.{behind, has, together}
@@ -18,19 +17,6 @@ use Rattle.vr_disk.proofs.Together.{has_is, together_cons, together_size}
 use Rattle.vr_header.specs.Made.{entry_of}
 use Rattle.vr_rings.specs.Readings.{Begins, IsNothing}
 use Rattle.vr_rings.specs.Slots.{in_front, padded, prepare_reading, size_at, whole_in, whole_of}
-
--- ---- sectors of zeros
-
-pub zeros_has : (b : List ℕ) → length b ≡ 512 → is_zeros b ≡ pointwise nat_eq b (replicate 512 0)
-zeros_has b n =
-    elim (is_zeros b) as (λ t. is_zeros b ≡ t → t ≡ pointwise nat_eq b (replicate 512 0)) [
-      | true ↦ λ e. sym ((bytes_eq-Decides b (replicate 512 0)).1 (are_zeros b e ∙ ap (λ n. replicate n 0) n))
-      | false ↦ λ e.
-          elim (pointwise nat_eq b (replicate 512 0)) as (λ t. pointwise nat_eq b (replicate 512 0) ≡ t → false ≡ t) [
-            | true ↦ λ t. sym e ∙ (ap is_zeros ((bytes_eq-Decides b (replicate 512 0)).0 t) ∙ zeros_are 512)
-            | false ↦ λ t. refl
-          ] refl
-    ] refl
 
 -- ---- the first sector, and those behind it
 
