@@ -1,12 +1,15 @@
 //! Messages as they are kept.
-ghost use Rattle.std.specs.Prelude.{◌≡◌, IfOk, Some};
+ghost use Rattle.std.specs.Prelude.{◌≡◌, IfOk, IfSome, Some, true};
 ghost use Rattle.vr_header.specs.Made.{entry_of};
 ghost use Rattle.vr_msg.specs.declared.event.Event.TheVariants as event;
 ghost use Rattle.vr_msg.specs.declared.frame.Frame.TheVariants as frame;
 ghost use Rattle.vr_msg.specs.Forms.{IsFrame, IsPrepare, IsPrepareOk};
 ghost use Rattle.vr_group.specs.Letters.{IsKept, delivered_as, frame_in};
 
+use crate::Letter;
+use crate::same::says_same;
 use std::alloc::{AllocError, Global};
+use std::rc::Rc;
 use vr_base::{ByteList, Sum, Version};
 use vr_header::Entry;
 use vr_msg::{
@@ -37,8 +40,8 @@ pub enum Kept {
     StartViewChange(StartViewChange),
     GetView(GetView),
     GetSync(GetSync),
-    /// Any other, as the event of its delivery.
-    Other(Box<Event>),
+    /// Any other, as the event of its delivery. Letters that say the same may share one.
+    Other(Rc<Event>),
 }
 
 /// The delivery of a message that is kept.
@@ -102,13 +105,68 @@ fn keep_prepare_ok(ok: PrepareOk) -> Kept
     }
 }
 
+// How many of the last letters are looked at for one that says the same: what is told to each of the others, and what a member
+// tells again since it wasn't heard.
+const LOOKED_AT: usize = 64;
+
+// Whether an event is the delivery of this.
+fn delivers(told: &Event, frame: &Frame) -> bool
+    ensures { result ≡ true → told.now ≡ event.Deliver frame.now }
+{
+    match told {
+        Event::Deliver(message) => says_same(message.frame(), frame),
+        _ => false,
+    }
+}
+
+// The event of a letter's delivery, shared with it, where it is kept as such and delivers this.
+fn share(letter: &Letter, frame: &Frame) -> Result<Option<Rc<Event>>, AllocError>
+    ensures { IfOk result (λ found. IfSome found (λ kept. kept.value ≡ event.Deliver frame.now)) }
+{
+    match letter.kept() {
+        Kept::Other(kept) if delivers(kept, frame) => Ok(Some(kept.clone()?)),
+        _ => Ok(None),
+    }
+}
+
+// The same of one of the last letters.
+fn share_last(letters: &[Letter], frame: &Frame) -> Result<Option<Rc<Event>>, AllocError>
+    ensures { IfOk result (λ found. IfSome found (λ kept. kept.value ≡ event.Deliver frame.now)) }
+{
+    for letter in letters.iter().rev().take(LOOKED_AT) {
+        if let Some(kept) = share(letter, frame)? {
+            return Ok(Some(kept));
+        }
+    }
+    Ok(None)
+}
+
+// A statement or the log of a view: they are long, and told to many, or again.
+fn keep_long(alloc: Global, letters: &[Letter], frame: Frame) -> Result<Kept, AllocError>
+    requires { IsFrame frame }
+    ensures frame { IfOk result (λ k. frame_in k ≡ frame) }
+    ensures kept { IfOk result IsKept }
+{
+    match share_last(letters, &frame) {
+        Ok(Some(kept)) => {
+            drop(frame);
+            Ok(Kept::Other(kept))
+        }
+        Ok(None) => keep_other(alloc, frame),
+        Err(wanted) => {
+            drop(frame);
+            Err(wanted)
+        }
+    }
+}
+
 fn keep_other(alloc: Global, frame: Frame) -> Result<Kept, AllocError>
     requires { IsFrame frame }
     ensures frame { IfOk result (λ k. frame_in k ≡ frame) }
     ensures kept { IfOk result IsKept }
 {
     let event = Event::Deliver(Message::new(frame));
-    Ok(Kept::Other(Box::new(alloc, event)?))
+    Ok(Kept::Other(Rc::new(alloc, event)?))
 }
 
 fn made<'a>(frame: Frame) -> Delivery<'a>
@@ -119,8 +177,8 @@ fn made<'a>(frame: Frame) -> Delivery<'a>
 }
 
 impl Kept {
-    /// A message, as it is kept.
-    pub fn of(alloc: Global, message: Message) -> Result<Kept, AllocError>
+    /// A message, as it is kept behind these letters.
+    pub fn of(alloc: Global, letters: &[Letter], message: Message) -> Result<Kept, AllocError>
         ensures frame { IfOk result (λ k. frame_in k ≡ message) }
         ensures kept { IfOk result IsKept }
     {
@@ -135,6 +193,8 @@ impl Kept {
             Frame::StartViewChange(start) => Ok(Kept::StartViewChange(start)),
             Frame::GetView(get) => Ok(Kept::GetView(get)),
             Frame::GetSync(get) => Ok(Kept::GetSync(get)),
+            Frame::DoViewChange(told) => keep_long(alloc, letters, Frame::DoViewChange(told)),
+            Frame::StartView(told) => keep_long(alloc, letters, Frame::StartView(told)),
             other => keep_other(alloc, other),
         }
     }

@@ -1,7 +1,7 @@
 //! Messages that were sent.
 ghost use Rattle.std.specs.Prelude.{◌≡◌, IfOk};
 ghost use Rattle.vr_msg.specs.declared.event.Event.TheVariants as event;
-ghost use Rattle.vr_group.specs.Letters.{delivered_as};
+ghost use Rattle.vr_group.specs.Letters.{delivered_as, frame_in};
 
 use crate::{Delivery, Kept};
 use std::alloc::{AllocError, Global};
@@ -28,14 +28,20 @@ impl Model for Letter {
 }
 
 impl Letter {
-    /// A message on its way from one member to another.
-    pub fn new(alloc: Global, from: u8, to: u8, message: Message) -> Result<Letter, AllocError>
+    /// A message on its way from one member to another, sent after these letters.
+    pub fn new(
+        alloc: Global,
+        letters: &[Letter],
+        from: u8,
+        to: u8,
+        message: Message,
+    ) -> Result<Letter, AllocError>
         ensures { IfOk result (λ l. l ≡ record { from = from; to = to; message = message }) }
     {
         Ok(Letter {
             from,
             to,
-            kept: Kept::of(alloc, message)?,
+            kept: Kept::of(alloc, letters, message)?,
         })
     }
 
@@ -44,6 +50,13 @@ impl Letter {
         ensures { result ≡ self.now.to }
     {
         self.to
+    }
+
+    /// Its message, as it is kept.
+    pub fn kept(&self) -> &Kept
+        ensures { frame_in result.now ≡ self.now.message }
+    {
+        &self.kept
     }
 
     /// Its delivery.

@@ -8,6 +8,7 @@ mod kept;
 mod letter;
 mod members;
 mod outputs;
+mod same;
 mod views;
 mod world;
 

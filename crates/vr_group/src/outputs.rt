@@ -51,7 +51,14 @@ fn keep_message(
     ensures sent { OnOk result (sent.new ≡ sent.old ++ message ∷ []) }
     ensures put { IfOk result (λ p. p ≡ Message number) }
 {
-    sent.push(Letter::new(alloc, message.from, message.to, message.message)?)?;
+    let letter = Letter::new(
+        alloc,
+        sent.as_slice(),
+        message.from,
+        message.to,
+        message.message,
+    )?;
+    sent.push(letter)?;
     Ok(Put::Message(number))
 }
 

@@ -1,5 +1,5 @@
 //! A group of members, and every message that they have sent.
-ghost use Rattle.std.specs.Prelude.{ℕ, ◌≡◌, ◌<◌, ◌^◌, ◌++◌, true, false, IfOk, OnOk, OnErr, length};
+ghost use Rattle.std.specs.Prelude.{ℕ, ◌≡◌, ◌<◌, ◌^◌, true, false, IfOk, OnOk, OnErr, length};
 ghost use Rattle.vr_base.specs.Groups.{is_size};
 ghost use Rattle.vr_base.specs.declared.kind.Kind.{Kind};
 ghost use Rattle.vr_lines.specs.Fits.{IsLineOf};

@@ -1,5 +1,5 @@
 //! A replay between two pieces of its source.
-ghost use Rattle.std.specs.Prelude.{◌≡◌, ◌≤◌, ◌<◌, ◌++◌, [], None, Some, true, IfOk, OnOk, OnErr, IfErr, length, drop};
+ghost use Rattle.std.specs.Prelude.{◌≡◌, ◌≤◌, ◌<◌, ◌++◌, [], None, Some, true, IfOk, OnOk, OnErr, IfErr, drop};
 ghost use Rattle.std.specs.Io.KnownBytes.{Appends};
 ghost use Rattle.vr_lines.specs.Fits.{IsLineOf};
 ghost use Rattle.vr_replay.specs.Playing.{Played, comes, scene_of};
