@@ -39,6 +39,15 @@ impl Outputs {
             text: ByteList::from_vec(Vec::with_capacity(alloc, TEXT_ROOM)?),
         })
     }
+
+    /// Lets all go; the memory stays.
+    #[tactic(auto, using(std::proofs::lemmas::Grind::common_steps, crate::proofs::Numbering::text_none))]
+    pub fn clear(&mut self)
+        ensures { self.new ≡ outputs_of [] }
+    {
+        self.puts.clear();
+        self.text.clear();
+    }
 }
 
 // Keeps a message, which is put out by its number.

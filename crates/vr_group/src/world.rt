@@ -1,5 +1,5 @@
 //! A group of members, and every message that they have sent.
-ghost use Rattle.std.specs.Prelude.{ℕ, ◌≡◌, ◌<◌, ◌^◌, true, false, IfOk, OnOk, OnErr, length};
+ghost use Rattle.std.specs.Prelude.{ℕ, ◌≡◌, ◌<◌, ◌^◌, [], true, false, IfOk, OnOk, OnErr, length};
 ghost use Rattle.vr_base.specs.Groups.{is_size};
 ghost use Rattle.vr_base.specs.declared.kind.Kind.{Kind};
 ghost use Rattle.vr_lines.specs.Fits.{IsLineOf};
@@ -14,7 +14,7 @@ ghost use Rattle.vr_group.specs.Views.{top_view};
 use crate::Outputs;
 use crate::members::Members;
 use crate::views::top_view;
-use std::alloc::Global;
+use std::alloc::{AllocError, Global};
 use std::marker::Model;
 use vr_base::{Kind, NoMemory, Seq, Version};
 use vr_lines::Line;
@@ -26,6 +26,8 @@ pub struct World {
     members: Members,
     version: Version,
     live: bool,
+    // Outputs that nobody needs any more: the next ones are written into their memory.
+    spare: Option<Outputs>,
 }
 
 impl Model for World {
@@ -34,6 +36,19 @@ impl Model for World {
     ghost Value = { Group };
 
     ghost view = { λ w. record { world = world_of w.members; version = w.version; live = w.live } };
+}
+
+// No outputs, in memory of others that were given back.
+fn no_outputs(alloc: Global, spare: Option<Outputs>) -> Result<Outputs, AllocError>
+    ensures { IfOk result (λ outputs. outputs ≡ outputs_of []) }
+{
+    match spare {
+        Some(mut outputs) => {
+            outputs.clear();
+            Ok(outputs)
+        }
+        None => Outputs::new(alloc),
+    }
 }
 
 // What happens at lines, one after the other.
@@ -70,6 +85,7 @@ impl World {
             },
             version: Version::new(1),
             live: true,
+            spare: None,
         }
     }
 
@@ -84,6 +100,7 @@ impl World {
             members: Members::begin(alloc, n, &kind)?,
             version: kind.version,
             live: true,
+            spare: None,
         })
     }
 
@@ -136,13 +153,20 @@ impl World {
         ensures stopped { OnErr result (self.new.live ≡ false) }
     {
         self.live = false;
-        let mut outputs = Outputs::new(alloc)?;
+        let mut outputs = no_outputs(alloc, self.spare.take())?;
         self.members.happen(alloc, line, &mut outputs)?;
         if let Line::Cluster { kind, .. } = line {
             self.version = kind.version;
         }
         self.live = true;
         Ok(outputs)
+    }
+
+    /// Takes outputs that nobody needs any more: those of the next line are written into their memory.
+    pub fn give_back(&mut self, outputs: Outputs)
+        ensures { self.new ≡ self.old }
+    {
+        drop(self.spare.replace(outputs));
     }
 
     /// What happens at lines of a group, one after the other. An `Err` stops the group.

@@ -12,7 +12,7 @@ use crate::Stop;
 use std::alloc::Global;
 use vr_base::{ByteList, NoMemory, Version};
 use vr_edge::{Sink, write_whole};
-use vr_group::{Outputs, World};
+use vr_group::World;
 use vr_lines::{Line, LineFault, Lines, Next, parse_line};
 
 /// The most lines of a schedule.
@@ -42,8 +42,9 @@ fn play(alloc: Global, group: &mut World, line: &Line, to: &mut ByteList) -> Res
         *group = World::new(alloc, *n, *kind)?;
         return Ok(());
     }
-    let Outputs { text, .. } = group.step(alloc, line)?;
-    to.extend(text.as_slice())?;
+    let outputs = group.step(alloc, line)?;
+    to.extend(outputs.text.as_slice())?;
+    group.give_back(outputs);
     Ok(())
 }
 

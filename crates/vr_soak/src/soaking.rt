@@ -55,6 +55,7 @@ impl Soaking {
             .line(alloc, n, messages, &self.heard.requests)?;
         let outputs = self.group.step(alloc, &line)?;
         self.heard.hear(&outputs)?;
+        self.group.give_back(outputs);
         Ok(())
     }
 
