@@ -4,4 +4,5 @@ pub mod Noted
 pub mod Places
 pub mod Room
 pub mod Settling
+pub mod Shelves
 pub mod Zeros

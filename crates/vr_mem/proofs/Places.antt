@@ -1,88 +1,119 @@
--- What each sector holds, by the place of its room.
+-- The room of each sector, by its place.
 use Rattle.std.proofs.Common.{ℕ, zero, suc, ◌+◌, ◌*◌, ◌≡◌, ◌<◌, ◌≤◌, inl, inr, refl, sym, ap, ◌∙◌, arith, cond, eqb, List, [], ◌∷◌, ◌++◌, length, length-set, get_or, get_or-set_other, get_or-set_same, set}
 use Rattle.std.specs.List.{count_by}
 use Rattle.std.specs.Prelude.{map, replicate, take}
 use Rattle.std.specs.Vec.{vec_capacity}
 use Rattle.std.proofs.lemmas.Bool.{cases_eq, ne_eqb}
-use Rattle.std.proofs.lemmas.List.{get_or_default, get_or-map, get_or_append_left, get_or_push, length-map, length-replicate, length_push, map-append, map-set, set-get_or}
+use Rattle.std.proofs.lemmas.List.{get_or_default, get_or-map, get_or_append_left, get_or_push, length-map, length-replicate, length_push, map-set, set-get_or}
 use Rattle.std.proofs.lemmas.List.Folds.{sum_by-replicate}
 use Rattle.std.proofs.lemmas.List.Sums.{sum_by-set}
-use Rattle.vr_disk.specs.DiskState.{Cell, Face, blank}
+use Rattle.vr_disk.specs.DiskState.{Face, blank, written}
 use Rattle.vr_disk.specs.Regions.{sectors}
 use Rattle.vr_mem.specs.declared.cells.MemRoom.{MemRoom}
 use Rattle.vr_mem.specs.declared.cells.MemRooms.{MemRooms}
 use Rattle.vr_mem.specs.declared.cells.MemWaiting.{MemWaiting}
-use Rattle.vr_mem.specs.Seen.{AreRooms, copies, room_of, seen, seen_by, waiting_of, zero_cell}
+use Rattle.vr_mem.specs.Seen.{AreRooms, blank_room, bytes_of, copies, room_at, room_of, rooms_by, rooms_of, seen, waiting_of, zero_cell}
 
 pub length_copies : {X : Type 0} → (n : ℕ) (x : X) → length (copies n x) ≡ n
 unfolding copies
 length_copies n x = length-replicate n x
 
--- what stands in a room, blank past the last one
-abbrev held : List MemRoom → ℕ → Cell
-held rooms p = get_or (map room_of rooms) p blank
+-- the room at a place, of zeros past the last one
+abbrev held : List MemRoom → ℕ → MemRoom
+held rooms p = get_or rooms p blank_room
 
-length_by : (ps : List ℕ) (rooms : List MemRoom) → length (seen_by ps rooms) ≡ length ps
-unfolding seen_by
+length_by : (ps : List ℕ) (rooms : List MemRoom) → length (rooms_by ps rooms) ≡ length ps
+unfolding rooms_by
 length_by ps rooms = length-map ps (held rooms)
 
-pub length_seen : (m : MemRooms) → AreRooms m → length (seen m) ≡ sectors
-length_seen m h = length_by m.places.items m.rooms.items ∙ h.count
+pub length_rooms : (m : MemRooms) → AreRooms m → length (rooms_of m) ≡ sectors
+length_rooms m h = length_by m.places.items m.rooms.items ∙ h.count
 
-by_place : (ps : List ℕ) (rooms : List MemRoom) (i : ℕ) → i < length ps → get_or (seen_by ps rooms) i blank ≡ held rooms (get_or ps i 0)
-unfolding seen_by
-by_place ps rooms i l = get_or-map (held rooms) ps i 0 blank l
+pub length_seen : (m : MemRooms) → AreRooms m → length (seen m) ≡ sectors
+length_seen m h = length-map (rooms_of m) room_of ∙ length_rooms m h
+
+by_place : (ps : List ℕ) (rooms : List MemRoom) (i : ℕ) → i < length ps → get_or (rooms_by ps rooms) i blank_room ≡ held rooms (get_or ps i 0)
+unfolding rooms_by
+by_place ps rooms i l = get_or-map (held rooms) ps i 0 blank_room l
 
 -- the place of a sector, as it is read
 pub place_is : (m : MemRooms) (i k : ℕ) → AreRooms m → i < sectors → k ≡ get_or m.places.items i k → get_or m.places.items i 0 ≡ k
 place_is m i k h l a = get_or_default m.places.items i 0 k (let n = h.count in omega (arith, n, l)) ∙ sym a
 
--- a sector, by its room
-pub seen_here : (m : MemRooms) (i k : ℕ) (x : MemRoom) → AreRooms m → i < sectors → get_or m.places.items i 0 ≡ k → x ≡ get_or m.rooms.items k x → get_or (seen m) i blank ≡ room_of x
-seen_here m i k x h l e b =
+-- the room of a sector
+pub room_here : (m : MemRooms) (i k : ℕ) (x : MemRoom) → AreRooms m → i < sectors → get_or m.places.items i 0 ≡ k → x ≡ get_or m.rooms.items k x → room_at m i ≡ x
+room_here m i k x h l e b =
     let n = h.count in
     let w = h.within i in
     by_place m.places.items m.rooms.items i (omega (arith, n, l))
-    ∙ (ap (held m.rooms.items) e ∙ (get_or-map room_of m.rooms.items k x blank (omega (arith, e, w)) ∙ ap room_of (sym b)))
+    ∙ (ap (held m.rooms.items) e ∙ (get_or_default m.rooms.items k blank_room x (omega (arith, e, w)) ∙ sym b))
 
--- a sector that has no room
-pub seen_none : (m : MemRooms) (i : ℕ) → AreRooms m → i < sectors → get_or m.places.items i 0 ≡ 0 → get_or (seen m) i blank ≡ zero_cell
-seen_none m i h l e = let n = h.count in by_place m.places.items m.rooms.items i (omega (arith, n, l)) ∙ (ap (held m.rooms.items) e ∙ h.first)
+-- a sector, by its room
+pub seen_here : (xs : List MemRoom) (i : ℕ) → i < length xs → get_or (map room_of xs) i blank ≡ room_of (get_or xs i blank_room)
+seen_here xs i l = get_or-map room_of xs i blank_room blank l
+
+pub cell_here : (m : MemRooms) (i : ℕ) (x : MemRoom) → AreRooms m → i < sectors → room_at m i ≡ x → get_or (seen m) i blank ≡ room_of x
+cell_here m i x h l e = seen_here (rooms_of m) i (let n = length_rooms m h in omega (arith, n, l)) ∙ ap room_of e
+
+pub written_cells : (xs ys : List MemRoom) (i : ℕ) (x : MemRoom) (bytes : List ℕ) → i < length xs → ys ≡ set xs i x → room_of x ≡ written (room_of (get_or xs i blank_room)) bytes → map room_of ys ≡ set (map room_of xs) i (written (get_or (map room_of xs) i blank) bytes)
+written_cells xs ys i x bytes l e w = ap (map room_of) e ∙ (map-set room_of xs i x ∙ ap (set (map room_of xs) i) (w ∙ ap (λ c. written c bytes) (sym (seen_here xs i l))))
+
+-- a sector that has no room of its own
+pub room_none : (m : MemRooms) (i : ℕ) → AreRooms m → i < sectors → get_or m.places.items i 0 ≡ 0 → room_at m i ≡ blank_room
+room_none m i h l e = let n = h.count in by_place m.places.items m.rooms.items i (omega (arith, n, l)) ∙ (ap (held m.rooms.items) e ∙ h.first)
+
+pub blank_cell : room_of blank_room ≡ zero_cell
+unfolding room_of blank_room bytes_of zero_cell
+blank_cell = refl
 
 -- ---- a room that changes
 
-map_alike : (f g : ℕ → Cell) (ps : List ℕ) → ((j : ℕ) → j < length ps → g (get_or ps j 0) ≡ f (get_or ps j 0)) → map g ps ≡ map f ps
+map_alike : (f g : ℕ → MemRoom) (ps : List ℕ) → ((j : ℕ) → j < length ps → g (get_or ps j 0) ≡ f (get_or ps j 0)) → map g ps ≡ map f ps
 map_alike f g [] h = refl
 map_alike f g (p ∷ ps) h = ap (λ c. c ∷ map g ps) (h 0 (omega arith)) ∙ ap (λ cs. f p ∷ cs) (map_alike f g ps (λ j l. h (suc j) (omega arith)))
 
-map_but : (f g : ℕ → Cell) (ps : List ℕ) (i : ℕ) (y : Cell) → i < length ps → g (get_or ps i 0) ≡ y → ((j : ℕ) → j < length ps → (j ≡ i → ⊥) → g (get_or ps j 0) ≡ f (get_or ps j 0)) → map g ps ≡ set (map f ps) i y
+map_but : (f g : ℕ → MemRoom) (ps : List ℕ) (i : ℕ) (y : MemRoom) → i < length ps → g (get_or ps i 0) ≡ y → ((j : ℕ) → j < length ps → (j ≡ i → ⊥) → g (get_or ps j 0) ≡ f (get_or ps j 0)) → map g ps ≡ set (map f ps) i y
 map_but f g [] i y l e h = absurd (omega arith)
 map_but f g (p ∷ ps) zero y l e h = ap (λ c. c ∷ map g ps) e ∙ ap (λ cs. y ∷ cs) (map_alike f g ps (λ j b. h (suc j) (omega arith) (λ z. omega arith)))
 map_but f g (p ∷ ps) (suc i) y l e h =
     ap (λ c. c ∷ map g ps) (h 0 (omega arith) (λ z. omega arith))
     ∙ ap (λ cs. f p ∷ cs) (map_but f g ps i y (omega arith) e (λ j b d. h (suc j) (omega arith) (λ z. d (omega arith))))
 
-held_set : (rooms : List MemRoom) (k : ℕ) (x : MemRoom) → k < length rooms → held (set rooms k x) k ≡ room_of x
-held_set rooms k x l = ap (λ cs. get_or cs k blank) (map-set room_of rooms k x) ∙ get_or-set_same (map room_of rooms) k (room_of x) blank (let n = length-map rooms room_of in omega arith)
-
 held_other : (rooms : List MemRoom) (k p : ℕ) (x : MemRoom) → (p ≡ k → ⊥) → held (set rooms k x) p ≡ held rooms p
-held_other rooms k p x d = ap (λ cs. get_or cs p blank) (map-set room_of rooms k x) ∙ get_or-set_other (map room_of rooms) k p (room_of x) blank d
+held_other rooms k p x d = get_or-set_other rooms k p x blank_room d
 
-pub seen_set : (m : MemRooms) (i k : ℕ) (x : MemRoom) → AreRooms m → i < sectors → 0 < k → get_or m.places.items i 0 ≡ k → seen_by m.places.items (set m.rooms.items k x) ≡ set (seen m) i (room_of x)
-unfolding seen_by
-seen_set m i k x h l o e =
+rooms_but : (m : MemRooms) (i k : ℕ) (x : MemRoom) → AreRooms m → i < sectors → 0 < k → get_or m.places.items i 0 ≡ k → rooms_by m.places.items (set m.rooms.items k x) ≡ set (rooms_of m) i x
+unfolding rooms_by
+rooms_but m i k x h l o e =
     let ps = m.places.items in
     let n = h.count in
     let w = h.within i in
-    map_but (held m.rooms.items) (held (set m.rooms.items k x)) ps i (room_of x) (omega (arith, n, l))
-    (ap (held (set m.rooms.items k x)) e ∙ held_set m.rooms.items k x (omega (arith, e, w)))
+    map_but (held m.rooms.items) (held (set m.rooms.items k x)) ps i x (omega (arith, n, l))
+    (ap (held (set m.rooms.items k x)) e ∙ get_or-set_same m.rooms.items k x blank_room (omega (arith, e, w)))
     (λ j b d. held_other m.rooms.items k (get_or ps j 0) x (λ s. d (sym (h.own i j (omega (arith, e, o)) (e ∙ sym s)))))
 
-pub cells_changed : (f : Cell → Cell) (old mid : MemRooms) (i k : ℕ) (was x : MemRoom) → AreRooms mid → seen mid ≡ seen old → i < sectors → 0 < k → get_or mid.places.items i 0 ≡ k → was ≡ get_or mid.rooms.items k was → room_of x ≡ f (room_of was)
-    → seen_by mid.places.items (set mid.rooms.items k x) ≡ set (seen old) i (f (get_or (seen old) i blank))
-cells_changed f old mid i k was x h s l o e b w =
-    let now : get_or (seen old) i blank ≡ room_of was = ap (λ xs. get_or xs i blank) (sym s) ∙ seen_here mid i k was h l e b in
-    seen_set mid i k x h l o e ∙ (ap (λ xs. set xs i (room_of x)) s ∙ ap (set (seen old) i) (w ∙ ap f (sym now)))
+-- one sector's room becomes another, and those of the others stay
+pub record Changed (old : MemRooms) (rooms : List MemRoom) (i : ℕ) (was x : MemRoom) : Type 0 where
+  pub others : rooms ≡ set (rooms_of old) i x
+  pub there : room_at old i ≡ was
+  pub here : get_or rooms i blank_room ≡ x
+
+pub room_changed : (old mid : MemRooms) (i k : ℕ) (was x : MemRoom) → AreRooms mid → rooms_of mid ≡ rooms_of old → i < sectors → 0 < k → get_or mid.places.items i 0 ≡ k → was ≡ get_or mid.rooms.items k was
+    → Changed old (rooms_by mid.places.items (set mid.rooms.items k x)) i was x
+room_changed old mid i k was x h s l o e b =
+    let n = length_rooms mid h in
+    let but = rooms_but mid i k x h l o e in
+    record {
+      others = but ∙ ap (λ xs. set xs i x) s;
+      there = ap (λ xs. get_or xs i blank_room) (sym s) ∙ room_here mid i k was h l e b;
+      here = ap (λ xs. get_or xs i blank_room) but ∙ get_or-set_same (rooms_of mid) i x blank_room (omega (arith, n, l));
+    }
+
+pub made_of : (f : MemRoom → MemRoom) (old : MemRooms) (rooms : List MemRoom) (i : ℕ) (was x : MemRoom) → Changed old rooms i was x → x ≡ f was → rooms ≡ set (rooms_of old) i (f (room_at old i))
+made_of f old rooms i was x c e = c.others ∙ ap (set (rooms_of old) i) (e ∙ ap f (sym c.there))
+
+pub others_stay : (old : MemRooms) (rooms : List MemRoom) (i : ℕ) (was x : MemRoom) → Changed old rooms i was x → rooms ≡ set (rooms_of old) i (get_or rooms i blank_room)
+others_stay old rooms i was x c = c.others ∙ ap (set (rooms_of old) i) (sym c.here)
 
 pub place_within : (m : MemRooms) (i k : ℕ) → AreRooms m → get_or m.places.items i 0 ≡ k → k < length m.rooms.items
 place_within m i k h e = let w = h.within i in omega (arith, e, w)
@@ -102,27 +133,22 @@ rooms_set old new k x h o p r c =
 -- ---- a room more
 
 held_more : (rooms : List MemRoom) (p : ℕ) (x : MemRoom) → p < length rooms → held (rooms ++ x ∷ []) p ≡ held rooms p
-held_more rooms p x l =
-    ap (λ cs. get_or cs p blank) (map-append room_of rooms (x ∷ []))
-    ∙ get_or_append_left (map room_of rooms) (room_of x ∷ []) blank p (let n = length-map rooms room_of in omega arith)
-
-held_last : (rooms : List MemRoom) (x : MemRoom) → held (rooms ++ x ∷ []) (length rooms) ≡ room_of x
-held_last rooms x = ap (λ cs. get_or cs (length rooms) blank) (map-append room_of rooms (x ∷ [])) ∙ get_or_push (map room_of rooms) (room_of x) blank (length rooms) (length-map rooms room_of)
+held_more rooms p x l = get_or_append_left rooms (x ∷ []) blank_room p l
 
 -- a sector with no room gets one that is zeros
-pub seen_more : (m : MemRooms) (i k : ℕ) (x : MemRoom) → AreRooms m → i < sectors → get_or m.places.items i 0 ≡ 0 → room_of x ≡ zero_cell → k ≡ length m.rooms.items → seen_by (set m.places.items i k) (m.rooms.items ++ x ∷ []) ≡ seen m
-unfolding seen_by
-seen_more m i k x h l e z s =
+pub rooms_kept : (m : MemRooms) (i k : ℕ) (x : MemRoom) → AreRooms m → i < sectors → get_or m.places.items i 0 ≡ 0 → x ≡ blank_room → k ≡ length m.rooms.items → rooms_by (set m.places.items i k) (m.rooms.items ++ x ∷ []) ≡ rooms_of m
+unfolding rooms_by
+rooms_kept m i k x h l e z s =
     let ps = m.places.items in
     let rooms = m.rooms.items in
     let f = held rooms in
     let g = held (rooms ++ x ∷ []) in
     let n = h.count in
     let there : i < length ps = omega (arith, n, l) in
-    let last : g k ≡ get_or (map f ps) i blank = ap g s ∙ (held_last rooms x ∙ (z ∙ sym (get_or-map f ps i 0 blank there ∙ (ap f e ∙ h.first)))) in
+    let last : g k ≡ get_or (map f ps) i blank_room = get_or_push rooms x blank_room k (sym s) ∙ (z ∙ sym (get_or-map f ps i 0 blank_room there ∙ (ap f e ∙ h.first))) in
     map-set g ps i k
     ∙ (ap (λ cs. set cs i (g k)) (map_alike f g ps (λ j b. held_more rooms (get_or ps j 0) x (h.within j)))
-    ∙ (ap (set (map f ps) i) last ∙ set-get_or (map f ps) i blank))
+    ∙ (ap (set (map f ps) i) last ∙ set-get_or (map f ps) i blank_room))
 
 abbrev none_here : ℕ → ℕ
 none_here p = cond (eqb p 0) 1 0
@@ -189,9 +215,9 @@ rooms_more old new i k x h l e s p r c =
 
 -- ---- as they are made
 
-map_copies : (f : ℕ → Cell) (n : ℕ) → map f (replicate n 0) ≡ replicate n (f 0)
-map_copies f zero = refl
-map_copies f (suc n) = ap (λ cs. f 0 ∷ cs) (map_copies f n)
+map_copies : {X Y : Type 0} → (f : X → Y) (n : ℕ) (x : X) → map f (replicate n x) ≡ replicate n (f x)
+map_copies f zero x = refl
+map_copies f (suc n) x = ap (λ ys. f x ∷ ys) (map_copies f n x)
 
 count_none : (n : ℕ) → count_by (λ p. eqb p 0) (replicate n 0) ≡ n
 count_none n = sum_by-replicate none_here n 0 ∙ (let e : n * 1 ≡ n = omega arith in e)
@@ -201,11 +227,11 @@ none_at zero i = refl
 none_at (suc n) zero = refl
 none_at (suc n) (suc i) = none_at n i
 
-pub seen_made : (m : MemRooms) (x : MemRoom) → m.places.items ≡ replicate sectors 0 → m.rooms.items ≡ x ∷ [] → room_of x ≡ zero_cell → seen m ≡ copies sectors zero_cell
-unfolding seen_by copies
-seen_made m x p r z = rw (p, r) (map_copies (held (x ∷ [])) sectors ∙ ap (replicate sectors) z)
+pub seen_made : (m : MemRooms) (x : MemRoom) → m.places.items ≡ replicate sectors 0 → m.rooms.items ≡ x ∷ [] → x ≡ blank_room → seen m ≡ copies sectors zero_cell
+unfolding rooms_by copies
+seen_made m x p r z = rw (p, r) (ap (map room_of) (map_copies (held (x ∷ [])) sectors 0) ∙ (map_copies room_of sectors x ∙ ap (replicate sectors) (ap room_of z ∙ blank_cell)))
 
-pub rooms_made : (m : MemRooms) (x : MemRoom) → m.places.items ≡ replicate sectors 0 → m.rooms.items ≡ x ∷ [] → room_of x ≡ zero_cell → sectors + 1 ≤ vec_capacity m.rooms → AreRooms m
+pub rooms_made : (m : MemRooms) (x : MemRoom) → m.places.items ≡ replicate sectors 0 → m.rooms.items ≡ x ∷ [] → x ≡ blank_room → sectors + 1 ≤ vec_capacity m.rooms → AreRooms m
 rooms_made m x p r z c =
     let none = none_at sectors in
     record {
@@ -218,5 +244,5 @@ rooms_made m x p r z c =
     }
 
 pub face_made : (m : MemRooms) (is : List ℕ) (ws : List MemWaiting) → seen m ≡ copies sectors zero_cell → is ≡ []
-    → let face : Face = record { cells = seen m; waiting = waiting_of (seen m) (take (length is) ws) } in face ≡ record { cells = copies sectors zero_cell; waiting = [] }
+    → let face : Face = record { cells = seen m; waiting = waiting_of (rooms_of m) (take (length is) ws) } in face ≡ record { cells = copies sectors zero_cell; waiting = [] }
 face_made m is ws e n = rw (n, e) refl

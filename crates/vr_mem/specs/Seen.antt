@@ -2,7 +2,7 @@
 use Rattle.std.specs.List.{count_by, list_any}
 use Rattle.std.specs.Vec.{vec_capacity}
 use Rattle.std.specs.Prelude.{◌==◌, ◌&&◌, ◌≡◌, ◌≤◌, ◌<◌, ◌+◌, Bool, true, not, if◌then◌else◌, ℕ, List, [], ◌∷◌, length, map, replicate, Option, Some, None, take, slice_index_or}
-use Rattle.vr_disk.specs.DiskState.{Cell, Waiting, Face, IsFace, Fate, Fuse, CallVerdict, Goes, Fails, Cuts, blank}
+use Rattle.vr_disk.specs.DiskState.{Cell, Waiting, Face, IsFace, Fate, Fuse, CallVerdict, Goes, Fails, Cuts, written}
 use Rattle.vr_disk.specs.Regions.{sectors}
 use Rattle.vr_disk.specs.declared.sector.Sector.{Sector}
 use Rattle.vr_mem.specs.declared.bytes.MemBytes.{MemBytes}
@@ -12,6 +12,8 @@ use Rattle.vr_mem.specs.declared.cells.MemReads.TheVariants as r
 use Rattle.vr_mem.specs.declared.cells.MemRoom.{MemRoom}
 use Rattle.vr_mem.specs.declared.cells.MemRooms.{MemRooms}
 use Rattle.vr_mem.specs.declared.cells.MemWaiting.{MemWaiting}
+use Rattle.vr_mem.specs.declared.cells.Shelf.{Shelf}
+use Rattle.vr_mem.specs.declared.cells.Shelf.TheVariants as shelf
 use Rattle.vr_mem.specs.declared.cells.MemFace.{MemFace}
 use Rattle.vr_mem.specs.declared.fate.MemFuse.{MemFuse}
 use Rattle.vr_mem.specs.declared.fate.MemFate.{MemFate}
@@ -45,47 +47,102 @@ reads_by r.Truth truth lie = Some truth
 reads_by r.Lie truth lie = Some lie
 reads_by r.Nothing truth lie = None
 
--- of two places, by turns
-abbrev pub truth_of : MemRoom → List ℕ
-truth_of m = if m.turned then bytes_of m.two else bytes_of m.one
+-- of three shelves
+abbrev pub by_shelf : {X : Type 0} → Shelf → X → X → X → X
+by_shelf shelf.One a b c = a
+by_shelf shelf.Two a b c = b
+by_shelf shelf.Three a b c = c
 
-abbrev pub before_of : MemRoom → List ℕ
-before_of m = if m.turned then bytes_of m.one else bytes_of m.two
+-- one that is neither of these
+abbrev pub free_of : Shelf → Shelf → Shelf
+free_of truth before = by_shelf truth (by_shelf before shelf.Two shelf.Three shelf.Two) (by_shelf before shelf.Three shelf.One shelf.One) (by_shelf before shelf.Two shelf.One shelf.One)
+
+-- what stands on a shelf of a room
+abbrev pub on : MemRoom → Shelf → MemBytes
+on m s = by_shelf s m.one m.two m.three
+
+abbrev pub held_on : MemRoom → Shelf → List ℕ
+held_on m s = bytes_of (on m s)
+
+abbrev pub put_on : MemRoom → Shelf → MemBytes → MemRoom
+put_on m s x = record m { one = by_shelf s x m.one m.one; two = by_shelf s m.two x m.two; three = by_shelf s m.three m.three x }
 
 unfoldable pub room_of : MemRoom → Cell
-room_of m = record { truth = truth_of m; reads = reads_by m.reads (truth_of m) m.lie.bytes; before = before_of m }
+room_of m = record { truth = held_on m m.truth_on; reads = reads_by m.reads (held_on m m.truth_on) m.lie.bytes; before = held_on m m.before_on }
 
--- what a sector that waits should have held before its first write, by what it is now
-abbrev pub truth_then : MemWaiting → Cell → List ℕ
-truth_then w now = if w.again then bytes_of w.truth else now.before
+-- it reads as something else
+abbrev pub shown : MemRoom → List ℕ → MemRoom
+shown m bytes = record m { reads = r.Lie; lie = record { bytes = bytes } }
+
+abbrev pub hidden : MemRoom → MemRoom
+hidden m = record m { reads = r.Nothing }
+
+-- what a room held stays where it stood
+pub record Stays (old new : MemRoom) : Type 0 where
+  pub truth : held_on new old.truth_on ≡ held_on old old.truth_on
+  pub before : held_on new old.before_on ≡ held_on old old.before_on
+
+-- it should hold these bytes, and held before its last write what it did
+pub record Holds (old new : MemRoom) (bytes : List ℕ) : Type 0 where
+  pub truth : held_on new new.truth_on ≡ bytes
+  pub before_on : new.before_on ≡ old.before_on
+  pub stays : Stays old new
+
+-- these bytes are written into it
+pub record IsWritten (old new : MemRoom) (bytes : List ℕ) : Type 0 where
+  pub cell : room_of new ≡ written (room_of old) bytes
+  pub stays : Stays old new
+
+-- what a sector that waits held before its first write: as long as it was written once, its room has it
+abbrev pub held_then : MemWaiting → MemBytes → List ℕ → List ℕ
+held_then w kept here = if w.again then bytes_of kept else here
+
+abbrev pub truth_then : MemWaiting → MemRoom → List ℕ
+truth_then w room = held_then w w.truth (held_on room w.truth_on)
 
 -- what it was
-unfoldable pub was_of : MemWaiting → Cell → Cell
-was_of w now = record { truth = truth_then w now; reads = reads_by w.reads (truth_then w now) w.lie.bytes; before = bytes_of w.before }
+unfoldable pub was_of : MemWaiting → MemRoom → Cell
+was_of w room = record { truth = truth_then w room; reads = reads_by w.reads (truth_then w room) w.lie.bytes; before = held_then w w.before (held_on room w.before_on) }
 
-abbrev pub waiting_in : List Cell → MemWaiting → Waiting
-waiting_in cells w = record { index = w.index; was = was_of w (slice_index_or cells w.index blank) }
+-- a room of zeros, for a sector that was never written
+unfoldable pub blank_room : MemRoom
+blank_room =
+    let zeros : Sector = record { bytes = copies 512 0 } in
+    let none : MemBytes = record { zeros = true; sector = zeros } in
+    record { truth_on = shelf.One; before_on = shelf.One; reads = r.Truth; one = none; two = none; three = none; lie = zeros }
 
-abbrev pub waiting_of : List Cell → List MemWaiting → List Waiting
-waiting_of cells ws = map (waiting_in cells) ws
+abbrev pub waiting_in : List MemRoom → MemWaiting → Waiting
+waiting_in rooms w = record { index = w.index; was = was_of w (slice_index_or rooms w.index blank_room) }
 
--- the sector that is written again keeps what it should have held
-abbrev pub kept_with : ℕ → MemBytes → MemWaiting → MemWaiting
-kept_with index truth w = if (w.index == index) && not w.again then record w { again = true; truth = taken w.truth truth } else w
+-- those that wait, by the room of each sector
+abbrev pub waiting_of : List MemRoom → List MemWaiting → List Waiting
+waiting_of rooms ws = map (waiting_in rooms) ws
+
+-- the sector that is written again keeps what it held
+abbrev pub kept_with : ℕ → MemRoom → MemWaiting → MemWaiting
+kept_with index room w =
+    if (w.index == index) && not w.again then record w { again = true; truth = taken w.truth (on room w.truth_on); before = taken w.before (on room w.before_on) } else w
 
 -- a sector of zeros that was never written
 unfoldable pub zero_cell : Cell
 zero_cell = record { truth = copies 512 0; reads = Some (copies 512 0); before = copies 512 0 }
 
--- what each sector holds, by the place of its room
-unfoldable pub seen_by : List ℕ → List MemRoom → List Cell
-seen_by places rooms = map (λ p. slice_index_or (map room_of rooms) p blank) places
+-- the room of each sector, by its place
+unfoldable pub rooms_by : List ℕ → List MemRoom → List MemRoom
+rooms_by places rooms = map (λ p. slice_index_or rooms p blank_room) places
 
+abbrev pub rooms_of : MemRooms → List MemRoom
+rooms_of m = rooms_by m.places.items m.rooms.items
+
+abbrev pub room_at : MemRooms → ℕ → MemRoom
+room_at m i = slice_index_or (rooms_of m) i blank_room
+
+-- what each sector holds
 abbrev pub seen : MemRooms → List Cell
-seen m = seen_by m.places.items m.rooms.items
+seen m = map room_of (rooms_of m)
 
 abbrev pub face_of : MemFace → Face
-face_of f = record { cells = seen f.rooms; waiting = waiting_of (seen f.rooms) (take (length f.indices.items) f.waiting.items) }
+face_of f = record { cells = seen f.rooms; waiting = waiting_of (rooms_of f.rooms) (take (length f.indices.items) f.waiting.items) }
 
 abbrev pub fuse_of : Option MemFuse → Option Fuse
 fuse_of None = None
@@ -111,7 +168,7 @@ once (w ∷ ws) = not (list_any (λ x. x.index == w.index) ws) && once ws
 -- the first room is of zeros, for all sectors that have none of their own; no two share another one
 pub record AreRooms (m : MemRooms) : Type 0 where
   pub count : length m.places.items ≡ sectors
-  pub first : slice_index_or (map room_of m.rooms.items) 0 blank ≡ zero_cell
+  pub first : slice_index_or m.rooms.items 0 blank_room ≡ blank_room
   pub within : (i : ℕ) → slice_index_or m.places.items i 0 < length m.rooms.items
   pub own : (i j : ℕ) → 0 < slice_index_or m.places.items i 0 → slice_index_or m.places.items i 0 ≡ slice_index_or m.places.items j 0 → i ≡ j
   pub given : length m.rooms.items + count_by (λ p. p == 0) m.places.items ≡ sectors + 1

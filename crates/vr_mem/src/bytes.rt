@@ -1,7 +1,7 @@
 //! What a sector in memory holds.
-ghost use Rattle.std.specs.Prelude.{◌≡◌, length};
+ghost use Rattle.std.specs.Prelude.{◌≡◌, bytes_eq, length};
 ghost use Rattle.vr_disk.specs.DiskState.{damaged};
-ghost use Rattle.vr_mem.specs.Seen.{bytes_of, copies, taken};
+ghost use Rattle.vr_mem.specs.Seen.{bytes_of, taken};
 
 use vr_base::is_zeros;
 use vr_disk::{Sector, ZEROS};
@@ -32,23 +32,24 @@ pub fn damage(sector: &Sector) -> Sector
 }
 
 impl MemBytes {
-    /// Zeros.
-    #[tactic(auto, unfolding(crate::specs::Seen::bytes_of))]
-    pub fn zeros() -> MemBytes
-        ensures { bytes_of result ≡ copies 512 0 }
-    {
-        MemBytes {
-            zeros: true,
-            sector: ZEROS,
-        }
-    }
-
     /// The bytes themselves.
     #[tactic(auto, unfolding(crate::specs::Seen::bytes_of, crate::specs::Seen::copies))]
     pub fn get(&self) -> &Sector
         ensures { result.now.bytes ≡ bytes_of self.now }
     {
         if self.zeros { &ZEROS } else { &self.sector }
+    }
+
+    /// Whether these are the bytes.
+    #[tactic(auto, unfolding(crate::specs::Seen::bytes_of))]
+    pub fn is(&self, bytes: &[u8]) -> bool
+        requires { length bytes.now ≡ 512 }
+        ensures { result ≡ bytes_eq bytes.now (bytes_of self.now) }
+    {
+        if self.zeros {
+            return is_zeros(bytes);
+        }
+        bytes == self.sector.bytes.as_slice()
     }
 
     /// Holds these bytes from now on.
@@ -74,14 +75,5 @@ impl MemBytes {
         if !from.zeros {
             self.sector = from.sector;
         }
-    }
-
-    /// Has every bit turned.
-    #[tactic(auto, unfolding(crate::specs::Seen::bytes_of))]
-    pub fn damage(&mut self)
-        ensures { bytes_of self.new ≡ damaged (bytes_of self.old) }
-    {
-        self.sector = damage(self.get());
-        self.zeros = false;
     }
 }

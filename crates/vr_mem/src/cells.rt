@@ -7,9 +7,9 @@ ghost use Rattle.vr_base.specs.Bytes.{is_zeros};
 ghost use Rattle.vr_disk.specs.DiskState.{Cell, after, blank, cell, damaged, digit_at, IsContent, noted, reads, settle, settled, settled_cell, written, Write, Sync};
 ghost use Rattle.vr_disk.specs.Sectors.{has};
 ghost use Rattle.vr_mem.specs.Lies.{lied};
-ghost use Rattle.vr_mem.specs.Seen.{AreRooms, IsListed, IsMemFace, bytes_of, cell_of, copies, face_of, kept_with, once, room_of, seen, waiting_of, was_of, zero_cell};
+ghost use Rattle.vr_mem.specs.Seen.{AreRooms, Holds, IsListed, IsMemFace, IsWritten, Stays, blank_room, bytes_of, cell_of, copies, face_of, free_of, held_on, hidden, kept_with, on, once, put_on, room_at, room_of, rooms_of, seen, shown, waiting_of, was_of, zero_cell};
 
-use crate::bytes::MemBytes;
+use crate::bytes::{MemBytes, damage};
 use std::alloc::Global;
 use vr_base::{NoMemory, is_zeros};
 use vr_disk::{SECTORS, Sector, ZEROS};
@@ -34,43 +34,61 @@ pub enum MemReads {
     Nothing,
 }
 
-/// What is kept of a sector. What it should hold, and what it held before its last write, stand in two places by turns: so a
-/// write goes into one of them, and turns. What is small comes first, and so is read from memory at once.
+/// Where in its room a content of a sector stands.
+#[derive(Clone, Copy)]
+pub enum Shelf {
+    One,
+    Two,
+    Three,
+}
+
+/// What is kept of a sector. What it should hold, and what it held before its last write, stand on two of three shelves, or on
+/// one where they are the same bytes. A write goes on another one, so both stay where they are. What is small comes first,
+/// and so is read from memory at once.
 #[derive(Clone, Copy)]
 pub struct MemRoom {
-    /// It should hold the second; otherwise the first.
-    pub turned: bool,
+    /// Where what it should hold stands.
+    pub truth_on: Shelf,
+    /// Where what it held before its last write stands.
+    pub before_on: Shelf,
     pub reads: MemReads,
     pub one: MemBytes,
     pub two: MemBytes,
+    pub three: MemBytes,
     pub lie: Sector,
 }
 
-/// A sector that waits for a sync, and what it was before its first write since the last one. What it should have held then
-/// is what it held before its last write, as long as it was written once: so a first write doesn't copy it.
+/// A sector that waits for a sync, and what it was before its first write since the last one. As long as it was written once,
+/// its room still has what it held then: so a first write copies nothing. What is small comes first here too.
 #[derive(Clone, Copy)]
 pub struct MemWaiting {
     pub index: u32,
-    /// It was written again, and what it should have held then stands here.
+    /// It was written again, and what it held then stands here.
     pub again: bool,
     pub reads: MemReads,
+    /// Where in its room what it should have held then stands.
+    pub truth_on: Shelf,
+    /// Where in its room what it held then before its last write stands.
+    pub before_on: Shelf,
     pub truth: MemBytes,
     pub before: MemBytes,
     pub lie: Sector,
 }
 
+/// A content of zeros.
+const NO_BYTES: MemBytes = MemBytes {
+    zeros: true,
+    sector: ZEROS,
+};
+
 /// What is kept of a sector of zeros that was never written.
 const BLANK: MemRoom = MemRoom {
-    turned: false,
+    truth_on: Shelf::One,
+    before_on: Shelf::One,
     reads: MemReads::Truth,
-    one: MemBytes {
-        zeros: true,
-        sector: ZEROS,
-    },
-    two: MemBytes {
-        zeros: true,
-        sector: ZEROS,
-    },
+    one: NO_BYTES,
+    two: NO_BYTES,
+    three: NO_BYTES,
     lie: ZEROS,
 };
 
@@ -95,26 +113,50 @@ pub struct MemFace {
 }
 
 // A sector of zeros that was never written.
-#[tactic(auto, unfolding(crate::specs::Seen::zero_cell, crate::specs::Seen::room_of, crate::specs::Seen::bytes_of))]
+#[tactic(auto, unfolding(crate::specs::Seen::blank_room, crate::specs::Seen::copies))]
 fn zero() -> &'static MemRoom
-    ensures { room_of result.now ≡ zero_cell }
+    ensures { result.now ≡ blank_room }
 {
     &BLANK
 }
 
+impl Shelf {
+    // One that is neither of these.
+    fn free(truth: Shelf, before: Shelf) -> Shelf
+        ensures { result ≡ free_of truth before }
+    {
+        match (truth, before) {
+            (Shelf::One, Shelf::Two) | (Shelf::Two, Shelf::One) => Shelf::Three,
+            (Shelf::One, _) | (_, Shelf::One) => Shelf::Two,
+            _ => Shelf::One,
+        }
+    }
+}
+
 impl MemRoom {
+    // What stands on a shelf.
+    fn on(&self, shelf: Shelf) -> &MemBytes
+        ensures { result.now ≡ on self.now shelf }
+    {
+        match shelf {
+            Shelf::One => &self.one,
+            Shelf::Two => &self.two,
+            Shelf::Three => &self.three,
+        }
+    }
+
     #[tactic(auto, unfolding(crate::specs::Seen::room_of))]
     fn truth(&self) -> &MemBytes
         ensures { bytes_of result.now ≡ (room_of self.now).truth }
     {
-        if self.turned { &self.two } else { &self.one }
+        self.on(self.truth_on)
     }
 
     #[tactic(auto, unfolding(crate::specs::Seen::room_of))]
     fn before(&self) -> &MemBytes
         ensures { bytes_of result.now ≡ (room_of self.now).before }
     {
-        if self.turned { &self.one } else { &self.two }
+        self.on(self.before_on)
     }
 
     // What it reads as.
@@ -151,27 +193,52 @@ impl MemRoom {
         }
     }
 
-    // Writes these bytes.
-    #[tactic(auto, unfolding(crate::specs::Seen::room_of))]
-    fn write(&mut self, bytes: &[u8])
+    // Puts these bytes on a shelf.
+    fn put(&mut self, shelf: Shelf, bytes: &[u8])
         requires { length bytes.now ≡ 512 }
-        ensures cell { room_of self.new ≡ written (room_of self.old) bytes.now }
+        ensures same { self.new ≡ put_on self.old shelf (on self.new shelf) }
+        ensures bytes { held_on self.new shelf ≡ bytes.now }
         ensures content { IsContent bytes.now }
     {
-        if self.turned {
-            self.one.set(bytes);
-        } else {
-            self.two.set(bytes);
+        match shelf {
+            Shelf::One => self.one.set(bytes),
+            Shelf::Two => self.two.set(bytes),
+            Shelf::Three => self.three.set(bytes),
         }
-        self.turned = !self.turned;
+    }
+
+    // It should hold these bytes from now on. What it should have held stays on its shelf, and so does what it held before its
+    // last write. Nothing is copied where it should hold these bytes already.
+    fn hold(&mut self, bytes: &[u8])
+        requires { length bytes.now ≡ 512 }
+        ensures holds { Holds self.old self.new bytes.now }
+        ensures content { IsContent bytes.now }
+    {
+        if self.truth().is(bytes) {
+            return;
+        }
+        let free = Shelf::free(self.truth_on, self.before_on);
+        self.put(free, bytes);
+        self.truth_on = free;
+    }
+
+    // Writes these bytes.
+    #[tactic(auto, using(crate::proofs::Shelves::written_room))]
+    fn write(&mut self, bytes: &[u8])
+        requires { length bytes.now ≡ 512 }
+        ensures written { IsWritten self.old self.new bytes.now }
+        ensures content { IsContent bytes.now }
+    {
+        let last = self.truth_on;
+        self.hold(bytes);
+        self.before_on = last;
         self.reads = MemReads::Truth;
     }
 
     // From now on it reads as these bytes.
-    #[tactic(auto, unfolding(crate::specs::Seen::room_of))]
     fn show(&mut self, bytes: &[u8])
         requires { length bytes.now ≡ 512 }
-        ensures cell { room_of self.new ≡ record (room_of self.old) { reads = Some bytes.now } }
+        ensures room { self.new ≡ shown self.old bytes.now }
         ensures content { IsContent bytes.now }
     {
         self.lie.bytes.copy_from_slice(bytes);
@@ -179,9 +246,8 @@ impl MemRoom {
     }
 
     // From now on it can't be read.
-    #[tactic(auto, unfolding(crate::specs::Seen::room_of))]
     fn hide(&mut self)
-        ensures { room_of self.new ≡ record (room_of self.old) { reads = None } }
+        ensures { self.new ≡ hidden self.old }
     {
         self.reads = MemReads::Nothing;
     }
@@ -189,18 +255,16 @@ impl MemRoom {
     // Becomes what it was. A lie is copied only where it is read.
     #[tactic(auto, unfolding(crate::specs::Seen::room_of, crate::specs::Seen::was_of))]
     fn revert(&mut self, was: &MemWaiting)
-        ensures { room_of self.new ≡ was_of was.now (room_of self.old) }
+        ensures { room_of self.new ≡ was_of was.now self.old }
     {
         if was.again {
             self.one.take_from(&was.truth);
-            self.turned = false;
-        } else {
-            self.turned = !self.turned;
-        }
-        if self.turned {
-            self.one.take_from(&was.before);
-        } else {
             self.two.take_from(&was.before);
+            self.truth_on = Shelf::One;
+            self.before_on = Shelf::Two;
+        } else {
+            self.truth_on = was.truth_on;
+            self.before_on = was.before_on;
         }
         self.reads = was.reads;
         match was.reads {
@@ -212,7 +276,7 @@ impl MemRoom {
     // What a stop leaves of it, by a digit and what it was.
     #[tactic(auto, unfolding(crate::specs::Seen::room_of))]
     fn settle(&mut self, digit: u64, was: &MemWaiting)
-        ensures { room_of self.new ≡ settled_cell digit (was_of was.now (room_of self.old)) (room_of self.old) }
+        ensures { room_of self.new ≡ settled_cell digit (was_of was.now self.old) (room_of self.old) }
     {
         if digit == 0 {
             self.revert(was);
@@ -224,17 +288,14 @@ impl MemRoom {
         self.reads = MemReads::Truth;
     }
 
-    // What it should hold has every bit turned.
+    // What it should hold has every bit turned. It stands on another shelf then, since what it held before may be on this one.
     #[tactic(auto, unfolding(crate::specs::Seen::room_of))]
     fn damage(&mut self)
         ensures truth { (room_of self.new).truth ≡ damaged (room_of self.old).truth }
         ensures before { (room_of self.new).before ≡ (room_of self.old).before }
     {
-        if self.turned {
-            self.two.damage();
-        } else {
-            self.one.damage();
-        }
+        let damaged = damage(self.truth().get());
+        self.hold(&damaged.bytes);
     }
 }
 
@@ -254,7 +315,8 @@ impl MemRooms {
     fn room(&self, at: usize) -> &MemRoom
         requires rooms { AreRooms self.now }
         requires at { at < SECTORS }
-        ensures { slice_index_or (seen self.now) at blank ≡ room_of result.now }
+        ensures room { room_at self.now at ≡ result.now }
+        ensures cell { slice_index_or (seen self.now) at blank ≡ room_of result.now }
     {
         &self.rooms[self.places[at] as usize]
     }
@@ -265,7 +327,7 @@ impl MemRooms {
         requires at { at < SECTORS }
         requires none { slice_index_or self.old.places.items at 0 ≡ 0 }
         ensures rooms { AreRooms self.new }
-        ensures same { seen self.new ≡ seen self.old }
+        ensures same { rooms_of self.new ≡ rooms_of self.old }
         ensures own { 0 < result }
         ensures place { slice_index_or self.new.places.items at 0 ≡ result }
     {
@@ -280,7 +342,7 @@ impl MemRooms {
         requires rooms { AreRooms self.old }
         requires at { at < SECTORS }
         ensures rooms { AreRooms self.new }
-        ensures same { seen self.new ≡ seen self.old }
+        ensures same { rooms_of self.new ≡ rooms_of self.old }
         ensures own { 0 < result }
         ensures place { slice_index_or self.new.places.items at 0 ≡ result }
     {
@@ -297,7 +359,8 @@ impl MemRooms {
         requires at { at < SECTORS }
         requires size { length bytes.now ≡ 512 }
         ensures rooms { AreRooms self.new }
-        ensures cells { seen self.new ≡ slice_set (seen self.old) at (written (slice_index_or (seen self.old) at blank) bytes.now) }
+        ensures others { rooms_of self.new ≡ slice_set (rooms_of self.old) at (room_at self.new at) }
+        ensures written { IsWritten (room_at self.old at) (room_at self.new at) bytes.now }
         ensures content { IsContent bytes.now }
     {
         if self.places[at] == 0 && is_zeros(bytes) {
@@ -313,7 +376,7 @@ impl MemRooms {
         requires at { at < SECTORS }
         requires size { length bytes.now ≡ 512 }
         ensures rooms { AreRooms self.new }
-        ensures cells { seen self.new ≡ slice_set (seen self.old) at (record (slice_index_or (seen self.old) at blank) { reads = Some bytes.now }) }
+        ensures same { rooms_of self.new ≡ slice_set (rooms_of self.old) at (shown (room_at self.old at) bytes.now) }
         ensures content { IsContent bytes.now }
     {
         let place = self.place(at);
@@ -325,7 +388,7 @@ impl MemRooms {
         requires rooms { AreRooms self.old }
         requires at { at < SECTORS }
         ensures rooms { AreRooms self.new }
-        ensures cells { seen self.new ≡ slice_set (seen self.old) at (record (slice_index_or (seen self.old) at blank) { reads = None }) }
+        ensures same { rooms_of self.new ≡ slice_set (rooms_of self.old) at (hidden (room_at self.old at)) }
     {
         let place = self.place(at);
         self.rooms[place].hide();
@@ -336,7 +399,8 @@ impl MemRooms {
         requires rooms { AreRooms self.old }
         requires at { at < SECTORS }
         ensures rooms { AreRooms self.new }
-        ensures cells { seen self.new ≡ slice_set (seen self.old) at (settled_cell digit (was_of was.now (slice_index_or (seen self.old) at blank)) (slice_index_or (seen self.old) at blank)) }
+        ensures others { rooms_of self.new ≡ slice_set (rooms_of self.old) at (room_at self.new at) }
+        ensures settled { room_of (room_at self.new at) ≡ settled_cell digit (was_of was.now (room_at self.old at)) (room_of (room_at self.old at)) }
     {
         let place = self.place(at);
         self.rooms[place].settle(digit, was);
@@ -347,9 +411,9 @@ impl MemRooms {
 fn settle_all(code: u64, waiting: &[MemWaiting], rooms: &mut MemRooms)
     requires rooms { AreRooms rooms.old }
     requires within { All (λ w. w.index < SECTORS) waiting.now }
-    requires once { once (waiting_of (seen rooms.old) waiting.now) ≡ true }
+    requires once { once (waiting_of (rooms_of rooms.old) waiting.now) ≡ true }
     ensures rooms { AreRooms rooms.new }
-    ensures cells { seen rooms.new ≡ settled code (waiting_of (seen rooms.old) waiting.now) (seen rooms.old) }
+    ensures cells { seen rooms.new ≡ settled code (waiting_of (rooms_of rooms.old) waiting.now) (seen rooms.old) }
 {
     let mut rest = code;
     for w in waiting {
@@ -359,7 +423,7 @@ fn settle_all(code: u64, waiting: &[MemWaiting], rooms: &mut MemRooms)
 }
 
 fn digit(code: u64, index: u32, waiting: &[MemWaiting]) -> u64
-    ensures { (cells : List Cell) → result ≡ digit_at code index (waiting_of cells waiting.now) }
+    ensures { (rooms : List MemRoom) → result ≡ digit_at code index (waiting_of rooms waiting.now) }
 {
     let mut rest = code;
     for w in waiting {
@@ -386,53 +450,57 @@ fn make_place(waiting: &mut Vec<MemWaiting>, count: usize)
     ensures capacity { vec_capacity waiting.old ≤ vec_capacity waiting.new }
 {
     if waiting.len() == count {
-        let zeros = MemBytes::zeros();
         waiting.push_reserved(MemWaiting {
             index: 0,
             again: false,
             reads: MemReads::Truth,
-            truth: zeros,
-            before: zeros,
+            truth_on: Shelf::One,
+            before_on: Shelf::One,
+            truth: NO_BYTES,
+            before: NO_BYTES,
             lie: ZEROS,
         });
     }
 }
 
-// Notes in its place that a sector waits, and what it was before this write.
+// Notes in its place that a sector waits, and where in its room stands what it held before this write. A lie is copied only
+// where it is read.
 #[tactic(auto, unfolding(crate::specs::Seen::room_of, crate::specs::Seen::was_of))]
 fn note_in(place: &mut MemWaiting, index: u32, room: &MemRoom)
     ensures index { place.new.index ≡ index }
-    ensures was { (now : Cell) → now.before ≡ (room_of room.now).truth → was_of place.new now ≡ room_of room.now }
+    ensures was { (now : MemRoom) → Stays room.now now → was_of place.new now ≡ room_of room.now }
 {
     place.index = index;
     place.again = false;
     place.reads = room.reads;
+    place.truth_on = room.truth_on;
+    place.before_on = room.before_on;
     match room.reads {
         MemReads::Lie => place.lie = room.lie,
         _ => {}
     }
-    place.before.take_from(room.before());
 }
 
-// Keeps what a sector should have held, where it is the one that waits here and was written once. Which one waits here is
-// told, so no other's place is looked at.
-fn keep_in(place: &mut MemWaiting, listed: u32, index: u32, truth: &MemBytes)
+// Keeps what a sector held, where it is the one that waits here and was written once. Which one waits here is told, so no
+// other's place is looked at.
+fn keep_in(place: &mut MemWaiting, listed: u32, index: u32, room: &MemRoom)
     requires { place.old.index ≡ listed }
-    ensures { place.new ≡ kept_with index truth.now place.old }
+    ensures { place.new ≡ kept_with index room.now place.old }
 {
     if listed == index && !place.again {
-        place.truth.take_from(truth);
+        place.truth.take_from(room.on(place.truth_on));
+        place.before.take_from(room.on(place.before_on));
         place.again = true;
     }
 }
 
-// Keeps what a sector should have held that is written again, with those listed that it is.
-fn keep_truth(waiting: &mut [MemWaiting], indices: &[u32], index: u32, truth: &MemBytes)
+// Keeps what a sector held that is written again, with those listed that it is.
+fn keep_was(waiting: &mut [MemWaiting], indices: &[u32], index: u32, room: &MemRoom)
     requires { IsListed indices.now waiting.old }
-    ensures { waiting.new ≡ map (kept_with index truth.now) (take (length indices.now) waiting.old) ++ drop (length indices.now) waiting.old }
+    ensures { waiting.new ≡ map (kept_with index room.now) (take (length indices.now) waiting.old) ++ drop (length indices.now) waiting.old }
 {
     for i in 0..indices.len() {
-        keep_in(&mut waiting[i], indices[i], index, truth);
+        keep_in(&mut waiting[i], indices[i], index, room);
     }
 }
 
@@ -441,13 +509,13 @@ fn note(waiting: &mut Vec<MemWaiting>, indices: &mut Vec<u32>, index: u32, room:
     requires listed { IsListed indices.old.items waiting.old.items }
     requires room { list_any (λ i. i == index) indices.old.items ≡ false → length indices.old.items < vec_capacity waiting.old }
     requires list_room { list_any (λ i. i == index) indices.old.items ≡ false → length indices.old.items < vec_capacity indices.old }
-    ensures items { (cells : List Cell) (now : Cell) → index < length cells → slice_index_or cells index blank ≡ room_of room.now → now.before ≡ (room_of room.now).truth → waiting_of (slice_set cells index now) (take (length indices.new.items) waiting.new.items) ≡ noted (waiting_of cells (take (length indices.old.items) waiting.old.items)) index (room_of room.now) }
+    ensures items { (rooms : List MemRoom) (now : MemRoom) → index < length rooms → slice_index_or rooms index blank_room ≡ room.now → Stays room.now now → waiting_of (slice_set rooms index now) (take (length indices.new.items) waiting.new.items) ≡ noted (waiting_of rooms (take (length indices.old.items) waiting.old.items)) index (room_of room.now) }
     ensures listed { IsListed indices.new.items waiting.new.items }
     ensures capacity { vec_capacity waiting.old ≤ vec_capacity waiting.new }
     ensures list_capacity { vec_capacity indices.old ≤ vec_capacity indices.new }
 {
     if is_waiting(index, indices) {
-        keep_truth(waiting.as_mut_slice(), indices, index, room.before());
+        keep_was(waiting.as_mut_slice(), indices, index, room);
         return;
     }
     let count = indices.len();

@@ -1,17 +1,18 @@
-use Rattle.std.proofs.Common.{ℕ, eqb, false, ◌<◌, ◌≡◌, ◌∙◌, length, set, sym, refl, ap, get_or, arith, take, List}
-use Rattle.vr_disk.specs.DiskState.{Cell, blank, noted, written}
+use Rattle.std.proofs.Common.{ℕ, eqb, false, ◌<◌, ◌≡◌, ◌∙◌, length, sym, refl, ap, get_or, arith, subst, take, List}
+use Rattle.vr_disk.specs.DiskState.{blank, noted}
 use Rattle.vr_disk.specs.Regions.{sectors}
 use Rattle.std.specs.List.{list_any}
 use Rattle.vr_mem.specs.declared.cells.MemFace.{MemFace}
-use Rattle.vr_mem.specs.Seen.{IsMemFace, face_of, room_of, seen, waiting_of}
-use Rattle.vr_mem.proofs.Places.{length_seen}
+use Rattle.vr_mem.specs.declared.cells.MemRoom.{MemRoom}
+use Rattle.vr_mem.specs.Seen.{IsMemFace, Stays, face_of, room_at, room_of, rooms_of, seen, waiting_of}
+use Rattle.vr_mem.proofs.Places.{length_rooms, written_cells}
 use Rattle.vr_mem.proofs.Settling.{length_waiting, same_face, waiting_below, waits_listed, written_is}
 use Rattle.vr_mem.proofs.Room.{room_left}
 use Rattle.vr_mem.proofs.cells.MemFace.write.Goals as goal
 
 waits_room : (f : MemFace) (i : ℕ) → IsMemFace f → i < sectors → list_any (λ j. eqb j i) f.indices.items ≡ false → length f.indices.items < sectors
 waits_room f i h l absent =
-    let xs = seen f.rooms in
+    let xs = rooms_of f.rooms in
     let ws = (face_of f).waiting in
     let r = room_left sectors ws i h.once (waiting_below sectors ws h.face.waiting refl) l (waits_listed i xs f.indices.items f.waiting.items h.listed ∙ absent) in
     let n = length_waiting f h.listed in
@@ -32,14 +33,17 @@ note-requires-clause-list_room c absent =
 pub returns-clause-after : goal.returns-clause-after
 returns-clause-after c =
     let i = c.args.index in
-    let xs = seen c.args.self.now.rooms in
+    let m = c.args.self.now.rooms in
+    let xs = rooms_of m in
     let ws = take (length c.args.self.now.indices.items) c.args.self.now.waiting.items in
-    let there : get_or xs i blank ≡ room_of c.room.result.now = c.room.ensures in
-    let new : Cell = written (get_or xs i blank) c.args.from.now.bytes in
-    let long : i < length xs = (let n = length_seen c.args.self.now.rooms c.requires.face.rooms in let l = c.requires.index in omega (arith, n, l)) in
-    let items = c.note.ensures.items xs new long there (ap (λ (x : Cell). x.truth) there) in
-    let cells : seen c.write.new.self ≡ set xs i new = c.write.ensures.cells in
-    same_face _ _ _ _ cells (ap (λ (x : List Cell). waiting_of x (take (length c.note.new.indices.items) c.note.new.waiting.items)) cells ∙ (items ∙ ap (noted (waiting_of xs ws) i) (sym there)))
+    let here = c.room.ensures.room in
+    let new = room_at c.write.new.self i in
+    let long : i < length xs = (let n = length_rooms m c.requires.face.rooms in let l = c.requires.index in omega (arith, n, l)) in
+    let items = c.note.ensures.items xs new long here (subst (λ (r : MemRoom). Stays r new) here c.write.ensures.written.stays) in
+    let there : get_or (seen m) i blank ≡ room_of c.room.result.now = c.room.ensures.cell in
+    same_face _ _ _ _
+    (written_cells xs (rooms_of c.write.new.self) i new c.args.from.now.bytes long c.write.ensures.others c.write.ensures.written.cell)
+    (ap (λ (x : List MemRoom). waiting_of x (take (length c.note.new.indices.items) c.note.new.waiting.items)) c.write.ensures.others ∙ (items ∙ ap (noted (waiting_of xs ws) i) (sym there)))
 
 pub returns-clause-face : goal.returns-clause-face
 returns-clause-face c =

@@ -1,6 +1,6 @@
 use Rattle.std.proofs.Common.{◌≡◌, ◌∙◌, ap, arith, refl, length, set}
-use Rattle.vr_mem.specs.Seen.{seen_by}
-use Rattle.vr_mem.proofs.Places.{rooms_more, seen_more, space_more}
+use Rattle.vr_mem.specs.Seen.{rooms_by}
+use Rattle.vr_mem.proofs.Places.{rooms_kept, rooms_more, space_more}
 use Rattle.vr_mem.proofs.cells.MemRooms.give.Goals as goal
 
 pub push_reserved-requires : goal.push_reserved-requires
@@ -19,4 +19,4 @@ returns-clause-same c =
     let m = c.args.self.now in
     let k = c.len-place.result in
     let e : k ≡ length m.rooms.items = (let e = c.len-place.ensures in omega arith) in
-    ap (seen_by (set m.places.items c.args.at k)) c.push_reserved.ensures.items ∙ seen_more m c.args.at k c.zero.result.now c.requires.rooms c.requires.at c.requires.none c.zero.ensures e
+    ap (rooms_by (set m.places.items c.args.at k)) c.push_reserved.ensures.items ∙ rooms_kept m c.args.at k c.zero.result.now c.requires.rooms c.requires.at c.requires.none c.zero.ensures e
