@@ -1,4 +1,5 @@
 pub mod Calls
+pub mod Copies
 pub mod Early
 pub mod Ending
 pub mod Lies
