@@ -5,4 +5,5 @@ pub mod Places
 pub mod Room
 pub mod Settling
 pub mod Shelves
+pub mod Waits
 pub mod Zeros

@@ -1,13 +1,12 @@
 -- A disk as it is made.
-use Rattle.std.proofs.Common.{ℕ, zero, suc, ◌≡◌, ◌<◌, ◌≤◌, refl, ◌∙◌, arith, [], get_or, subst}
+use Rattle.std.proofs.Common.{ℕ, zero, suc, ◌≡◌, ◌<◌, refl, ◌∙◌, arith, [], get_or, subst}
 use Rattle.std.specs.List.{All}
 use Rattle.std.specs.Prelude.{replicate}
-use Rattle.std.specs.Vec.{vec_capacity}
 use Rattle.std.proofs.lemmas.List.Elements.{All-replicate}
 use Rattle.vr_disk.specs.DiskState.{IsCell, IsContent}
 use Rattle.vr_disk.specs.Regions.{sectors}
 use Rattle.vr_mem.specs.declared.cells.MemFace.{MemFace}
-use Rattle.vr_mem.specs.Seen.{AreRooms, IsMemFace, copies, face_of, seen, zero_cell}
+use Rattle.vr_mem.specs.Seen.{AreRooms, AreWaits, IsMemFace, copies, face_of, seen, zero_cell}
 use Rattle.vr_mem.proofs.Places.{length_copies, length_seen}
 
 all_copies : {X : Type 0} → (P : X → Type 0) (n : ℕ) (x : X) → P x → All P (copies n x)
@@ -29,21 +28,19 @@ zero_is =
     let z = zeros_are 512 refl in
     record { truth = z; reads = λ b e. let same : copies 512 0 ≡ b = cc in subst IsContent same z; before = z }
 
-none_wait : (f : MemFace) → f.indices.items ≡ [] → (face_of f).waiting ≡ []
+none_wait : (f : MemFace) → f.waits.notes.items ≡ [] → (face_of f).waiting ≡ []
 none_wait f e = rw e refl
 
-pub whole_made : (f : MemFace) → AreRooms f.rooms → seen f.rooms ≡ copies sectors zero_cell → f.indices.items ≡ [] → sectors ≤ vec_capacity f.waiting → sectors ≤ vec_capacity f.indices → IsMemFace f
-whole_made f h e n r p = record {
+pub whole_made : (f : MemFace) → AreRooms f.rooms → seen f.rooms ≡ copies sectors zero_cell → f.waits.notes.items ≡ [] → AreWaits f.waits → IsMemFace f
+whole_made f h e n w = record {
   face = record {
     count = length_seen f.rooms h;
     cells = rw e (all_copies IsCell sectors zero_cell zero_is);
     waiting = rw (none_wait f n) (λ k d l. absurd (omega arith));
   };
   rooms = h;
-  listed = record { count = rw n (omega arith); each = rw n refl };
   once = rw (none_wait f n) refl;
-  room = r;
-  list_space = p;
+  waits = w;
 }
 
 pub zeros_copies : replicate {A = ℕ} 512 0 ≡ copies 512 0

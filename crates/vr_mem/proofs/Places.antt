@@ -1,7 +1,7 @@
 -- The room of each sector, by its place.
 use Rattle.std.proofs.Common.{ℕ, zero, suc, ◌+◌, ◌*◌, ◌≡◌, ◌<◌, ◌≤◌, inl, inr, refl, sym, ap, ◌∙◌, arith, cond, eqb, List, [], ◌∷◌, ◌++◌, length, length-set, get_or, get_or-set_other, get_or-set_same, set}
 use Rattle.std.specs.List.{count_by}
-use Rattle.std.specs.Prelude.{map, replicate, take}
+use Rattle.std.specs.Prelude.{map, replicate}
 use Rattle.std.specs.Vec.{vec_capacity}
 use Rattle.std.proofs.lemmas.Bool.{cases_eq, ne_eqb}
 use Rattle.std.proofs.lemmas.List.{get_or_default, get_or-map, get_or_append_left, get_or_push, length-map, length-replicate, length_push, map-set, set-get_or}
@@ -11,8 +11,8 @@ use Rattle.vr_disk.specs.DiskState.{Face, blank, written}
 use Rattle.vr_disk.specs.Regions.{sectors}
 use Rattle.vr_mem.specs.declared.cells.MemRoom.{MemRoom}
 use Rattle.vr_mem.specs.declared.cells.MemRooms.{MemRooms}
-use Rattle.vr_mem.specs.declared.cells.MemWaiting.{MemWaiting}
-use Rattle.vr_mem.specs.Seen.{AreRooms, blank_room, bytes_of, copies, room_at, room_of, rooms_by, rooms_of, seen, waiting_of, zero_cell}
+use Rattle.vr_mem.specs.declared.cells.MemWaits.{MemWaits}
+use Rattle.vr_mem.specs.Seen.{AreRooms, blank_room, bytes_of, copies, room_at, room_of, rooms_by, rooms_of, seen, waiting_in, zero_cell}
 
 pub length_copies : {X : Type 0} → (n : ℕ) (x : X) → length (copies n x) ≡ n
 unfolding copies
@@ -243,6 +243,6 @@ rooms_made m x p r z c =
       space = c;
     }
 
-pub face_made : (m : MemRooms) (is : List ℕ) (ws : List MemWaiting) → seen m ≡ copies sectors zero_cell → is ≡ []
-    → let face : Face = record { cells = seen m; waiting = waiting_of (rooms_of m) (take (length is) ws) } in face ≡ record { cells = copies sectors zero_cell; waiting = [] }
-face_made m is ws e n = rw (n, e) refl
+pub face_made : (m : MemRooms) (w : MemWaits) → seen m ≡ copies sectors zero_cell → w.notes.items ≡ []
+    → let face : Face = record { cells = seen m; waiting = waiting_in w (rooms_of m) } in face ≡ record { cells = copies sectors zero_cell; waiting = [] }
+face_made m w e n = rw (n, e) refl

@@ -8,7 +8,7 @@ use Rattle.vr_base.proofs.ZeroLaws.{are_zeros, zeros_are}
 use Rattle.vr_disk.specs.Sectors.{has}
 use Rattle.vr_mem.specs.declared.bytes.MemBytes.{MemBytes}
 use Rattle.vr_mem.specs.declared.cells.MemRoom.{MemRoom}
-use Rattle.vr_mem.specs.Seen.{IsWritten, blank_room, bytes_of, copies, room_of, zero_cell}
+use Rattle.vr_mem.specs.Seen.{IsShown, IsWritten, blank_room, bytes_of, copies, room_of, zero_cell}
 use Rattle.vr_mem.proofs.Made.{zeros_copies}
 use Rattle.vr_mem.proofs.Places.{blank_cell}
 
@@ -18,7 +18,15 @@ unfolding zero_cell
 stays_zeros room bytes e n z =
     let b : bytes ≡ copies 512 0 = are_zeros bytes z ∙ (ap (λ n. replicate n 0) n ∙ zeros_copies) in
     let c : room_of room ≡ zero_cell = ap room_of e ∙ blank_cell in
-    record { cell = rw (c, b) refl; stays = record { truth = refl; before = refl } }
+    record { cell = rw (c, b) refl; stays = record { truth = refl; before = refl; lie = refl } }
+
+-- zeros as which a sector of zeros is to read
+pub shown_zeros : (room : MemRoom) (bytes : List ℕ) → room ≡ blank_room → length bytes ≡ 512 → is_zeros bytes ≡ true → IsShown room room bytes
+unfolding zero_cell
+shown_zeros room bytes e n z =
+    let b : bytes ≡ copies 512 0 = are_zeros bytes z ∙ (ap (λ n. replicate n 0) n ∙ zeros_copies) in
+    let c : room_of room ≡ zero_cell = ap room_of e ∙ blank_cell in
+    rw (c, b) refl
 
 -- ---- whether a sector reads as zeros
 

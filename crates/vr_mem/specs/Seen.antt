@@ -1,7 +1,8 @@
 -- What a disk in memory holds, as the calls of a disk see it.
-use Rattle.std.specs.List.{count_by, list_any}
+use Rattle.std.specs.List.{All, count_by, list_any}
+use Rattle.std.specs.Option.{is_none}
 use Rattle.std.specs.Vec.{vec_capacity}
-use Rattle.std.specs.Prelude.{◌==◌, ◌&&◌, ◌≡◌, ◌≤◌, ◌<◌, ◌+◌, Bool, true, not, if◌then◌else◌, ℕ, List, [], ◌∷◌, length, map, replicate, Option, Some, None, take, slice_index_or}
+use Rattle.std.specs.Prelude.{◌==◌, ◌&&◌, ◌≡◌, ◌≤◌, ◌<◌, ◌+◌, Bool, true, not, if◌then◌else◌, ℕ, List, [], ◌∷◌, length, map, replicate, Option, Some, None, slice_index_or, slice_set}
 use Rattle.vr_disk.specs.DiskState.{Cell, Waiting, Face, IsFace, Fate, Fuse, CallVerdict, Goes, Fails, Cuts, written}
 use Rattle.vr_disk.specs.Regions.{sectors}
 use Rattle.vr_disk.specs.declared.sector.Sector.{Sector}
@@ -12,6 +13,8 @@ use Rattle.vr_mem.specs.declared.cells.MemReads.TheVariants as r
 use Rattle.vr_mem.specs.declared.cells.MemRoom.{MemRoom}
 use Rattle.vr_mem.specs.declared.cells.MemRooms.{MemRooms}
 use Rattle.vr_mem.specs.declared.cells.MemWaiting.{MemWaiting}
+use Rattle.vr_mem.specs.declared.cells.MemKept.{MemKept}
+use Rattle.vr_mem.specs.declared.cells.MemWaits.{MemWaits}
 use Rattle.vr_mem.specs.declared.cells.Shelf.{Shelf}
 use Rattle.vr_mem.specs.declared.cells.Shelf.TheVariants as shelf
 use Rattle.vr_mem.specs.declared.cells.MemFace.{MemFace}
@@ -36,10 +39,6 @@ copies n x = replicate n x
 -- what it holds: zeros are only noted
 unfoldable pub bytes_of : MemBytes → List ℕ
 bytes_of m = if m.zeros then copies 512 0 else m.sector.bytes
-
--- one that holds from now on what another does
-unfoldable pub taken : MemBytes → MemBytes → MemBytes
-taken m from = if from.zeros then record m { zeros = true } else from
 
 -- what a sector reads as, by what it should hold and its lie
 abbrev pub reads_by : MemReads → List ℕ → List ℕ → Option (List ℕ)
@@ -77,10 +76,11 @@ shown m bytes = record m { reads = r.Lie; lie = record { bytes = bytes } }
 abbrev pub hidden : MemRoom → MemRoom
 hidden m = record m { reads = r.Nothing }
 
--- what a room held stays where it stood
+-- what a room held stays where it stood, and so does its lie
 pub record Stays (old new : MemRoom) : Type 0 where
   pub truth : held_on new old.truth_on ≡ held_on old old.truth_on
   pub before : held_on new old.before_on ≡ held_on old old.before_on
+  pub lie : new.lie ≡ old.lie
 
 -- it should hold these bytes, and held before its last write what it did
 pub record Holds (old new : MemRoom) (bytes : List ℕ) : Type 0 where
@@ -93,16 +93,26 @@ pub record IsWritten (old new : MemRoom) (bytes : List ℕ) : Type 0 where
   pub cell : room_of new ≡ written (room_of old) bytes
   pub stays : Stays old new
 
--- what a sector that waits held before its first write: as long as it was written once, its room has it
-abbrev pub held_then : MemWaiting → MemBytes → List ℕ → List ℕ
-held_then w kept here = if w.again then bytes_of kept else here
+-- it reads as these bytes, and holds what it did
+abbrev pub IsShown : MemRoom → MemRoom → List ℕ → Type 0
+IsShown old new bytes = room_of new ≡ record (room_of old) { reads = Some bytes }
 
-abbrev pub truth_then : MemWaiting → MemRoom → List ℕ
-truth_then w room = held_then w w.truth (held_on room w.truth_on)
+-- what was copied out, by how it was read
+abbrev pub was_by : MemReads → MemKept → Cell
+was_by reads k = record { truth = bytes_of k.truth; reads = reads_by reads (bytes_of k.truth) k.lie.bytes; before = bytes_of k.before }
+
+-- what its room has of what a sector was that waits
+abbrev pub copied : MemWaiting → MemRoom → MemKept
+copied w room = record { truth = on room w.truth_on; before = on room w.before_on; lie = room.lie }
+
+-- what it was, at its place among what was copied out, or in its room
+abbrev pub kept_by : Option ℕ → List MemKept → MemKept → MemKept
+kept_by None kept here = here
+kept_by (Some place) kept here = slice_index_or kept place here
 
 -- what it was
-unfoldable pub was_of : MemWaiting → MemRoom → Cell
-was_of w room = record { truth = truth_then w room; reads = reads_by w.reads (truth_then w room) w.lie.bytes; before = held_then w w.before (held_on room w.before_on) }
+unfoldable pub was_of : List MemKept → MemWaiting → MemRoom → Cell
+was_of kept w room = was_by w.reads (kept_by w.kept kept (copied w room))
 
 -- a room of zeros, for a sector that was never written
 unfoldable pub blank_room : MemRoom
@@ -111,17 +121,15 @@ blank_room =
     let none : MemBytes = record { zeros = true; sector = zeros } in
     record { truth_on = shelf.One; before_on = shelf.One; reads = r.Truth; one = none; two = none; three = none; lie = zeros }
 
-abbrev pub waiting_in : List MemRoom → MemWaiting → Waiting
-waiting_in rooms w = record { index = w.index; was = was_of w (slice_index_or rooms w.index blank_room) }
+abbrev pub noted_of : List MemKept → List MemRoom → MemWaiting → Waiting
+noted_of kept rooms w = record { index = w.index; was = was_of kept w (slice_index_or rooms w.index blank_room) }
 
--- those that wait, by the room of each sector
-abbrev pub waiting_of : List MemRoom → List MemWaiting → List Waiting
-waiting_of rooms ws = map (waiting_in rooms) ws
+-- those that wait, by what was copied out and the room of each sector
+abbrev pub waiting_of : List MemKept → List MemRoom → List MemWaiting → List Waiting
+waiting_of kept rooms ws = map (noted_of kept rooms) ws
 
--- the sector that is written again keeps what it held
-abbrev pub kept_with : ℕ → MemRoom → MemWaiting → MemWaiting
-kept_with index room w =
-    if (w.index == index) && not w.again then record w { again = true; truth = taken w.truth (on room w.truth_on); before = taken w.before (on room w.before_on) } else w
+abbrev pub waiting_in : MemWaits → List MemRoom → List Waiting
+waiting_in m rooms = waiting_of m.kept.items rooms m.notes.items
 
 -- a sector of zeros that was never written
 unfoldable pub zero_cell : Cell
@@ -142,7 +150,7 @@ abbrev pub seen : MemRooms → List Cell
 seen m = map room_of (rooms_of m)
 
 abbrev pub face_of : MemFace → Face
-face_of f = record { cells = seen f.rooms; waiting = waiting_of (rooms_of f.rooms) (take (length f.indices.items) f.waiting.items) }
+face_of f = record { cells = seen f.rooms; waiting = waiting_in f.waits (rooms_of f.rooms) }
 
 abbrev pub fuse_of : Option MemFuse → Option Fuse
 fuse_of None = None
@@ -174,16 +182,31 @@ pub record AreRooms (m : MemRooms) : Type 0 where
   pub given : length m.rooms.items + count_by (λ p. p == 0) m.places.items ≡ sectors + 1
   pub space : sectors + 1 ≤ vec_capacity m.rooms
 
--- the indices of those that wait, which come first
-pub record IsListed (indices : List ℕ) (waiting : List MemWaiting) : Type 0 where
-  pub count : length indices ≤ length waiting
-  pub each : indices ≡ map (λ (w : MemWaiting). w.index) (take (length indices) waiting)
+-- whether its room has what it was
+abbrev pub is_in_room : MemWaiting → Bool
+is_in_room w = is_none w.kept
+
+-- right behind a place, 0 where there is none
+abbrev pub place_end : Option ℕ → ℕ
+place_end None = 0
+place_end (Some place) = place + 1
+
+-- each sector can wait, and what each was can be copied out
+pub record AreWaits (m : MemWaits) : Type 0 where
+  pub most : length m.notes.items ≤ sectors
+  pub space : sectors ≤ vec_capacity m.notes
+  pub within : All (λ w. place_end w.kept ≤ length m.kept.items) m.notes.items
+  pub given : length m.kept.items + count_by is_in_room m.notes.items ≡ length m.notes.items
+  pub kept_space : sectors ≤ vec_capacity m.kept
+
+-- those that wait were what they were, whatever the room of this sector becomes
+pub record Keeps (old new : MemWaits) (index : ℕ) (room : MemRoom) : Type 0 where
+  pub count : length new.notes.items ≡ length old.notes.items
+  pub same : (rooms : List MemRoom) (now : MemRoom) → index < length rooms → slice_index_or rooms index blank_room ≡ room → once (waiting_in old rooms) ≡ true → waiting_in new (slice_set rooms index now) ≡ waiting_in old rooms
 
 -- 3,984 sectors, each of which can wait
 pub record IsMemFace (f : MemFace) : Type 0 where
   pub face : IsFace (face_of f)
   pub rooms : AreRooms f.rooms
-  pub listed : IsListed f.indices.items f.waiting.items
   pub once : once (face_of f).waiting ≡ true
-  pub room : sectors ≤ vec_capacity f.waiting
-  pub list_space : sectors ≤ vec_capacity f.indices
+  pub waits : AreWaits f.waits

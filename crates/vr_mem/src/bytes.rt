@@ -1,7 +1,7 @@
 //! What a sector in memory holds.
 ghost use Rattle.std.specs.Prelude.{◌≡◌, bytes_eq, length};
 ghost use Rattle.vr_disk.specs.DiskState.{damaged};
-ghost use Rattle.vr_mem.specs.Seen.{bytes_of, taken};
+ghost use Rattle.vr_mem.specs.Seen.{bytes_of};
 
 use vr_base::is_zeros;
 use vr_disk::{Sector, ZEROS};
@@ -66,10 +66,9 @@ impl MemBytes {
     }
 
     /// Holds from now on what the other holds.
-    #[tactic(auto, unfolding(crate::specs::Seen::bytes_of, crate::specs::Seen::taken))]
+    #[tactic(auto, unfolding(crate::specs::Seen::bytes_of))]
     pub fn take_from(&mut self, from: &MemBytes)
-        ensures whole { self.new ≡ taken self.old from.now }
-        ensures bytes { bytes_of self.new ≡ bytes_of from.now }
+        ensures { bytes_of self.new ≡ bytes_of from.now }
     {
         self.zeros = from.zeros;
         if !from.zeros {

@@ -1,13 +1,13 @@
 //! Sectors in memory, and those that wait for a sync.
-ghost use Rattle.std.specs.Prelude.{◌≡◌, ◌<◌, ◌≤◌, ◌==◌, ◌++◌, [], false, true, length, map, take, drop, slice_index_or, slice_set, replicate, List, IfOk, None, Some};
-ghost use Rattle.std.specs.List.{list_any, All};
+ghost use Rattle.std.specs.Prelude.{◌≡◌, ◌<◌, ◌≤◌, ◌==◌, ◌++◌, [], false, true, length, map, slice_index_or, slice_set, replicate, List, IfOk, None, Some};
+ghost use Rattle.std.specs.List.{list_any, position, All};
 ghost use Rattle.std.specs.Option.{option_map};
 ghost use Rattle.std.specs.Vec.{vec_capacity};
 ghost use Rattle.vr_base.specs.Bytes.{is_zeros};
 ghost use Rattle.vr_disk.specs.DiskState.{Cell, after, blank, cell, damaged, digit_at, IsContent, noted, reads, settle, settled, settled_cell, written, Write, Sync};
 ghost use Rattle.vr_disk.specs.Sectors.{has};
 ghost use Rattle.vr_mem.specs.Lies.{lied};
-ghost use Rattle.vr_mem.specs.Seen.{AreRooms, Holds, IsListed, IsMemFace, IsWritten, Stays, blank_room, bytes_of, cell_of, copies, face_of, free_of, held_on, hidden, kept_with, on, once, put_on, room_at, room_of, rooms_of, seen, shown, waiting_of, was_of, zero_cell};
+ghost use Rattle.vr_mem.specs.Seen.{AreRooms, AreWaits, Holds, IsMemFace, IsShown, IsWritten, Keeps, Stays, blank_room, bytes_of, cell_of, copied, copies, face_of, free_of, held_on, hidden, on, once, place_end, put_on, room_at, room_of, rooms_of, seen, shown, waiting_in, waiting_of, was_of, zero_cell};
 
 use crate::bytes::{MemBytes, damage};
 use std::alloc::Global;
@@ -59,17 +59,22 @@ pub struct MemRoom {
 }
 
 /// A sector that waits for a sync, and what it was before its first write since the last one. As long as it was written once,
-/// its room still has what it held then: so a first write copies nothing. What is small comes first here too.
+/// its room still has that: so a first write copies nothing.
 #[derive(Clone, Copy)]
 pub struct MemWaiting {
     pub index: u32,
-    /// It was written again, and what it held then stands here.
-    pub again: bool,
+    /// The place of what it was among what was copied out, `None` where its room has it.
+    pub kept: Option<u32>,
     pub reads: MemReads,
     /// Where in its room what it should have held then stands.
     pub truth_on: Shelf,
     /// Where in its room what it held then before its last write stands.
     pub before_on: Shelf,
+}
+
+/// What a sector was, copied out of its room.
+#[derive(Clone, Copy)]
+pub struct MemKept {
     pub truth: MemBytes,
     pub before: MemBytes,
     pub lie: Sector,
@@ -102,14 +107,21 @@ pub struct MemRooms {
     pub rooms: Vec<MemRoom>,
 }
 
-/// All sectors, and those that wait, in the order of their first write.
+/// The sectors that wait for a sync. What one of them was is copied out of its room when it is written again, or reads as
+/// something else: few are, so memory for this is seldom touched.
+#[derive(Drop)]
+pub struct MemWaits {
+    /// Those that wait, in the order of their first write.
+    pub notes: Vec<MemWaiting>,
+    /// What some of them were, in the order in which it was copied out.
+    pub kept: Vec<MemKept>,
+}
+
+/// All sectors, and those that wait.
 #[derive(Drop)]
 pub struct MemFace {
     pub rooms: MemRooms,
-    /// The index of each sector that waits. One is looked for here, since those that wait lie far apart.
-    pub indices: Vec<u32>,
-    /// Those that wait, and behind them what stays of some that waited once: the next ones are written over it.
-    pub waiting: Vec<MemWaiting>,
+    pub waits: MemWaits,
 }
 
 // A sector of zeros that was never written.
@@ -252,34 +264,54 @@ impl MemRoom {
         self.reads = MemReads::Nothing;
     }
 
-    // Becomes what it was. A lie is copied only where it is read.
-    #[tactic(auto, unfolding(crate::specs::Seen::room_of, crate::specs::Seen::was_of))]
-    fn revert(&mut self, was: &MemWaiting)
-        ensures { room_of self.new ≡ was_of was.now self.old }
+    // What a sector was that waits, copied out.
+    fn copied(&self, was: &MemWaiting) -> MemKept
+        ensures { result ≡ copied was.now self.now }
     {
-        if was.again {
-            self.one.take_from(&was.truth);
-            self.two.take_from(&was.before);
-            self.truth_on = Shelf::One;
-            self.before_on = Shelf::Two;
-        } else {
-            self.truth_on = was.truth_on;
-            self.before_on = was.before_on;
+        MemKept {
+            truth: *self.on(was.truth_on),
+            before: *self.on(was.before_on),
+            lie: self.lie,
+        }
+    }
+
+    // Holds again what was copied out.
+    fn take_back(&mut self, kept: &MemKept)
+        ensures truth { held_on self.new self.new.truth_on ≡ bytes_of kept.now.truth }
+        ensures before { held_on self.new self.new.before_on ≡ bytes_of kept.now.before }
+        ensures lie { self.new.lie ≡ kept.now.lie }
+    {
+        self.one.take_from(&kept.truth);
+        self.two.take_from(&kept.before);
+        self.truth_on = Shelf::One;
+        self.before_on = Shelf::Two;
+        self.lie = kept.lie;
+    }
+
+    // Becomes what it was.
+    #[tactic(auto, unfolding(crate::specs::Seen::room_of, crate::specs::Seen::was_of))]
+    fn revert(&mut self, was: &MemWaiting, kept: &[MemKept])
+        requires { place_end was.now.kept ≤ length kept.now }
+        ensures { room_of self.new ≡ was_of kept.now was.now self.old }
+    {
+        match was.kept {
+            Some(place) => self.take_back(&kept[place as usize]),
+            None => {
+                self.truth_on = was.truth_on;
+                self.before_on = was.before_on;
+            }
         }
         self.reads = was.reads;
-        match was.reads {
-            MemReads::Lie => self.lie = was.lie,
-            _ => {}
-        }
     }
 
     // What a stop leaves of it, by a digit and what it was.
     #[tactic(auto, unfolding(crate::specs::Seen::room_of))]
-    fn settle(&mut self, digit: u64, was: &MemWaiting)
-        ensures { room_of self.new ≡ settled_cell digit (was_of was.now self.old) (room_of self.old) }
+    fn settle(&mut self, digit: u64, was: &MemWaiting, kept: &[MemKept])
+        requires { place_end was.now.kept ≤ length kept.now }
+        ensures { room_of self.new ≡ settled_cell digit (was_of kept.now was.now self.old) (room_of self.old) }
     {
         if digit == 0 {
-            self.revert(was);
+            self.revert(was, kept);
             return;
         }
         if digit != 1 {
@@ -353,6 +385,16 @@ impl MemRooms {
         place as usize
     }
 
+    // Whether a sector has no room, and these bytes are the zeros that it holds and reads as.
+    fn has_zeros(&self, at: usize, bytes: &[u8]) -> bool
+        requires rooms { AreRooms self.now }
+        requires at { at < SECTORS }
+        ensures none { result ≡ true → room_at self.now at ≡ blank_room }
+        ensures zeros { result ≡ true → is_zeros bytes.now ≡ true }
+    {
+        self.places[at] == 0 && is_zeros(bytes)
+    }
+
     // Writes these bytes into a sector. Zeros that are written into one with no room change nothing, so it gets none.
     fn write(&mut self, at: usize, bytes: &[u8])
         requires rooms { AreRooms self.old }
@@ -363,22 +405,26 @@ impl MemRooms {
         ensures written { IsWritten (room_at self.old at) (room_at self.new at) bytes.now }
         ensures content { IsContent bytes.now }
     {
-        if self.places[at] == 0 && is_zeros(bytes) {
+        if self.has_zeros(at, bytes) {
             return;
         }
         let place = self.place(at);
         self.rooms[place].write(bytes);
     }
 
-    // From now on a sector reads as these bytes.
+    // From now on a sector reads as these bytes. One with no room reads as zeros already, so it gets none for them.
     fn show(&mut self, at: usize, bytes: &[u8])
         requires rooms { AreRooms self.old }
         requires at { at < SECTORS }
         requires size { length bytes.now ≡ 512 }
         ensures rooms { AreRooms self.new }
-        ensures same { rooms_of self.new ≡ slice_set (rooms_of self.old) at (shown (room_at self.old at) bytes.now) }
+        ensures others { rooms_of self.new ≡ slice_set (rooms_of self.old) at (room_at self.new at) }
+        ensures shown { IsShown (room_at self.old at) (room_at self.new at) bytes.now }
         ensures content { IsContent bytes.now }
     {
+        if self.has_zeros(at, bytes) {
+            return;
+        }
         let place = self.place(at);
         self.rooms[place].show(bytes);
     }
@@ -395,35 +441,37 @@ impl MemRooms {
     }
 
     // What a stop leaves of a sector, by a digit and what it was.
-    fn settle(&mut self, at: usize, digit: u64, was: &MemWaiting)
+    fn settle(&mut self, at: usize, digit: u64, was: &MemWaiting, kept: &[MemKept])
         requires rooms { AreRooms self.old }
         requires at { at < SECTORS }
+        requires kept { place_end was.now.kept ≤ length kept.now }
         ensures rooms { AreRooms self.new }
         ensures others { rooms_of self.new ≡ slice_set (rooms_of self.old) at (room_at self.new at) }
-        ensures settled { room_of (room_at self.new at) ≡ settled_cell digit (was_of was.now (room_at self.old at)) (room_of (room_at self.old at)) }
+        ensures settled { room_of (room_at self.new at) ≡ settled_cell digit (was_of kept.now was.now (room_at self.old at)) (room_of (room_at self.old at)) }
     {
         let place = self.place(at);
-        self.rooms[place].settle(digit, was);
+        self.rooms[place].settle(digit, was, kept);
     }
 }
 
 // Settles the sectors that wait, by the digits of the code.
-fn settle_all(code: u64, waiting: &[MemWaiting], rooms: &mut MemRooms)
+fn settle_all(code: u64, waiting: &[MemWaiting], kept: &[MemKept], rooms: &mut MemRooms)
     requires rooms { AreRooms rooms.old }
     requires within { All (λ w. w.index < SECTORS) waiting.now }
-    requires once { once (waiting_of (rooms_of rooms.old) waiting.now) ≡ true }
+    requires kept { All (λ w. place_end w.kept ≤ length kept.now) waiting.now }
+    requires once { once (waiting_of kept.now (rooms_of rooms.old) waiting.now) ≡ true }
     ensures rooms { AreRooms rooms.new }
-    ensures cells { seen rooms.new ≡ settled code (waiting_of (rooms_of rooms.old) waiting.now) (seen rooms.old) }
+    ensures cells { seen rooms.new ≡ settled code (waiting_of kept.now (rooms_of rooms.old) waiting.now) (seen rooms.old) }
 {
     let mut rest = code;
     for w in waiting {
-        rooms.settle(w.index as usize, rest % 3, w);
+        rooms.settle(w.index as usize, rest % 3, w, kept);
         rest /= 3;
     }
 }
 
 fn digit(code: u64, index: u32, waiting: &[MemWaiting]) -> u64
-    ensures { (rooms : List MemRoom) → result ≡ digit_at code index (waiting_of rooms waiting.now) }
+    ensures { (kept : List MemKept) (rooms : List MemRoom) → result ≡ digit_at code index (waiting_of kept rooms waiting.now) }
 {
     let mut rest = code;
     for w in waiting {
@@ -435,93 +483,86 @@ fn digit(code: u64, index: u32, waiting: &[MemWaiting]) -> u64
     0
 }
 
-fn is_waiting(index: u32, indices: &[u32]) -> bool
-    ensures { result ≡ list_any (λ i. i == index) indices.now }
+// The place of a sector among those that wait.
+fn place_of(index: u32, waiting: &[MemWaiting]) -> Option<usize>
+    ensures { result ≡ position (λ w. w.index == index) waiting.now }
 {
-    indices.iter().any(|i| *i == index)
+    waiting.iter().position(|w| w.index == index)
 }
 
-// A place for one more that waits, behind so many.
-fn make_place(waiting: &mut Vec<MemWaiting>, count: usize)
-    requires count { count ≤ length waiting.old.items }
-    requires room { count < vec_capacity waiting.old }
-    ensures same { take count waiting.new.items ≡ take count waiting.old.items }
-    ensures more { count < length waiting.new.items }
-    ensures capacity { vec_capacity waiting.old ≤ vec_capacity waiting.new }
-{
-    if waiting.len() == count {
-        waiting.push_reserved(MemWaiting {
-            index: 0,
-            again: false,
-            reads: MemReads::Truth,
-            truth_on: Shelf::One,
-            before_on: Shelf::One,
-            truth: NO_BYTES,
-            before: NO_BYTES,
-            lie: ZEROS,
+impl MemWaits {
+    // None waits, and each sector can.
+    fn new(alloc: Global) -> Result<MemWaits, NoMemory>
+        ensures none { IfOk result (λ m. m.notes.items ≡ []) }
+        ensures waits { IfOk result AreWaits }
+    {
+        Ok(MemWaits {
+            notes: Vec::with_capacity(alloc, SECTORS as usize)?,
+            kept: Vec::with_capacity(alloc, SECTORS as usize)?,
+        })
+    }
+
+    // Copies out what the sector was that waits at this place, where its room alone has it.
+    fn keep_at(&mut self, at: usize, index: u32, room: &MemRoom)
+        requires waits { AreWaits self.old }
+        requires found { position (λ w. w.index == index) self.old.notes.items ≡ Some at }
+        ensures waits { AreWaits self.new }
+        ensures keeps { Keeps self.old self.new index room.now }
+    {
+        let was = self.notes[at];
+        if was.kept.is_some() {
+            return;
+        }
+        let place = self.kept.len() as u32;
+        self.kept.push_reserved(room.copied(&was));
+        self.notes[at].kept = Some(place);
+    }
+
+    // Copies out what a sector was, where it waits and its room alone has it: from then on its room can change. Tells whether
+    // it waits.
+    fn keep(&mut self, index: u32, room: &MemRoom) -> bool
+        requires waits { AreWaits self.old }
+        ensures waits { AreWaits self.new }
+        ensures keeps { Keeps self.old self.new index room.now }
+        ensures found { result ≡ list_any (λ w. w.index == index) self.old.notes.items }
+    {
+        match place_of(index, &self.notes) {
+            Some(at) => {
+                self.keep_at(at, index, room);
+                true
+            }
+            None => false,
+        }
+    }
+
+    // Notes that a sector is to be written.
+    fn note(&mut self, index: u32, room: &MemRoom)
+        requires waits { AreWaits self.old }
+        requires room { list_any (λ w. w.index == index) self.old.notes.items ≡ false → length self.old.notes.items < SECTORS }
+        ensures waits { AreWaits self.new }
+        ensures noted { (rooms : List MemRoom) (now : MemRoom) → index < length rooms → slice_index_or rooms index blank_room ≡ room.now → Stays room.now now → once (waiting_in self.old rooms) ≡ true → waiting_in self.new (slice_set rooms index now) ≡ noted (waiting_in self.old rooms) index (room_of room.now) }
+    {
+        if self.keep(index, room) {
+            return;
+        }
+        self.notes.push_reserved(MemWaiting {
+            index,
+            kept: None,
+            reads: room.reads,
+            truth_on: room.truth_on,
+            before_on: room.before_on,
         });
     }
-}
 
-// Notes in its place that a sector waits, and where in its room stands what it held before this write. A lie is copied only
-// where it is read.
-#[tactic(auto, unfolding(crate::specs::Seen::room_of, crate::specs::Seen::was_of))]
-fn note_in(place: &mut MemWaiting, index: u32, room: &MemRoom)
-    ensures index { place.new.index ≡ index }
-    ensures was { (now : MemRoom) → Stays room.now now → was_of place.new now ≡ room_of room.now }
-{
-    place.index = index;
-    place.again = false;
-    place.reads = room.reads;
-    place.truth_on = room.truth_on;
-    place.before_on = room.before_on;
-    match room.reads {
-        MemReads::Lie => place.lie = room.lie,
-        _ => {}
+    // None waits any more.
+    fn clear(&mut self)
+        requires { AreWaits self.old }
+        ensures none { self.new.notes.items ≡ [] }
+        ensures waits { AreWaits self.new }
+    {
+        self.notes.clear();
+        self.kept.clear();
     }
-}
-
-// Keeps what a sector held, where it is the one that waits here and was written once. Which one waits here is told, so no
-// other's place is looked at.
-fn keep_in(place: &mut MemWaiting, listed: u32, index: u32, room: &MemRoom)
-    requires { place.old.index ≡ listed }
-    ensures { place.new ≡ kept_with index room.now place.old }
-{
-    if listed == index && !place.again {
-        place.truth.take_from(room.on(place.truth_on));
-        place.before.take_from(room.on(place.before_on));
-        place.again = true;
-    }
-}
-
-// Keeps what a sector held that is written again, with those listed that it is.
-fn keep_was(waiting: &mut [MemWaiting], indices: &[u32], index: u32, room: &MemRoom)
-    requires { IsListed indices.now waiting.old }
-    ensures { waiting.new ≡ map (kept_with index room.now) (take (length indices.now) waiting.old) ++ drop (length indices.now) waiting.old }
-{
-    for i in 0..indices.len() {
-        keep_in(&mut waiting[i], indices[i], index, room);
-    }
-}
-
-// Notes that a sector is to be written, behind those that wait.
-fn note(waiting: &mut Vec<MemWaiting>, indices: &mut Vec<u32>, index: u32, room: &MemRoom)
-    requires listed { IsListed indices.old.items waiting.old.items }
-    requires room { list_any (λ i. i == index) indices.old.items ≡ false → length indices.old.items < vec_capacity waiting.old }
-    requires list_room { list_any (λ i. i == index) indices.old.items ≡ false → length indices.old.items < vec_capacity indices.old }
-    ensures items { (rooms : List MemRoom) (now : MemRoom) → index < length rooms → slice_index_or rooms index blank_room ≡ room.now → Stays room.now now → waiting_of (slice_set rooms index now) (take (length indices.new.items) waiting.new.items) ≡ noted (waiting_of rooms (take (length indices.old.items) waiting.old.items)) index (room_of room.now) }
-    ensures listed { IsListed indices.new.items waiting.new.items }
-    ensures capacity { vec_capacity waiting.old ≤ vec_capacity waiting.new }
-    ensures list_capacity { vec_capacity indices.old ≤ vec_capacity indices.new }
-{
-    if is_waiting(index, indices) {
-        keep_was(waiting.as_mut_slice(), indices, index, room);
-        return;
-    }
-    let count = indices.len();
-    make_place(waiting, count);
-    note_in(&mut waiting[count], index, room);
-    indices.push_reserved(index);
 }
 
 impl MemFace {
@@ -532,8 +573,7 @@ impl MemFace {
     {
         Ok(MemFace {
             rooms: MemRooms::new(alloc)?,
-            indices: Vec::with_capacity(alloc, SECTORS as usize)?,
-            waiting: Vec::with_capacity(alloc, SECTORS as usize)?,
+            waits: MemWaits::new(alloc)?,
         })
     }
 
@@ -578,7 +618,9 @@ impl MemFace {
         ensures after { face_of self.new ≡ lied (face_of self.old) index (Some sector.now.bytes) }
         ensures face { IsMemFace self.new }
     {
-        self.rooms.show(index as usize, &sector.bytes);
+        let at = index as usize;
+        self.waits.keep(index, self.rooms.room(at));
+        self.rooms.show(at, &sector.bytes);
     }
 
     /// From now on a sector can't be read, until it is written.
@@ -598,12 +640,7 @@ impl MemFace {
         ensures face { IsMemFace self.new }
     {
         let at = index as usize;
-        note(
-            &mut self.waiting,
-            &mut self.indices,
-            index,
-            self.rooms.room(at),
-        );
+        self.waits.note(index, self.rooms.room(at));
         self.rooms.write(at, &from.bytes);
     }
 
@@ -612,7 +649,7 @@ impl MemFace {
         ensures after { face_of self.new ≡ after (face_of self.old) Sync }
         ensures face { IsMemFace self.new }
     {
-        self.indices.clear();
+        self.waits.clear();
     }
 
     /// The digit of the code by which a sector that waits is settled, 0 where it doesn't wait.
@@ -620,7 +657,7 @@ impl MemFace {
         requires { IsMemFace self.now }
         ensures { result ≡ digit_at code index (face_of self.now).waiting }
     {
-        digit(code, index, &self.waiting[..self.indices.len()])
+        digit(code, index, &self.waits.notes)
     }
 
     /// What a stop leaves of the sectors that wait.
@@ -629,7 +666,7 @@ impl MemFace {
         ensures after { face_of self.new ≡ settle code (face_of self.old) }
         ensures face { IsMemFace self.new }
     {
-        settle_all(code, &self.waiting[..self.indices.len()], &mut self.rooms);
-        self.indices.clear();
+        settle_all(code, &self.waits.notes, &self.waits.kept, &mut self.rooms);
+        self.waits.clear();
     }
 }

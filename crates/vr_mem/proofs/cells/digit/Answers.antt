@@ -1,6 +1,4 @@
-use Rattle.std.proofs.Common.{◌<◌, ◌∙◌, length, arith, sym, [], false}
-use Rattle.vr_disk.specs.declared.sector.Sector.{Sector}
-use Rattle.vr_mem.specs.declared.bytes.MemBytes.{MemBytes}
+use Rattle.std.proofs.Common.{◌<◌, ◌∙◌, length, arith, sym, None}
 use Rattle.vr_mem.specs.declared.cells.MemReads.TheVariants as reads
 use Rattle.vr_mem.specs.declared.cells.Shelf.TheVariants as shelf
 use Rattle.vr_mem.specs.declared.cells.MemWaiting.{MemWaiting}
@@ -8,24 +6,18 @@ use Rattle.std.proofs.lemmas.Bool.{eq-eqb, ne_eqb}
 use Rattle.vr_mem.proofs.Settling.{digit_here, digit_later, digit_past}
 use Rattle.vr_mem.proofs.cells.digit.Goals as goal
 
-abbrev no_sector : Sector
-no_sector = record { bytes = [] }
-
-abbrev no_bytes : MemBytes
-no_bytes = record { zeros = false; sector = no_sector }
-
 abbrev no_waiting : MemWaiting
-no_waiting = record { index = 0; again = false; reads = reads.Truth; truth_on = shelf.One; before_on = shelf.One; truth = no_bytes; before = no_bytes; lie = no_sector }
+no_waiting = record { index = 0; kept = None; reads = reads.Truth; truth_on = shelf.One; before_on = shelf.One }
 
 pub loop-w-preserved : goal.loop-w-preserved
-loop-w-preserved c rooms =
+loop-w-preserved c kept rooms =
     let l : c.loop-w.w-index < length c.args.waiting.now = omega arith in
-    sym (digit_later c.loop-w.rest c.args.index rooms c.args.waiting.now c.loop-w.w-index no_waiting l (ne_eqb _ _ c.if-w-index.false)) ∙ c.loop-w.invariant rooms
+    sym (digit_later c.loop-w.rest c.args.index kept rooms c.args.waiting.now c.loop-w.w-index no_waiting l (ne_eqb _ _ c.if-w-index.false)) ∙ c.loop-w.invariant kept rooms
 
 pub returns-then-w-index : goal.returns-then-w-index
-returns-then-w-index c rooms =
+returns-then-w-index c kept rooms =
     let l : c.loop-w.w-index < length c.args.waiting.now = omega arith in
-    sym (digit_here c.loop-w.rest c.args.index rooms c.args.waiting.now c.loop-w.w-index no_waiting l (eq-eqb _ _ c.if-w-index.true)) ∙ c.loop-w.invariant rooms
+    sym (digit_here c.loop-w.rest c.args.index kept rooms c.args.waiting.now c.loop-w.w-index no_waiting l (eq-eqb _ _ c.if-w-index.true)) ∙ c.loop-w.invariant kept rooms
 
 pub returns : goal.returns
-returns c rooms = sym (digit_past c.loop-w.rest c.args.index rooms c.args.waiting.now c.loop-w.w-index (omega arith)) ∙ c.loop-w.invariant rooms
+returns c kept rooms = sym (digit_past c.loop-w.rest c.args.index kept rooms c.args.waiting.now c.loop-w.w-index (omega arith)) ∙ c.loop-w.invariant kept rooms

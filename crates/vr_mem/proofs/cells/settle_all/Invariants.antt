@@ -5,7 +5,7 @@ use Rattle.vr_mem.proofs.cells.settle_all.Given as goal
 
 abbrev pub invariant-loop-w : goal.invariant-loop-w
 invariant-loop-w l = record {
-  same : settled l.rest (waiting_of (rooms_of l.rooms) (drop l.w-index l.waiting)) (seen l.rooms) ≡ settled l.code (waiting_of (rooms_of l.fn.rooms) l.waiting) (seen l.fn.rooms);
-  once : once (waiting_of (rooms_of l.rooms) (drop l.w-index l.waiting)) ≡ true;
+  same : settled l.rest (waiting_of l.kept (rooms_of l.rooms) (drop l.w-index l.waiting)) (seen l.rooms) ≡ settled l.code (waiting_of l.kept (rooms_of l.fn.rooms) l.waiting) (seen l.fn.rooms);
+  once : once (waiting_of l.kept (rooms_of l.rooms) (drop l.w-index l.waiting)) ≡ true;
   rooms : AreRooms l.rooms;
 }
