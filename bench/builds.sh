@@ -1,12 +1,17 @@
 #!/usr/bin/env bash
 # Compares two built programs by processor time, that of the program and of the system together: in plain replay of 200,000 lines over two
 # replicas, in replay of 100,000 lines view after view over three (bench/schedule.sh), and in `soak 7 60000`. Of each the two run in turn,
-# five times, on one processor, and the least counts. It prints both, and how many times the first one's the second takes.
+# on one processor, and the least counts. It prints both, and how many times the first one's the second takes.
 # It ends with status 1 where the two don't write the same, byte for byte.
-#   bench/builds.sh BEFORE AFTER     two programs, such as crates/vr_app/out/vr_app of two clones
+#   bench/builds.sh BEFORE AFTER [RUNS]     two programs, such as crates/vr_app/out/vr_app of two clones, and how often each runs: 1 to 99
+#                                           times, 5 unless told; where the machine's pace changes, five runs don't meet its best
 # Needs bash, awk and taskset.
 set -eu
-[ $# = 2 ] && [ -x "$1" ] && [ -x "$2" ] || { echo "usage: bench/builds.sh BEFORE AFTER, two programs" >&2; exit 2; }
+runs=${3:-5}
+[ $# -ge 2 ] && [ $# -le 3 ] && [ -x "$1" ] && [ -x "$2" ] && [[ $runs =~ ^[1-9][0-9]?$ ]] || {
+    echo "usage: bench/builds.sh BEFORE AFTER [RUNS], two programs, and 1 to 99" >&2
+    exit 2
+}
 before=$(realpath "$1")
 after=$(realpath "$2")
 cd "$(dirname "$0")/.."
@@ -27,9 +32,9 @@ run() {
 
 # compare NAME WORD..
 compare() {
-    local name=$1 least_before= least_after= time
+    local name=$1 least_before= least_after= time i
     shift
-    for _ in 1 2 3 4 5; do
+    for ((i = 0; i < runs; i++)); do
         time=$(run "$before" "$@")
         mv "$folder/output" "$folder/expected"
         [ -n "$least_before" ] && [ "$least_before" -le "$time" ] || least_before=$time
