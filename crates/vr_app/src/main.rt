@@ -5,7 +5,9 @@ use std::alloc::AllocError;
 use std::io::ErrorKind;
 use std::path::PathBuf;
 use std::process::ExitCode;
-use vr_real::{FileDisk, RealClock, RealLink, RealSpawner, StdSink, StdSource};
+use vr_real::{
+    FileDisk, RealClock, RealLink, RealSpawner, StdSink, StdSource, take_missing_streams,
+};
 use vr_status::Status;
 use vr_top::{finish, run};
 
@@ -27,8 +29,11 @@ fn own_path(rt: &HostRuntime) -> Result<Option<PathBuf>, AllocError> {
     }
 }
 
-/// Makes the objects of the outside, and runs over them.
+/// Makes the objects of the outside, and runs over them. Nothing is opened before each standard stream has its descriptor.
 fn run_outside(rt: &HostRuntime) -> Result<Status, AllocError> {
+    if !take_missing_streams() {
+        return Err(AllocError);
+    }
     let alloc = rt.alloc();
     let words = words(rt)?;
     let mut source = StdSource::new(rt.stdin());

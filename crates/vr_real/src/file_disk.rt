@@ -115,11 +115,6 @@ fn place(i: u32) -> u64 {
     u64::from(i) * SECTOR_SIZE as u64
 }
 
-/// A disk was called before its file was opened.
-fn not_attached() -> io::Error {
-    io::Error::from(ErrorKind::NotFound)
-}
-
 impl<R> FileDisk<R> {
     /// A disk without its file, which `attach` opens through the system that is handed in.
     pub fn new(system: R) -> FileDisk<R>
@@ -144,28 +139,26 @@ impl<R> FileDisk<R> {
         Ok(())
     }
 
+    /// The file, once it was opened.
+    fn opened(&self) -> io::Result<&File> {
+        self.file
+            .as_ref()
+            .ok_or(io::Error::from(ErrorKind::NotFound))
+    }
+
     /// Reads a sector from its place.
     fn read_at(&self, i: u32, to: &mut Sector) -> io::Result<()> {
-        match &self.file {
-            Some(file) => file.read_exact_at(&mut to.bytes, place(i)),
-            None => Err(not_attached()),
-        }
+        self.opened()?.read_exact_at(&mut to.bytes, place(i))
     }
 
     /// Writes a sector to its place.
     fn write_at(&self, i: u32, from: &Sector) -> io::Result<()> {
-        match &self.file {
-            Some(file) => file.write_all_at(&from.bytes, place(i)),
-            None => Err(not_attached()),
-        }
+        self.opened()?.write_all_at(&from.bytes, place(i))
     }
 
     /// Waits until the disk has what was written.
     fn sync_data(&self) -> io::Result<()> {
-        match &self.file {
-            Some(file) => file.sync_data(),
-            None => Err(not_attached()),
-        }
+        self.opened()?.sync_data()
     }
 }
 

@@ -30,8 +30,8 @@ const MUTE_MILLIS: u64 = 3000;
 /// How long a stream that has said something, and was silent since, keeps its place where another one needs it.
 const SILENT_MILLIS: u64 = 60_000;
 
-/// The stream at a port.
-#[derive(Drop)]
+/// The stream at a port, at first none.
+#[derive(Drop, Default)]
 pub struct Slot {
     stream: Option<TcpStream>,
     /// Whether something may be there to be read.
@@ -56,26 +56,12 @@ pub fn empty_slots(alloc: Global, count: usize) -> Result<Vec<Slot>, AllocError>
 {
     let mut slots = Vec::new(alloc);
     for _ in 0..count {
-        slots.push(Slot::empty())?;
+        slots.push(Slot::default())?;
     }
     Ok(slots)
 }
 
 impl Slot {
-    /// A port without a stream.
-    fn empty() -> Slot {
-        Slot {
-            stream: None,
-            ready: false,
-            stands: false,
-            over: false,
-            near: false,
-            heard: 0,
-            said: 0,
-            begun: None,
-        }
-    }
-
     /// The stream is there no more, and no poll has to tell so.
     pub fn leave(&mut self) {
         self.stream = None;

@@ -2,6 +2,7 @@
 ghost use Rattle.std.specs.Prelude.{◌≡◌, ◌≤◌, ◌+◌, ℕ, IfOk, IfSome, OnOk, OnErr, None, length, vec_len};
 ghost use Rattle.vr_edge.specs.Streaming.{IsPolled, IsPort};
 
+use crate::addresses::{address_of, addresses_of};
 use crate::counting::counted;
 use crate::slots::{
     ENTRANCE, OTHERS, Slot, begins_at, empty_slots, note, put_stream, read_ready, stands_at,
@@ -13,7 +14,7 @@ use mio::{Events, Interest, Poll, Token};
 use std::alloc::{AllocError, Global};
 use std::io;
 use std::io::ErrorKind;
-use std::net::{Net, SocketAddr, ToSocketAddrs};
+use std::net::{Net, SocketAddr};
 use std::time::{Clock, Duration};
 use vr_edge::{Polled, STREAM_ROOM, StreamFailed, Streams};
 
@@ -51,28 +52,6 @@ pub struct TcpStreams<R> {
     faults: u64,
     call_faults: u64,
     ghost few: { vec_len slots ≤ vec_len peers + 64 },
-}
-
-/// The first address that a text names behind its prefix.
-fn address_of<R: Net>(net: &R, text: &str) -> io::Result<SocketAddr> {
-    let Some(rest) = text.strip_prefix(PREFIX) else {
-        return Err(io::Error::from(ErrorKind::InvalidInput));
-    };
-    match rest.to_socket_addrs(net)?.next() {
-        Some(address) => Ok(address),
-        None => Err(io::Error::from(ErrorKind::InvalidInput)),
-    }
-}
-
-/// The addresses of all texts.
-fn addresses_of<R: Net>(alloc: Global, net: &R, texts: &Vec<String>) -> io::Result<Vec<SocketAddr>>
-    ensures { IfOk result (λ addresses. vec_len addresses ≡ vec_len texts.now) }
-{
-    let mut addresses = Vec::new(alloc);
-    for text in texts.iter() {
-        addresses.push(address_of(net, text.as_str())?)?;
-    }
-    Ok(addresses)
 }
 
 /// The address at which streams of others are taken in.
@@ -180,10 +159,10 @@ impl<R: Net + Clock + Drop> TcpStreams<R> {
         ensures faults { self.new.faults ≡ self.old.faults }
         ensures others { self.new.call_faults ≡ self.old.call_faults }
     {
-        let peers = addresses_of(self.alloc, &self.net, peers)?;
+        let peers = addresses_of(self.alloc, &self.net, PREFIX, peers)?;
         let poll = Poll::new(&self.net)?;
         if !own.is_empty() {
-            let mut listener = TcpListener::bind(&self.net, address_of(&self.net, own)?)?;
+            let mut listener = TcpListener::bind(&self.net, address_of(&self.net, PREFIX, own)?)?;
             poll.registry()
                 .register(&mut listener, Token(ENTRANCE), Interest::READABLE)?;
             self.listener = Some(listener);

@@ -2,12 +2,13 @@
 ghost use Rattle.std.specs.Prelude.{◌≡◌, ◌≤◌, None, vec_capacity};
 ghost use Rattle.vr_base.specs.Causes.{HasCause};
 
+use crate::addresses::{address_of, addresses_of};
 use crate::counting::counted;
 use crate::ports::{NOBODY, Ports};
 use std::alloc::{AllocError, Global};
 use std::io;
 use std::io::ErrorKind;
-use std::net::{IpAddr, Ipv4Addr, Ipv6Addr, Net, SocketAddr, ToSocketAddrs, UdpSocket};
+use std::net::{IpAddr, Ipv4Addr, Ipv6Addr, Net, SocketAddr, UdpSocket};
 use std::time::Duration;
 use vr_edge::{Link, LinkFailed, RECEIVE_ROOM, Received};
 
@@ -34,31 +35,10 @@ pub struct UdpLink<R> {
     send_faults: u64,
 }
 
-/// The first address that a text names.
-fn address_of<R: Net>(net: &R, text: &str) -> io::Result<SocketAddr> {
-    match text.to_socket_addrs(net)?.next() {
-        Some(address) => Ok(address),
-        None => Err(io::Error::from(ErrorKind::InvalidInput)),
-    }
-}
-
-/// The addresses of all texts.
-fn addresses_of<R: Net>(
-    alloc: Global,
-    net: &R,
-    texts: &Vec<String>,
-) -> io::Result<Vec<SocketAddr>> {
-    let mut addresses = Vec::new(alloc);
-    for text in texts.iter() {
-        addresses.push(address_of(net, text.as_str())?)?;
-    }
-    Ok(addresses)
-}
-
 /// The own address; without one, any of the kind that the peers have.
 fn own_address<R: Net>(net: &R, own: &str, peers: &Vec<SocketAddr>) -> io::Result<SocketAddr> {
     if !own.is_empty() {
-        return address_of(net, own);
+        return address_of(net, "", own);
     }
     match peers.first() {
         Some(SocketAddr::V6(_)) => Ok(SocketAddr::new(IpAddr::V6(Ipv6Addr::UNSPECIFIED), 0)),
@@ -150,7 +130,7 @@ impl<R: Net + Drop> UdpLink<R> {
         ensures faults { self.new.faults ≡ self.old.faults }
         ensures others { self.new.send_faults ≡ self.old.send_faults }
     {
-        let peers = addresses_of(self.alloc, &self.net, peers)?;
+        let peers = addresses_of(self.alloc, &self.net, "", peers)?;
         let own = own_address(&self.net, own, &peers)?;
         self.socket = Some(bind(&self.net, own)?);
         self.ports.set_peers(peers);
