@@ -78,15 +78,16 @@ fn renew_copies(file: &File) {
     }
 }
 
-/// The file with this name, opened and locked. It fails, and leaves the file as it is, while another open of the file has the
-/// lock: each open file has one of its own, which ends with it.
+/// The file with this name, opened and locked. It fails, and leaves what has that name as it is, where that is no plain file,
+/// as a folder, a pipe or a device, and while another open of the file has the lock: each open file has one of its own, which
+/// ends with it.
 fn open_locked<R: Files<File = File>>(files: &R, name: &str) -> io::Result<File> {
     let file = OpenOptions::new()
         .read(true)
         .write(true)
         .create(true)
         .open(files, name)?;
-    if file.try_lock().is_err() {
+    if !file.metadata()?.is_file() || file.try_lock().is_err() {
         return Err(io::Error::from(ErrorKind::WouldBlock));
     }
     Ok(file)
