@@ -1,6 +1,5 @@
-# Which program the scripts of this folder run: crates/vr_app/out/vr_app (made by `rt ci`), or the one that PROGRAM names. It is
-# sourced, and goes to the top of the repository; without the program it ends the script with status 2.
-[ -z "${PROGRAM:-}" ] || PROGRAM=$(realpath -m -- "$PROGRAM")
-cd "$(dirname "${BASH_SOURCE[0]}")/.." || exit 2
-program=${PROGRAM:-$PWD/crates/vr_app/out/vr_app}
-[ -f "$program" ] && [ -x "$program" ] || { echo "no program: rt ci makes $program" >&2; exit 2; }
+# Which program the scripts of this folder run, as command/program finds it. It is sourced, goes to the top of the repository, and leaves the
+# program as `program` and as PROGRAM, so that scripts called from there take the same; without one it ends the script with status 2.
+program=$("$(dirname "$(realpath -- "${BASH_SOURCE[0]}")")/../command/program") || exit 2
+export PROGRAM=$program
+cd "$(dirname "$(realpath -- "${BASH_SOURCE[0]}")")/.." || exit 2
