@@ -1,0 +1,154 @@
+"""What `nozhgiva` says of itself: its help, its version, a page for `man`, and what a shell completes; all from the table of subcommands."""
+
+import difflib
+import os
+import re
+import subprocess
+import sys
+from typing import List
+
+from command import commands
+from command.commands import Command
+
+ABOUT = "a Viewstamped Replication group whose replica is proved: build it, play it, run it, look after it"
+TWO_COMMANDS = (("nozhgiva run examples/put-get.txt", "see what it does: builds it first, where that wasn't done"),
+                ("nozhgiva test", "prove and test all of it"))
+VARIABLES = (("PROGRAM", "the path of the program that is run, in place of the one that is built or installed"),)
+COMPLETION = """# Completion for bash: put this where bash-completion looks, or say: eval "$(nozhgiva --completions)"
+_nozhgiva() {
+    local word=${COMP_WORDS[COMP_CWORD]}
+    if [ "$COMP_CWORD" = 1 ]; then
+        mapfile -t COMPREPLY < <(compgen -W '@NAMES@ help --help --version' -- "$word")
+        return
+    fi
+    local flags=--help
+    case ${COMP_WORDS[1]} in
+@CASES@
+    esac
+    case $word in
+        -*) mapfile -t COMPREPLY < <(compgen -W "$flags" -- "$word") ;;
+        *) mapfile -t COMPREPLY < <(compgen -f -- "$word") ;;
+    esac
+}
+complete -o filenames -F _nozhgiva nozhgiva ./nozhgiva
+"""
+
+
+def show(text: str) -> int:
+    """Writes a text to standard output; where that can't be written it says so, and the code is the program's for that."""
+    try:
+        sys.stdout.write(text)
+        sys.stdout.flush()
+        return 0
+    except OSError as error:
+        os.dup2(os.open(os.devnull, os.O_WRONLY), 1)  # what is left would be flushed at the end
+        print(f"nozhgiva: standard output can't be written: {error.strerror}", file=sys.stderr)
+        return 6
+    except AttributeError:
+        print("nozhgiva: standard output is closed", file=sys.stderr)
+        return 6
+
+
+def unknown(home: str, name: str) -> str:
+    names = [one.name for one in commands.all_there(home)]
+    near = difflib.get_close_matches(name, names, 1)
+    return f"no command `{name}`: {f'did you mean `{near[0]}`?' if near else 'see `nozhgiva --help`'}"
+
+
+def table(rows: "commands.Codes") -> str:
+    width = max(len(name) for name, _ in rows)
+    return "".join(f"  {name:<{width}}  {what}\n" for name, what in rows)
+
+
+def of_all(home: str) -> str:
+    parts = [f"nozhgiva: {ABOUT}\n\nusage: nozhgiva COMMAND [WORD..]\n"]
+    there = commands.all_there(home)
+    for group in commands.GROUPS:
+        rows = tuple((one.name, one.what) for one in there if one.group == group and (group != commands.BUILDING or is_clone(home)))
+        parts += [f"\n{group}\n{table(rows)}"] if rows else []
+    parts.append(f"\nFirst\n{table(TWO_COMMANDS)}" if is_clone(home) else "")
+    parts.append("\n`nozhgiva COMMAND --help` tells a command's words, an example and its exit codes; `nozhgiva --version` the version, commit, program and toolchain;\n"
+                 "`nozhgiva --man` a page for man; `nozhgiva --completions` what bash completes. PROGRAM=PATH names another program.\n")
+    return "".join(parts)
+
+
+def of_command(home: str, command: Command) -> str:
+    text = f"nozhgiva {command.name}: {command.what}\n\nwords\n"
+    text += "".join(f"  nozhgiva {command.name} {form}".rstrip() + "\n" for form in command.words.split(" | ")) if " | " in command.words and "[" not in command.words.split(" | ")[0][:1] else f"  nozhgiva {command.name} {command.words}".rstrip() + "\n"
+    text += f"{command.more}\n" if command.more else ""
+    text += f"\nexample\n  {command.example}\n\nexit codes\n{table(command.codes)}"
+    if not command.calls:
+        text += "  128 and more, in a shell: a signal ended it\n\nInput, output and code are the program's; docs/NODE.md and docs/SCHEDULE.md have all of it.\n"
+    if command.helps:
+        text += f"\nwhat {command.calls} says of itself\n" + own_help(home, command)
+    return text
+
+
+def own_help(home: str, command: Command) -> str:
+    ran = subprocess.run([os.path.join(home, command.calls), "--help"], stdin=subprocess.DEVNULL, stdout=subprocess.PIPE, stderr=subprocess.STDOUT, text=True, check=False)
+    return re.sub(r"(?m)^(?=.)", "  ", ran.stdout)
+
+
+def is_clone(home: str) -> bool:
+    return os.path.isdir(os.path.join(home, "crates"))
+
+
+def read_line(home: str, name: str) -> str:
+    try:
+        with open(os.path.join(home, name), encoding="utf-8") as file:
+            return file.readline().strip()
+    except OSError:
+        return ""
+
+
+def output_of(words: List[str], where: str) -> str:
+    try:
+        return subprocess.run(words, cwd=where, stdin=subprocess.DEVNULL, stdout=subprocess.PIPE, stderr=subprocess.DEVNULL, text=True, check=False).stdout.strip()
+    except OSError:
+        return ""
+
+
+def commit(home: str) -> str:
+    if not is_clone(home):
+        return read_line(home, "COMMIT") or "unknown"
+    found = output_of(["git", "rev-parse", "--short=12", "HEAD"], home)
+    return (found + (", changed" if output_of(["git", "status", "--porcelain", "-uno"], home) else "")) if found else "unknown"
+
+
+def version(home: str) -> str:
+    """Of the product, its commit, the program that is found, and the toolchain."""
+    from command import kit
+
+    found = output_of([os.path.join(home, "command", "program"), "--kind"], home)
+    kind, _, path = found.partition(" ")
+    said = {"": "none: `nozhgiva build` compiles one, `rt ci` proves it", "compiled": f"compiled, not proved: `rt ci` proves it ({path})", "given": f"the one that PROGRAM names ({path})",
+            "installed": f"{read_line(home, 'KIND') or 'not known whether proved'} ({path})"}.get(kind, f"{kind} ({path})")
+    return table((("nozhgiva", read_line(home, "VERSION") or "unknown"), ("commit", commit(home)), ("program", said), ("toolchain", kit.identity()))).replace("\n  ", "\n")[2:]
+
+
+def escaped(text: str) -> str:
+    """As roff wants it: no line that begins like a request, and no sign that means something else."""
+    return re.sub(r"(?m)^(?=[.'])", r"\\&", text.replace("\\", "\\e").replace("-", "\\-"))
+
+
+def man(home: str) -> str:
+    lines = ['.TH NOZHGIVA 1 "" "nozhgiva ' + escaped(read_line(home, "VERSION")) + '"', ".SH NAME", "nozhgiva \\- " + escaped(ABOUT), ".SH SYNOPSIS", ".B nozhgiva", "COMMAND [WORD..]", ".br",
+             ".B nozhgiva", "COMMAND \\-\\-help", ".SH COMMANDS"]
+    for one in commands.all_there(home):
+        lines += [".SS " + escaped(f"nozhgiva {one.name} {one.words}".rstrip()), escaped(one.what[0].upper() + one.what[1:] + ". " + one.more).rstrip(), ".PP", "Example:", ".PP", ".nf",
+                  escaped(one.example), ".fi", ".PP", "Exit codes:"]
+        for code, what in one.codes:
+            lines += [".TP", escaped(code), escaped(what)]
+    lines += [".SH ENVIRONMENT"]
+    for name, what in VARIABLES:
+        lines += [".TP", ".B " + name, escaped(what)]
+    return "\n".join(lines) + "\n"
+
+
+def completions(home: str) -> str:
+    there = commands.all_there(home)
+    cases = []
+    for one in there:
+        flags = sorted(set(re.findall(r"--[a-z0-9-]+", one.words)) | {"--help"})
+        cases.append(f"        {one.name}) flags='{' '.join(flags)}' ;;")
+    return COMPLETION.replace("@NAMES@", " ".join(one.name for one in there)).replace("@CASES@", "\n".join(cases))

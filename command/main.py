@@ -1,0 +1,76 @@
+"""What `nozhgiva` does with its words: it says what there is, or calls what the first one names."""
+
+import os
+import signal
+import subprocess
+import sys
+from typing import List, Tuple
+
+from command import commands, helping
+from command.commands import Command
+
+
+class NotThere(Exception):
+    """Something that is needed is missing, and it was said what."""
+
+
+def fail(text: str, status: int = 2) -> int:
+    print(f"nozhgiva: {text}", file=sys.stderr)
+    return status
+
+
+def find_program(home: str) -> Tuple[str, str]:
+    """The program's kind and path, as command/program finds it, which says on standard error which one it is, or that there is none."""
+    ran = subprocess.run([os.path.join(home, "command", "program"), "--kind"], stdout=subprocess.PIPE, text=True, check=False)
+    kind, _, path = ran.stdout.strip().partition(" ")
+    if ran.returncode:
+        raise NotThere
+    return kind, path
+
+
+def call(home: str, command: Command, words: List[str]) -> int:
+    """Gives this process over to a script, with the words as they stand."""
+    if command.needs_program:
+        os.environ["PROGRAM"] = find_program(home)[1]
+    path = os.path.join(home, command.calls)
+    signal.signal(signal.SIGPIPE, signal.SIG_DFL)
+    signal.signal(signal.SIGXFSZ, signal.SIG_DFL)
+    try:
+        os.execv(path, [path, *words])
+    except OSError as error:
+        return fail(f"{path} doesn't start: {error.strerror}; is what its first line names installed?")
+
+
+def run_command(home: str, name: str, words: List[str]) -> int:
+    command = commands.find(name)
+    if command is None:
+        return fail(helping.unknown(home, name))
+    if not commands.is_there(home, command):
+        return fail(f"{name} isn't part of this installation: there is no {command.calls}")
+    if words == ["--help"]:
+        return helping.show(helping.of_command(home, command))
+    if command.calls:
+        return call(home, command, words)
+    from command import handing  # what only these need isn't read for the others
+
+    kind, path = find_program(home)
+    return handing.hand_on(path, kind, name, words)
+
+
+def main(home: str, words: List[str]) -> int:
+    try:
+        if not words:
+            print(helping.of_all(home), end="", file=sys.stderr)
+            return 2
+        shown = {"--help": helping.of_all, "-h": helping.of_all, "help": helping.of_all, "--version": helping.version, "--man": helping.man, "--completions": helping.completions}
+        if words[0] in shown and len(words) == 1:
+            return helping.show(shown[words[0]](home))
+        if words[0] == "help":
+            return run_command(home, words[1], ["--help"]) if len(words) == 2 else fail("its words are help NAME")
+        if words[0].startswith("-"):
+            return fail(f"no word {words[0]}: see `nozhgiva --help`")
+        return run_command(home, words[0], words[1:])
+    except NotThere:
+        return 2
+    except KeyboardInterrupt:
+        return 130
