@@ -32,6 +32,7 @@ def call(home: str, command: Command, words: List[str]) -> int:
     """Gives this process over to a script, with the words as they stand."""
     if command.needs_program:
         os.environ["PROGRAM"] = find_program(home)[1]
+    os.environ["NOZHGIVA"] = sys.argv[0] if "/" in sys.argv[0] else "nozhgiva"
     path = os.path.join(home, command.calls)
     signal.signal(signal.SIGPIPE, signal.SIG_DFL)
     signal.signal(signal.SIGXFSZ, signal.SIG_DFL)

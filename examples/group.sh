@@ -1,7 +1,7 @@
 # What examples/cluster and examples/crash share: members of one group on loopback, and clients that ask it. It is sourced.
-. "$(dirname "${BASH_SOURCE[0]}")/program.sh"
+. "$(dirname "$(realpath -- "${BASH_SOURCE[0]}")")/program.sh"
 folder=$(mktemp -d) || exit 2
-port=$((20000 + ($$ * 7) % 9000))
+port=${PORT:-$((20000 + ($$ * 7) % 9000))}
 # Over TCP where SCHEME is tcp: and over UDP without it.
 scheme=${SCHEME:-}
 addresses="${scheme}127.0.0.1:$port ${scheme}127.0.0.1:$((port + 1)) ${scheme}127.0.0.1:$((port + 2))"
