@@ -1,0 +1,142 @@
+"""The checks outside the proofs: the table of them, and a run of some of them, each within its time."""
+
+import os
+import re
+import shutil
+import signal
+import subprocess
+import time
+from pathlib import Path
+from typing import Callable, FrozenSet, List, NamedTuple, Optional, Tuple
+
+TOP = Path(os.path.realpath(__file__)).parent.parent
+TABLE = TOP / "command" / "checks.txt"
+MARKS = frozenset(("quick", "time"))
+# A check that takes S seconds of a processor has this many on the clock: a machine may be busy and slow.
+LEAST, TIMES = 60, 10
+LEFT_OUT = re.compile(r"skipped '(.*)'|^\s*left out: (.*)", re.MULTILINE)
+LINES_OF_A_FAILURE = 60
+
+
+class Check(NamedTuple):
+    name: str
+    seconds: int
+    needs: Tuple[str, ...]
+    marks: FrozenSet[str]
+    command: Tuple[str, ...]
+
+
+def words_of(text: str) -> Tuple[str, ...]:
+    return () if text == "-" else tuple(text.split(","))
+
+
+def read_table(path: Path = TABLE) -> List[Check]:
+    checks = []
+    for line in path.read_text(encoding="utf-8").splitlines():
+        if line and not line.startswith("#"):
+            name, seconds, needs, marks, *command = line.split()
+            if not set(words_of(marks)) <= MARKS or not command:
+                raise ValueError(f"{path}: {line}")
+            checks.append(Check(name, int(seconds), words_of(needs), frozenset(words_of(marks)), tuple(command)))
+    return checks
+
+
+def find_program() -> Optional[str]:
+    """The program that the checks use, which says on standard error which one it is; None where there is none."""
+    ran = subprocess.run([str(TOP / "command" / "program")], stdout=subprocess.PIPE, stderr=subprocess.PIPE, text=True, check=False)
+    return ran.stdout.strip() or None
+
+
+def lacks(check: Check, program: Optional[str]) -> Optional[str]:
+    """What a check needs and there isn't."""
+    for need in check.needs:
+        if need == "program":
+            missing = program is None
+        elif need == "root":
+            missing = os.geteuid() != 0
+        else:
+            missing = not any(map(shutil.which, need.split("/")))
+        if missing:
+            return f"no {need}" if need != "root" else "not root"
+    return None
+
+
+class Run:
+    """A run of checks: what passed, what failed, and what was left out and why."""
+
+    def __init__(self, top: Path, folder: str, until: float, say: Callable[[str], None]) -> None:
+        self.top, self.folder, self.until, self.say = top, folder, until, say
+        self.passed, self.failed, self.left_out = 0, 0, []  # type: int, int, List[str]
+        self.program = find_program()
+        self.env = {**os.environ, "PYTHONDONTWRITEBYTECODE": "1", "TMPDIR": folder, **({"PROGRAM": self.program} if self.program else {})}
+
+    def all_of(self, checks: List[Check]) -> None:
+        before = self.status()
+        self.say(f"checks: the program is {self.program or 'missing'}")
+        for check in checks:
+            why = lacks(check, self.program) or ("no time" if self.left() <= 0 else None)
+            if why:
+                self.leave_out(check, why)
+            else:
+                self.one(check)
+        if self.status() != before:
+            self.failed += 1
+            self.say(f"clone: FAILED: something is left in it, or changed: {self.status()}")
+
+    def left(self) -> float:
+        return self.until - time.monotonic()
+
+    def status(self) -> str:
+        """What isn't committed in the clone, since a check may leave nothing there."""
+        if shutil.which("git") is None:
+            return ""
+        return subprocess.run(["git", "status", "--porcelain"], cwd=self.top, stdout=subprocess.PIPE, stderr=subprocess.DEVNULL, text=True, check=False).stdout
+
+    def leave_out(self, check: Check, why: str) -> None:
+        self.left_out.append(f"{check.name}: {why}")
+        self.say(f"{check.name}: left out: {why}")
+
+    def one(self, check: Check) -> None:
+        """Runs a check, and once more where it rests on time and failed."""
+        for is_last in (True,) if "time" not in check.marks else (False, True):
+            begun = time.monotonic()
+            status, text = self.ask(check)
+            took = f"{time.monotonic() - begun:.0f} s"
+            if status == 0:
+                self.passed += 1
+                self.left_out += sorted({f"{check.name}: {found[0] or found[1]}" for found in LEFT_OUT.findall(text)})
+                self.say(f"{check.name}: passed in {took}")
+                return
+            if status is None and self.left() <= 0:
+                self.leave_out(check, f"no time (it was cut after {took})")
+                return
+            self.tell(check, status, text, took, is_last)
+        self.failed += 1
+
+    def tell(self, check: Check, status: Optional[int], text: str, took: str, is_last: bool) -> None:
+        how = "it hung" if status is None else f"status {status}"
+        print(*text.splitlines()[-LINES_OF_A_FAILURE:], sep="\n")
+        self.say(f"{check.name}: {'FAILED' if is_last else 'failed, and is tried once more'}: {how}, after {took}")
+
+    def ask(self, check: Check) -> Tuple[Optional[int], str]:
+        """Runs its command once: its status and what it said. None where it took too long, and all that it started is ended then."""
+        with open(os.path.join(self.folder, f"{check.name}.said"), "w+", encoding="utf-8", errors="replace") as said:
+            child = subprocess.Popen(check.command, cwd=self.top, env=self.env, stdin=subprocess.DEVNULL, stdout=said, stderr=said, start_new_session=True)
+            try:
+                status: Optional[int] = child.wait(max(1.0, min(self.left(), LEAST + TIMES * check.seconds)))
+            except subprocess.TimeoutExpired:
+                status = None
+            finally:
+                end_all(child)
+            said.seek(0)
+            return status, said.read()
+
+
+def end_all(child: "subprocess.Popen[bytes]") -> None:
+    """Ends a command's whole group: first by SIGTERM, so that it can end what it started, then by SIGKILL."""
+    for number in (signal.SIGTERM, signal.SIGKILL):
+        try:
+            os.killpg(child.pid, number)
+            child.wait(5)
+        except (ProcessLookupError, subprocess.TimeoutExpired):
+            pass
