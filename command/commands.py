@@ -23,7 +23,7 @@ FILE_CODES: Codes = (
 
 
 class Command(NamedTuple):
-    """One subcommand. `calls` is a script of this repository, by its path; without one the word is the program's own."""
+    """One subcommand. `words` are its forms, a line each; `calls` is a script, by its path; without one the word is the program's own."""
 
     name: str
     group: str
@@ -40,7 +40,7 @@ class Command(NamedTuple):
 COMMANDS: Tuple[Command, ...] = (
     Command("build", BUILDING, "compiles the program without proving anything, in some two minutes of a processor, as out/vr_app", "[--module FILE]", "nozhgiva build",
             (("0", "it is built"), ("1", "the sources are refused"), WORDS), "command/build", True),
-    Command("test", BUILDING, "proves and tests everything (rt ci), then runs the checks outside the proofs; the last line counts both", "[--quick] [--list] [NAME..]",
+    Command("test", BUILDING, "proves and tests everything (rt ci), then runs the checks outside the proofs; the last line counts both", "[--quick]\n--checks\n--list\nNAME..",
             "nozhgiva test --quick", (("0", "all passed"), ("1", "something failed"), WORDS), "command/test", True),
     Command("run", PLAYING, "prints each line of a schedule with what it gives, indented under it; where a line is refused it says why", "[--whole] [EXAMPLE]",
             "nozhgiva run examples/put-get.txt", (("0", "each line was taken"), ("1", "it can't be built"), WORDS, ("3", "a line is refused: it says why")), "examples/run",
@@ -48,12 +48,12 @@ COMMANDS: Tuple[Command, ...] = (
     Command("replay", PLAYING, "plays a schedule without comments from standard input, and writes what the replicas put out", "< SCHEDULE", "printf 'cluster 2\\ntick 0\\n' | nozhgiva replay",
             (("0", "each line was taken"), USAGE, ("3", "a line is refused"), ("5", "standard input can't be read"), OUTPUT, MEMORY)),
     Command("soak", PLAYING, "makes a schedule from a number, plays it, and writes a summary", "SEED COUNT", "nozhgiva soak 7 2000", (("0", "done"), USAGE, OUTPUT, MEMORY)),
-    Command("explore", PLAYING, "makes a page of a run, one file that any browser shows, on standard output", "FILE | --members LINES..",
+    Command("explore", PLAYING, "makes a page of a run, one file that any browser shows, on standard output", "FILE\n--members LINES..",
             "nozhgiva explore examples/damaged-copy.txt > run.html", (("0", "the page is written"), WORDS, ("3", "FILE can't be shown")), "examples/explore"),
     Command("draw", PLAYING, "draws a run as one picture, SVG, on standard output", "FILE", "nozhgiva draw examples/damaged-copy.txt > run.svg",
             (("0", "the picture is written"), ("1", "FILE can't be drawn"), WORDS), "examples/draw"),
     Command("play", PLAYING, "plays with a group in a browser", "", "nozhgiva play", CHECKED, "examples/play", True, needs_program=True),
-    Command("cluster", RUNNING, "runs three members on this machine until Ctrl-C, and prints a line to ask them", "[--v2] [--tcp] [--lines] [--port N] | --show [--v2] [--tcp]",
+    Command("cluster", RUNNING, "runs three members on this machine until Ctrl-C, and prints a line to ask them", "[--v2] [--tcp] [--lines] [--port N]\n--show [--v2] [--tcp]",
             "nozhgiva cluster", (("0", "ended by Ctrl-C, or shown"), ("1", "a member doesn't start, or something isn't as it should be"), WORDS), "examples/cluster", True, needs_program=True),
     Command("node", RUNNING, "runs one member of a group on a data file", "CLUSTER REPLICA FILE TURNS ADDR.. [--fresh [--careful] [--v2]]",
             "nozhgiva node 5 0 /var/lib/vr/0 18446744073709551615 10.0.0.1:4000 10.0.0.2:4000 10.0.0.3:4000 > /dev/null",
@@ -76,7 +76,7 @@ COMMANDS: Tuple[Command, ...] = (
     Command("status", OPERATING, "shows a whole group", "", "nozhgiva status", CHECKED, "operate/status", True, needs_program=True),
     Command("inspect", OPERATING, "tells what a member's data file holds, and what of it is damaged; changes nothing", "FILE [keys | health]", "nozhgiva inspect /var/lib/vr/0",
             (("0", "a member's file was read"), ("1", "it wasn't, or it is damaged"), USAGE), "operate/inspect"),
-    Command("roll", OPERATING, "restarts the members of a group one after the other", "N --sockets PATH | N --health COMMAND --restart COMMAND", "nozhgiva roll 3 --sockets /var/lib/vr/{}.socket",
+    Command("roll", OPERATING, "restarts the members of a group one after the other", "N --sockets PATH [OPTIONS]\nN --health COMMAND --restart COMMAND [OPTIONS]", "nozhgiva roll 3 --sockets /var/lib/vr/{}.socket",
             (("0", "all were restarted"), ("1", "it stopped, and says why"), WORDS), "operate/roll", True),
     Command("watch", OPERATING, "reads a member's lines and writes them with times, without what repeats", "[--log PATH] < LINES", "nozhgiva node .. | nozhgiva watch --log /var/log/vr/0.log",
             (("0", "the lines ended"), WORDS), "operate/watch", True),

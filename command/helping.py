@@ -1,4 +1,4 @@
-"""What `nozhgiva` says of itself: its help, its version, a page for `man`, and what a shell completes; all from the table of subcommands."""
+"""What `nozhgiva` says of itself: its help, by the table of subcommands, and its version."""
 
 import difflib
 import os
@@ -10,29 +10,9 @@ from typing import List
 from command import commands
 from command.commands import Command
 
-ABOUT = "a Viewstamped Replication group whose replica is proved: build it, play it, run it, look after it"
+ABOUT = "one command for a replicated table of keys and values whose replica is proved: build it, play it, run it, look after it"
 TWO_COMMANDS = (("nozhgiva run examples/put-get.txt", "see what it does: builds it first, where that wasn't done"),
                 ("nozhgiva test", "prove and test all of it"))
-VARIABLES = (("PROGRAM", "the path of the program that is run, in place of the one that is built or installed"),)
-COMPLETION = """# Completion for bash: put this where bash-completion looks, or say: eval "$(nozhgiva --completions)"
-_nozhgiva() {
-    local word=${COMP_WORDS[COMP_CWORD]}
-    if [ "$COMP_CWORD" = 1 ]; then
-        mapfile -t COMPREPLY < <(compgen -W '@NAMES@ help --help --version' -- "$word")
-        return
-    fi
-    local flags=--help
-    case ${COMP_WORDS[1]} in
-@CASES@
-    esac
-    case $word in
-        -*) mapfile -t COMPREPLY < <(compgen -W "$flags" -- "$word") ;;
-        *) mapfile -t COMPREPLY < <(compgen -f -- "$word") ;;
-    esac
-}
-complete -o filenames -F _nozhgiva nozhgiva ./nozhgiva
-"""
-
 
 def show(text: str) -> int:
     """Writes a text to standard output; where that can't be written it says so, and the code is the program's for that."""
@@ -72,9 +52,12 @@ def of_all(home: str) -> str:
     return "".join(parts)
 
 
+def forms(command: Command) -> str:
+    return "".join(f"  nozhgiva {command.name} {form}".rstrip() + "\n" for form in command.words.split("\n"))
+
+
 def of_command(home: str, command: Command) -> str:
-    text = f"nozhgiva {command.name}: {command.what}\n\nwords\n"
-    text += "".join(f"  nozhgiva {command.name} {form}".rstrip() + "\n" for form in command.words.split(" | ")) if " | " in command.words and "[" not in command.words.split(" | ")[0][:1] else f"  nozhgiva {command.name} {command.words}".rstrip() + "\n"
+    text = f"nozhgiva {command.name}: {command.what}\n\nwords\n{forms(command)}"
     text += f"{command.more}\n" if command.more else ""
     text += f"\nexample\n  {command.example}\n\nexit codes\n{table(command.codes)}"
     if not command.calls:
@@ -124,31 +107,3 @@ def version(home: str) -> str:
     said = {"": "none: `nozhgiva build` compiles one, `rt ci` proves it", "compiled": f"compiled, not proved: `rt ci` proves it ({path})", "given": f"the one that PROGRAM names ({path})",
             "installed": f"{read_line(home, 'KIND') or 'not known whether proved'} ({path})"}.get(kind, f"{kind} ({path})")
     return table((("nozhgiva", read_line(home, "VERSION") or "unknown"), ("commit", commit(home)), ("program", said), ("toolchain", kit.identity()))).replace("\n  ", "\n")[2:]
-
-
-def escaped(text: str) -> str:
-    """As roff wants it: no line that begins like a request, and no sign that means something else."""
-    return re.sub(r"(?m)^(?=[.'])", r"\\&", text.replace("\\", "\\e").replace("-", "\\-"))
-
-
-def man(home: str) -> str:
-    lines = ['.TH NOZHGIVA 1 "" "nozhgiva ' + escaped(read_line(home, "VERSION")) + '"', ".SH NAME", "nozhgiva \\- " + escaped(ABOUT), ".SH SYNOPSIS", ".B nozhgiva", "COMMAND [WORD..]", ".br",
-             ".B nozhgiva", "COMMAND \\-\\-help", ".SH COMMANDS"]
-    for one in commands.all_there(home):
-        lines += [".SS " + escaped(f"nozhgiva {one.name} {one.words}".rstrip()), escaped(one.what[0].upper() + one.what[1:] + ". " + one.more).rstrip(), ".PP", "Example:", ".PP", ".nf",
-                  escaped(one.example), ".fi", ".PP", "Exit codes:"]
-        for code, what in one.codes:
-            lines += [".TP", escaped(code), escaped(what)]
-    lines += [".SH ENVIRONMENT"]
-    for name, what in VARIABLES:
-        lines += [".TP", ".B " + name, escaped(what)]
-    return "\n".join(lines) + "\n"
-
-
-def completions(home: str) -> str:
-    there = commands.all_there(home)
-    cases = []
-    for one in there:
-        flags = sorted(set(re.findall(r"--[a-z0-9-]+", one.words)) | {"--help"})
-        cases.append(f"        {one.name}) flags='{' '.join(flags)}' ;;")
-    return COMPLETION.replace("@NAMES@", " ".join(one.name for one in there)).replace("@CASES@", "\n".join(cases))

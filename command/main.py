@@ -6,7 +6,7 @@ import subprocess
 import sys
 from typing import List, Tuple
 
-from command import commands, helping
+from command import commands, helping, manual
 from command.commands import Command
 
 
@@ -63,7 +63,7 @@ def main(home: str, words: List[str]) -> int:
         if not words:
             print(helping.of_all(home), end="", file=sys.stderr)
             return 2
-        shown = {"--help": helping.of_all, "-h": helping.of_all, "help": helping.of_all, "--version": helping.version, "--man": helping.man, "--completions": helping.completions}
+        shown = {"--help": helping.of_all, "-h": helping.of_all, "help": helping.of_all, "--version": helping.version, "--man": manual.man, "--completions": manual.completions}
         if words[0] in shown and len(words) == 1:
             return helping.show(shown[words[0]](home))
         if words[0] == "help":
