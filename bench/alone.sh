@@ -1,5 +1,5 @@
 #!/usr/bin/env bash
-# Measures a group of one member of the built program (crates/vr_app/out/vr_app, or PROGRAM), with a file of version 2 in FOLDER, asked by one
+# Measures a group of one member of the built program (as command/program finds it), with a file of version 2 in FOLDER, asked by one
 # client on loopback, one put of 100 bytes after the other; and in turn with it, on the same disk, SQLite with the same puts, each a transaction
 # of its own that is synced (bench/node/sqlite.c): with its write-ahead log, and with the journal that it deletes. Of each, puts a second, and
 # of one put the median, the 99th of 100 and the mean; then the syncs a put, by strace. SQLite is asked by a call in its own process.
@@ -8,8 +8,7 @@
 # (chrt -f 10 bench/alone.sh).
 set -u
 cd "$(dirname "$0")/.." || exit 2
-program=${PROGRAM:-$PWD/crates/vr_app/out/vr_app}
-[ -x "$program" ] || { echo "no program: rt ci makes $program" >&2; exit 2; }
+program=$(command/program) || exit 2
 folder=$(mktemp -d "${1:-/tmp}/alone.XXXXXX") || exit 2
 puts=${2:-2000}
 address=127.0.0.1:$((21000 + ($$ * 7) % 8000))

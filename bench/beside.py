@@ -24,7 +24,7 @@ import time
 from pathlib import Path
 
 ROOT = Path(__file__).resolve().parent.parent
-PROGRAM = os.environ.get("PROGRAM") or str(ROOT / "crates/vr_app/out/vr_app")
+PROGRAM = subprocess.run([ROOT / "command" / "program"], stdout=subprocess.PIPE, text=True).stdout.strip() or sys.exit(2)
 SIZE = 3
 VALUE = "v" * 100
 PAUSE = 0.05

@@ -1,5 +1,5 @@
 #!/usr/bin/env bash
-# Counts the blocks of 64 bytes that the built program (crates/vr_app/out/vr_app, or the one that PROGRAM names) digests a line: the calls
+# Counts the blocks of 64 bytes that the built program (as command/program finds it) digests a line: the calls
 # of SHA-256's compression under valgrind --tool=callgrind, in plain replay over two replicas, in replay view after view over three
 # (bench/schedule.sh), and in `soak` from the seeds 0 and 7. These are what 10,000 lines take more than one, so the start doesn't count.
 # Beside them it prints how many are needed, and how many times these are taken.
@@ -10,8 +10,7 @@
 # Needs bash, awk and valgrind.
 set -eu
 cd "$(dirname "$0")/.."
-program=${PROGRAM:-$PWD/crates/vr_app/out/vr_app}
-[ -x "$program" ] || { echo "no program: rt ci makes $program" >&2; exit 2; }
+program=$(command/program) || exit 2
 folder=$(mktemp -d)
 trap 'rm -rf "$folder"' EXIT
 lines=10000

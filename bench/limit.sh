@@ -1,11 +1,11 @@
 #!/usr/bin/env bash
-# A schedule has at most 1,000,000 lines: runs the built program (crates/vr_app/out/vr_app, or the one that PROGRAM names) on a group of
+# A schedule has at most 1,000,000 lines: runs the built program (as command/program finds it) on a group of
 # two and 1,000,000 lines after the first, of which it refuses the last, and on the same without that one. It ends with status 1 where the
 # program ends otherwise or writes anything.
 #   bench/limit.sh
 set -eu
 cd "$(dirname "$0")/.."
-program=${PROGRAM:-$PWD/crates/vr_app/out/vr_app}
+program=$(command/program) || exit 2
 
 # schedule LINES: `cluster 2`, and so many times that a replica is started which runs
 schedule() { awk -v lines="$1" 'BEGIN { print "cluster 2"; for (i = 0; i < lines; i++) print "start 0" }'; }

@@ -1,5 +1,5 @@
 #!/usr/bin/env bash
-# How long a migration of a member's file takes, by the built program (crates/vr_app/out/vr_app, or PROGRAM), beside a small C program that makes
+# How long a migration of a member's file takes, by the built program (as command/program finds it), beside a small C program that makes
 # its 597 calls on a copy of the same file (bench/node/moves.c), in turn, nine times each, on the disk of FOLDER; the median of each: from the
 # first write to the end of the last sync (bench/node/span.c), and whole, from the start of the program to its end. The program reads the
 # file's sectors from the disk itself before it begins, and judges each prepare before it writes it; the C program reads nothing.
@@ -8,8 +8,7 @@
 # compiler.
 set -u
 cd "$(dirname "$0")/.." || exit 2
-program=${PROGRAM:-$PWD/crates/vr_app/out/vr_app}
-[ -x "$program" ] || { echo "no program: rt ci makes $program" >&2; exit 2; }
+program=$(command/program) || exit 2
 folder=$(mktemp -d "${1:-/tmp}/migrate.XXXXXX") || exit 2
 member=
 stop() { [ -z "$member" ] || { kill "$member"; wait "$member"; } 2> /dev/null; member=; }

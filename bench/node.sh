@@ -1,5 +1,5 @@
 #!/usr/bin/env bash
-# Measures a group of three members of the built program (crates/vr_app/out/vr_app, or PROGRAM) on loopback, each with a file in FOLDER, beside
+# Measures a group of three members of the built program (as command/program finds it) on loopback, each with a file in FOLDER, beside
 # the floor of the rules on this machine in the same run: three members of a small C program that make the same calls with no protocol between
 # them (bench/node/floor.c). For 1, 2, 4 and 8 clients, each with one put of 100 bytes after the other: puts a second, and of one put the median,
 # the 99th of 100 and the mean. Then the same puts on a group of three of etcd, where it is installed, each at its leader over its own protocol;
@@ -10,8 +10,7 @@
 # Where other work goes on, run all of it at real-time priority (chrt -f 10 bench/node.sh): else a sync's end waits for time slices.
 set -u
 cd "$(dirname "$0")/.." || exit 2
-program=${PROGRAM:-$PWD/crates/vr_app/out/vr_app}
-[ -x "$program" ] || { echo "no program: rt ci makes $program" >&2; exit 2; }
+program=$(command/program) || exit 2
 folder=$(mktemp -d "${1:-/tmp}/node.XXXXXX") || exit 2
 puts=${2:-2000}
 port=$((21000 + ($$ * 7) % 8000))

@@ -1,5 +1,5 @@
 #!/usr/bin/env bash
-# Measures the built program (crates/vr_app/out/vr_app, or the one that PROGRAM names) on schedules of 10,000, 100,000 and 900,000
+# Measures the built program (as command/program finds it) on schedules of 10,000, 100,000 and 900,000
 # lines (bench/schedule.sh): plain ones over groups of 2 and of 6, and one over 3 with view changes, stops, starts and disks that lie. It
 # prints lines per second and peak memory of whole runs, and under valgrind --tool=callgrind, at 10,000 and 100,000 lines, instructions
 # per line and the ten functions that take most. It ends with status 1 where the work per line grows with the number of lines before it:
@@ -8,7 +8,7 @@
 # Needs bash, awk, GNU time (/usr/bin/time) and valgrind.
 set -eu
 cd "$(dirname "$0")/.."
-program=${PROGRAM:-$PWD/crates/vr_app/out/vr_app}
+program=$(command/program) || exit 2
 folder=${1:-$(mktemp -d)}
 mkdir -p "$folder"
 [ $# -gt 0 ] || trap 'rm -rf "$folder"' EXIT

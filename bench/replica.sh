@@ -1,12 +1,11 @@
 #!/usr/bin/env bash
-# Counts the instructions of steps of a replica in the built program (crates/vr_app/out/vr_app, or PROGRAM): what the last lines of a schedule
+# Counts the instructions of steps of a replica in the built program (as command/program finds it): what the last lines of a schedule
 # add within the function that hands an event to a member, without those of making its disk lie. Beside them what the steps need: the
 # digests and the calls of the disk that they make; and how many times that the steps take.
 # Needs bash, awk and valgrind.
 set -eu
 cd "$(dirname "$0")/.."
-program=${PROGRAM:-$PWD/crates/vr_app/out/vr_app}
-[ -x "$program" ] || { echo "no program: rt ci makes $program" >&2; exit 2; }
+program=$(command/program) || exit 2
 folder=$(mktemp -d)
 trap 'rm -rf "$folder"' EXIT
 

@@ -1,5 +1,5 @@
 #!/usr/bin/env bash
-# Measures `soak` of the built program (crates/vr_app/out/vr_app): events a second and peak memory of whole runs of 10,000, 100,000 and
+# Measures `soak` of the built program (as command/program finds it): events a second and peak memory of whole runs of 10,000, 100,000 and
 # 999,999 events, the best of three, and instructions an event under valgrind --tool=callgrind at 10,000 and 100,000, beside those
 # that the functions of SHA-256 take. It ends with status 1 where the work an event grows: more than 1.2 times the instructions an
 # event at 100,000 as at 10,000.
@@ -7,7 +7,7 @@
 # Needs bash, awk, GNU time (/usr/bin/time) and valgrind.
 set -eu
 cd "$(dirname "$0")/.."
-program=$PWD/crates/vr_app/out/vr_app
+program=$(command/program) || exit 2
 folder=$(mktemp -d)
 trap 'rm -rf "$folder"' EXIT
 [ $# -gt 0 ] || set -- 0 3 7

@@ -1,5 +1,6 @@
 """The checks outside the proofs: the table of them, and a run of some of them, each within its time."""
 
+import collections
 import os
 import re
 import shutil
@@ -14,7 +15,7 @@ TABLE = TOP / "command" / "checks.txt"
 MARKS = frozenset(("quick", "time"))
 # A check that takes S seconds of a processor has this many on the clock: a machine may be busy and slow.
 LEAST, TIMES = 60, 10
-LEFT_OUT = re.compile(r"skipped '(.*)'|^\s*left out: (.*)", re.MULTILINE)
+LEFT_OUT = re.compile(r".*skipped '(.*)'|\s*left out: (.*)")
 LINES_OF_A_FAILURE = 60
 
 
@@ -61,6 +62,13 @@ def lacks(check: Check, program: Optional[str]) -> Optional[str]:
     return None
 
 
+def parts_left_out(text: str) -> List[str]:
+    """Why a check left out parts of itself, by its output, and how many for each reason."""
+    found = (LEFT_OUT.match(line) for line in text.splitlines())
+    counts = collections.Counter(one[1] or one[2] for one in found if one)
+    return [f"{count} of its tests: {why}" if count > 1 else why for why, count in sorted(counts.items())]
+
+
 class Run:
     """A run of checks: what passed, what failed, and what was left out and why."""
 
@@ -104,7 +112,7 @@ class Run:
             took = f"{time.monotonic() - begun:.0f} s"
             if status == 0:
                 self.passed += 1
-                self.left_out += sorted({f"{check.name}: {found[0] or found[1]}" for found in LEFT_OUT.findall(text)})
+                self.left_out += [f"{check.name}: {why}" for why in parts_left_out(text)]
                 self.say(f"{check.name}: passed in {took}")
                 return
             if status is None and self.left() <= 0:

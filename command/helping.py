@@ -10,7 +10,7 @@ from typing import List
 from command import commands
 from command.commands import Command
 
-ABOUT = "one command for a replicated table of keys and values whose replica is proved: build it, play it, run it, look after it"
+ABOUT = "builds, plays, runs and looks after a small replicated table of keys and values, whose safety is proved"
 TWO_COMMANDS = (("nozhgiva run examples/put-get.txt", "see what it does: builds it first, where that wasn't done"),
                 ("nozhgiva test", "prove and test all of it"))
 

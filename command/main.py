@@ -6,8 +6,11 @@ import subprocess
 import sys
 from typing import List, Tuple
 
-from command import commands, helping, manual
+from command import commands, helping
 from command.commands import Command
+
+
+TEXTS = ("--help", "-h", "help", "--version", "--man", "--completions")
 
 
 class NotThere(Exception):
@@ -58,14 +61,23 @@ def run_command(home: str, name: str, words: List[str]) -> int:
     return handing.hand_on(path, kind, name, words)
 
 
+def text_of(home: str, word: str) -> str:
+    if word == "--version":
+        return helping.version(home)
+    if word in ("--man", "--completions"):
+        from command import manual
+
+        return manual.man(home) if word == "--man" else manual.completions(home)
+    return helping.of_all(home)
+
+
 def main(home: str, words: List[str]) -> int:
     try:
         if not words:
             print(helping.of_all(home), end="", file=sys.stderr)
             return 2
-        shown = {"--help": helping.of_all, "-h": helping.of_all, "help": helping.of_all, "--version": helping.version, "--man": manual.man, "--completions": manual.completions}
-        if words[0] in shown and len(words) == 1:
-            return helping.show(shown[words[0]](home))
+        if words[0] in TEXTS and len(words) == 1:
+            return helping.show(text_of(home, words[0]))
         if words[0] == "help":
             return run_command(home, words[1], ["--help"]) if len(words) == 2 else fail("its words are help NAME")
         if words[0].startswith("-"):

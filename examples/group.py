@@ -1,5 +1,4 @@
-"""What the Python scripts of this folder share: the built program, and a group of three members on this machine. The program is
-crates/vr_app/out/vr_app (made by `rt ci`), or the one that PROGRAM names."""
+"""What the Python scripts of this folder share: the built program, as command/program finds it, and a group of three members on this machine."""
 import os
 import pathlib
 import shutil
@@ -14,12 +13,11 @@ TURNS = "1000000000"
 
 
 def program():
-    """The built program; without it the script ends."""
-    path = os.path.abspath(os.environ.get("PROGRAM") or f"{TOP}/crates/vr_app/out/vr_app")
-    if not (os.path.isfile(path) and os.access(path, os.X_OK)):
-        print(f"no program: rt ci makes {path}", file=sys.stderr)
+    """The program; without it the script ends. What there is, or isn't, is said on standard error."""
+    found = subprocess.run([f"{TOP}/command/program"], stdout=subprocess.PIPE, text=True)
+    if found.returncode:
         sys.exit(2)
-    return path
+    return found.stdout.strip()
 
 
 def fail(what):

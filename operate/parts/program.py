@@ -1,20 +1,22 @@
-"""The built program, for what plays or tries it: crates/vr_app/out/vr_app (made by `rt ci`), or the one that PROGRAM names."""
+"""The program, for what plays or tries it, as command/program finds it: the one that PROGRAM names, or the one that is built."""
 
 import os
+import subprocess
 import sys
 
 TOP = os.path.dirname(os.path.dirname(os.path.dirname(os.path.realpath(__file__))))
-PATH = os.path.abspath(os.environ.get("PROGRAM") or os.path.join(TOP, "crates", "vr_app", "out", "vr_app"))
-MISSING = f"no program: rt ci makes {PATH}"
+FOUND = subprocess.run([os.path.join(TOP, "command", "program")], stdout=subprocess.PIPE, stderr=subprocess.PIPE, text=True, check=False)
+PATH = FOUND.stdout.strip()
+MISSING = FOUND.stderr.strip()
 
 
 def is_there() -> bool:
-    return os.path.isfile(PATH) and os.access(PATH, os.X_OK)
+    return FOUND.returncode == 0
 
 
 def or_end() -> str:
-    """Its path; without it the script ends with 2 and a sentence."""
+    """Its path; without it the script ends with 2. Which one it is, or that there is none, is said on standard error."""
+    sys.stderr.write(FOUND.stderr)
     if not is_there():
-        print(MISSING, file=sys.stderr)
         sys.exit(2)
     return PATH
