@@ -2,12 +2,20 @@
 
 import os
 import signal
+import stat
 import subprocess
 import sys
 from typing import List, Tuple
 
-from command import commands, helping
-from command.commands import Command
+if sys.version_info < (3, 9):
+    print(f"nozhgiva: it needs python3, 3.9 or later, and this is {sys.version.split()[0]}", file=sys.stderr)
+    sys.exit(2)
+
+HOME = os.path.dirname(os.path.dirname(os.path.realpath(__file__)))
+sys.path.insert(0, HOME)
+
+from command import commands, helping  # noqa: E402
+from command.commands import Command  # noqa: E402
 
 
 TEXTS = ("--help", "-h", "help", "--version", "--man", "--completions")
@@ -35,7 +43,6 @@ def call(home: str, command: Command, words: List[str]) -> int:
     """Gives this process over to a script, with the words as they stand."""
     if command.needs_program:
         os.environ["PROGRAM"] = find_program(home)[1]
-    os.environ["NOZHGIVA"] = sys.argv[0] if "/" in sys.argv[0] else "nozhgiva"
     path = os.path.join(home, command.calls)
     signal.signal(signal.SIGPIPE, signal.SIG_DFL)
     signal.signal(signal.SIGXFSZ, signal.SIG_DFL)
@@ -87,3 +94,16 @@ def main(home: str, words: List[str]) -> int:
         return 2
     except KeyboardInterrupt:
         return 130
+
+
+def take_input() -> None:
+    """Takes as standard input what the script put elsewhere, since Python would have refused it."""
+    number = os.environ.pop("NOZHGIVA_INPUT", "")
+    if number:
+        os.dup2(int(number), 0)
+        os.close(int(number))
+
+
+if __name__ == "__main__":
+    take_input()
+    sys.exit(main(HOME, sys.argv[1:]))
