@@ -1,6 +1,7 @@
 """The checks outside the proofs: the table of them, and a run of some of them, each within its time."""
 
 import collections
+import importlib.util
 import os
 import re
 import shutil
@@ -55,6 +56,8 @@ def lacks(check: Check, program: Optional[str]) -> Optional[str]:
             missing = program is None
         elif need == "root":
             missing = os.geteuid() != 0
+        elif need.startswith("python:"):
+            missing = importlib.util.find_spec(need[len("python:"):]) is None
         else:
             missing = not any(map(shutil.which, need.split("/")))
         if missing:
