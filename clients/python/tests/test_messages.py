@@ -1,17 +1,20 @@
-"""Messages byte for byte as the program spells them, and what isn't one refused.
-
-`messages.txt` has messages that the program spelled, each in words; tests/make-messages made it. A column after the words is a version of the
-format; all of them are compared."""
+"""Messages byte for byte as the program spells them, and what isn't one refused: by the vectors of clients/vectors, whose README has their form."""
 
 import random
 import unittest
 from pathlib import Path
 
+from nozhgiva.asking import is_answer
 from nozhgiva.messages import (
     Delete, Fault, Get, HEADER, Header, LARGEST_VALUE, OperationKind, Outcome, OutcomeKind, Put, Refused, Register, Reply, ReplyKind, Request, decode,
     name_of, size_of)
 
-TABLE = Path(__file__).with_name("messages.txt")
+VECTORS = Path(__file__).resolve().parents[2] / "vectors"
+FAULTS = {
+    "Short": Fault.SHORT, "BadSum": Fault.BAD_SUM, "BadCommand": Fault.BAD_COMMAND, "BadVersion": Fault.BAD_VERSION, "BadSize": Fault.BAD_SIZE,
+    "NotZero": Fault.NOT_ZERO, "BodySum": Fault.BODY_SUM, "Other": Fault.OTHER_COMMAND, "BodyShape": Fault.BODY_SHAPE,
+}
+"""The faults of the vectors, as this client calls them."""
 OPERATIONS = {"register": Register, "put": Put, "get": Get, "del": Delete}
 
 
@@ -22,7 +25,7 @@ def request_of(words, version):
 
 
 def reply_of(words, version):
-    """from R view V ANSWER to REQUEST"""
+    """from R view W ANSWER to REQUEST"""
     at = words.index("to")
     _, replica, _, view, *answer = words[:at]
     request = request_of(words[at + 1:], version)
@@ -33,15 +36,19 @@ def reply_of(words, version):
     return Reply(*fields, ReplyKind.OUTCOME, int(op), Outcome(OutcomeKind[kind.upper()], *value), version)
 
 
+def fields_of(name):
+    """The fields of each line of a file of vectors."""
+    lines = (VECTORS / name).read_text(encoding="ascii").splitlines()
+    return [line.split("\t") for line in lines if not line.startswith("#")]
+
+
 def rows():
-    """Each message of the table, with its bytes."""
+    """Each message that the program spelled, with its bytes."""
     found = []
-    for line in TABLE.read_text().splitlines():
-        if not line.startswith("#"):
-            said, *columns = line.split("\t")
-            kind, *words = said.split(" ")
-            read = {"request": request_of, "reply": reply_of}[kind]
-            found += [(read(words, version), bytes.fromhex(column)) for version, column in enumerate(columns, 1)]
+    for said, digits in fields_of("version-1.txt") + fields_of("version-2.txt"):
+        kind, _, version, *words = said.split(" ")
+        read = {"request": request_of, "reply": reply_of}[kind]
+        found.append((read(words, int(version)), bytes.fromhex(digits)))
     return found
 
 
@@ -70,23 +77,39 @@ PUT = Request(5, 7, 1, Put("color", "green"))
 REPLY = Reply(5, 7, 1, PUT.name(), 0, 0, ReplyKind.OUTCOME, 2, Outcome(OutcomeKind.VALUE, "green"))
 
 
-class Table(unittest.TestCase):
+class Vectors(unittest.TestCase):
     def test_each_message_is_spelled_as_the_program_spells_it(self):
         for message, data in rows():
             with self.subTest(message):
                 self.assertEqual(message.encode(), data)
                 self.assertEqual(decode(data), message)
 
-    def test_the_table_has_each_kind(self):
-        messages = [message for message, _ in rows()]
-        requests = [message for message in messages if isinstance(message, Request)]
-        replies = [message for message in messages if isinstance(message, Reply)]
-        self.assertEqual({type(request.operation) for request in requests}, set(OPERATIONS.values()))
-        self.assertEqual({reply.kind for reply in replies}, set(ReplyKind))
-        self.assertEqual({reply.outcome.kind for reply in replies if reply.outcome}, set(OutcomeKind))
-        self.assertGreater(max(reply.view for reply in replies), 0)
+    def test_the_vectors_have_each_kind_in_both_versions(self):
         for version, most in LARGEST_VALUE.items():
-            self.assertIn(most, [len(request.operation.value) for request in requests if request.version == version and isinstance(request.operation, Put)])
+            messages = [message for message, _ in rows() if message.version == version]
+            requests = [message for message in messages if isinstance(message, Request)]
+            replies = [message for message in messages if isinstance(message, Reply)]
+            self.assertEqual({type(request.operation) for request in requests}, set(OPERATIONS.values()))
+            self.assertEqual({reply.kind for reply in replies}, set(ReplyKind))
+            self.assertEqual({reply.outcome.kind for reply in replies if reply.outcome}, set(OutcomeKind))
+            self.assertGreater(max(reply.view for reply in replies), 0)
+            self.assertEqual(max(len(request.operation.value) for request in requests if isinstance(request.operation, Put)), most)
+
+    def test_what_is_no_message_has_its_fault(self):
+        bad = fields_of("bad.txt")
+        for fault, what, digits in bad:
+            with self.subTest(what):
+                self.assertEqual(fault_of(bytes.fromhex(digits)), FAULTS[fault])
+        self.assertEqual({fault for fault, _, _ in bad}, set(FAULTS))
+
+    def test_what_came_says_what_it_says(self):
+        ends = {ReplyKind.OUTCOME: "answer", ReplyKind.BUSY: "busy", ReplyKind.REDIRECT: "redirect"}
+        for word, why, asked, came in fields_of("answers.txt"):
+            request, data = decode(bytes.fromhex(asked)), bytes.fromhex(came)
+            with self.subTest(why):
+                reply = decode(data) if fault_of(data) is None else None
+                counts = isinstance(reply, Reply) and is_answer(request, reply)
+                self.assertEqual(ends.get(reply.kind, "lost") if counts else "dropped", word)
 
 
 class Damage(unittest.TestCase):
@@ -182,12 +205,12 @@ class Faults(unittest.TestCase):
     def test_bodies(self):
         put, get, delete = OperationKind.PUT, OperationKind.GET, OperationKind.DELETE
         for body in (b"", b"\0", b"\x05", bytes([put]), bytes([put, 1, 0, 1]) + b"k", bytes([put, 1, 0, 1]) + b"kvv", bytes([put, 0, 0, 1]) + b"v",
-                     bytes([put, 1, 0, 0]) + b"k", bytes([put, 1, 0, 1]) + b"k ", bytes([put, 1, 4, 1]) + b"k" + b"v" * 1025, bytes([get]), bytes([get, 0]),
+                     bytes([put, 1, 0, 0]) + b"k", bytes([put, 1, 0, 1]) + b"k ", bytes([get]), bytes([get, 0]),
                      bytes([get, 2]) + b"k", bytes([get, 1]) + b"kk", bytes([get, 1]) + b"\x7f", bytes([get, 65]) + b"k" * 65, bytes([delete, 1]), b"\x01"):
             header, _ = header_of(PUT)
             with self.subTest(body):
                 self.assertEqual(fault_of(sealed(header._replace(size=128 + len(body)), body)), Fault.BODY_SHAPE)
-        for body in (b"", b"\0", b"\x06", b"\x01\x01", b"\x05", b"\x05\0", b"\x05\0\0", b"\x05\0\x01", b"\x05\0\x01vv", b"\x05\0\x01\x20", b"\x05\x04\x01" + b"v" * 1025):
+        for body in (b"", b"\0", b"\x06", b"\x01\x01", b"\x05", b"\x05\0", b"\x05\0\0", b"\x05\0\x01", b"\x05\0\x01vv", b"\x05\0\x01\x20"):
             header, _ = header_of(REPLY)
             with self.subTest(body):
                 self.assertEqual(fault_of(sealed(header._replace(size=128 + len(body)), body)), Fault.BODY_SHAPE)

@@ -109,9 +109,9 @@ class Asker:
             message = None if data is None else decode(data)
         except Refused:
             return None
-        if not isinstance(message, Reply) or (message.cluster, message.request_name) != (request.cluster, request.name()):
+        if not isinstance(message, Reply) or not is_answer(request, message):
             return None
-        return message if _fits(request.operation, message) else None
+        return message
 
     def _follow(self, data: bytes, search: _Search, view: int, until: float) -> None:
         """Asks the primary of a view, at once where that view is news, else after the pause."""
@@ -123,6 +123,8 @@ class Asker:
             self._link.send(self._target, data, until - self._clock())
 
 
-def _fits(operation: Operation, reply: Reply) -> bool:
-    """Whether a reply's outcome, if it has one, is one that the operation can give."""
-    return reply.outcome is None or reply.outcome.kind in OUTCOMES[type(operation)]
+def is_answer(request: Request, reply: Reply) -> bool:
+    """Whether a reply answers this request: it is of its group and version, names it, and has an outcome that the operation can give, if any."""
+    if (reply.cluster, reply.version, reply.request_name) != (request.cluster, request.version, request.name()):
+        return False
+    return reply.outcome is None or reply.outcome.kind in OUTCOMES[type(request.operation)]

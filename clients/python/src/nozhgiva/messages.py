@@ -19,7 +19,7 @@ __all__ = [
 
 LARGEST_MESSAGE = 20_480
 LARGEST_KEY = 64
-LARGEST_VALUE = {1: 1_024}
+LARGEST_VALUE = {1: 1_024, 2: 3_000}
 """How many bytes a value has at most, by the version of the format. A version that isn't here is refused."""
 
 LAST_COMMAND = 19
