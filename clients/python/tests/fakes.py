@@ -3,6 +3,7 @@
 import socket
 import threading
 
+from nozhgiva.links import Came
 from nozhgiva.messages import Outcome, OutcomeKind, Reply, ReplyKind, decode
 
 OK = Outcome(OutcomeKind.OK)
@@ -16,11 +17,14 @@ def reply_to(request, member, kind=ReplyKind.OUTCOME, *, view=0, op=1, outcome=O
 
 
 class MemoryLink:
-    """A link without a network. `answer(member, request)` gives the replies that come of a request, each with how many seconds it takes. A
-    receive lets the time of `clock` go by until the next one comes."""
+    """A link without a network. `answer(member, request)` gives the replies that come of a request, each with how many seconds it takes; a
+    text is a trouble of the system. A receive lets the time of `clock` go by until the next one comes. Requests of another version than
+    `version` are noted as probes, and nobody answers them."""
 
-    def __init__(self, answer):
+    def __init__(self, answer, version=1):
         self.answer = answer
+        self.version = version
+        self.probes = []
         self.time = 0.0
         self.sent = []
         self.waiting = []
@@ -29,10 +33,15 @@ class MemoryLink:
     def clock(self):
         return self.time
 
-    def send(self, member, data, within):
+    def send(self, member, data):
+        request = decode(data)
+        if request.version != self.version:
+            self.probes.append((self.time, member))
+            return
         self.sent.append((self.time, member))
-        for delay, reply in self.answer(member, decode(data)):
-            self.waiting.append((self.time + delay, reply if isinstance(reply, bytes) else reply.encode()))
+        for delay, reply in self.answer(member, request):
+            came = Came(member, trouble=reply) if isinstance(reply, str) else Came(member, reply if isinstance(reply, bytes) else reply.encode())
+            self.waiting.append((self.time + delay, came))
             self.waiting.sort()
 
     def receive(self, within):
@@ -40,9 +49,9 @@ class MemoryLink:
         if not self.waiting or self.waiting[0][0] > until:
             self.time = until
             return None
-        at, data = self.waiting.pop(0)
+        at, came = self.waiting.pop(0)
         self.time = max(at, self.time)
-        return data
+        return came
 
     def close(self):
         self.is_open = False

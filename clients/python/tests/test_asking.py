@@ -4,17 +4,31 @@ import unittest
 
 from fakes import OK, MemoryLink, reply_to
 from nozhgiva import Put, Retry
-from nozhgiva.asking import Asker
-from nozhgiva.messages import Outcome, OutcomeKind, Reply, ReplyKind, Request
+from nozhgiva.asking import Asker, Course
+from nozhgiva.messages import Outcome, OutcomeKind, Register, Reply, ReplyKind, Request
+from nozhgiva.sights import meaning
 
 REQUEST = Request(5, 7, 1, Put("a", "b"))
 STEADY = Retry(first=0.25, factor=1.5, most=2.0, jitter=0.0)
 
 
+def course_of(size):
+    return Course([f"member-{place}:4000" for place in range(size)])
+
+
 def ask(answer, *, size=3, deadline=20.0, retry=STEADY, request=REQUEST):
     """The reply, and the link with what was sent."""
+    link = MemoryLink(answer, request.version)
+    reply, _ = Asker(link, course_of(size), retry, link.clock).ask(request, deadline)
+    return reply, link
+
+
+def seen(answer, *, size=3, deadline=5.0):
+    """What is said of each address after so many seconds, and what it may mean."""
     link = MemoryLink(answer)
-    return Asker(link, size, retry, link.clock).ask(request, deadline), link
+    reply, search = Asker(link, course_of(size), STEADY, link.clock).ask(REQUEST, deadline)
+    assert reply is None
+    return [str(sight).partition(": ")[2] for sight in search.sights], meaning(search.sights)
 
 
 class Asking(unittest.TestCase):
@@ -30,7 +44,7 @@ class Asking(unittest.TestCase):
 
     def test_who_answered_last_is_asked_first(self):
         link = MemoryLink(lambda member, request: [(0.01, reply_to(request, 2) if member == 2 else reply_to(request, member, ReplyKind.REDIRECT, view=2))])
-        asker = Asker(link, 3, STEADY, link.clock)
+        asker = Asker(link, course_of(3), STEADY, link.clock)
         asker.ask(REQUEST, 20.0)
         asker.ask(Request(5, 7, 2, Put("a", "c")), 20.0)
         self.assertEqual([member for _, member in link.sent], [0, 2, 2])
@@ -39,23 +53,49 @@ class Asking(unittest.TestCase):
         reply, link = ask(lambda member, request: [(0.01, reply_to(request, 2))] if member == 2 else [])
         self.assertEqual((reply.replica, link.sent), (2, [(0.0, 0), (0.25, 1), (0.625, 2)]))
 
-    def test_a_busy_member_is_asked_again_after_a_pause(self):
+    def test_a_busy_member_is_asked_again_after_a_pause_and_another_one_beside_it(self):
         times = iter([ReplyKind.BUSY, ReplyKind.BUSY, ReplyKind.OUTCOME])
-        reply, link = ask(lambda member, request: [(0.01, reply_to(request, member, next(times)))])
-        self.assertEqual((reply.kind, link.sent), (ReplyKind.OUTCOME, [(0.0, 0), (0.25, 0), (0.625, 0)]))
+        reply, link = ask(lambda member, request: [(0.01, reply_to(request, member, next(times)))] if member == 0 else [])
+        self.assertEqual((reply.kind, link.sent), (ReplyKind.OUTCOME, [(0.0, 0), (0.25, 0), (0.25, 1), (0.625, 0), (0.625, 2)]))
+
+    def test_a_member_that_is_busy_for_ever_doesnt_keep_the_request(self):
+        # Member 0 was cut off in view 0; the others go on in view 1.
+        def answer(member, request):
+            if member == 0:
+                return [(0.01, reply_to(request, 0, ReplyKind.BUSY))]
+            return [(0.01, reply_to(request, 1, view=1) if member == 1 else reply_to(request, 2, ReplyKind.REDIRECT, view=1))]
+        reply, link = ask(answer)
+        self.assertEqual((reply.replica, reply.view, link.sent), (1, 1, [(0.0, 0), (0.25, 0), (0.25, 1)]))
+
+    def test_a_member_that_redirects_to_itself_for_ever_doesnt_keep_the_request(self):
+        # Member 0 was cut off while its view changed, to one that it would lead itself.
+        def answer(member, request):
+            return [(0.01, reply_to(request, 0, ReplyKind.REDIRECT, view=9) if member == 0 else reply_to(request, member, view=1))]
+        reply, link = ask(answer)
+        self.assertEqual((reply.replica, link.sent), (1, [(0.0, 0), (0.01, 0), (0.25, 0), (0.25, 1)]))
+
+    def test_what_an_older_view_says_of_the_session_doesnt_count(self):
+        # Member 0 leads view 0 and was cut off; this session had its last answer in view 1.
+        for kind in (ReplyKind.OLD, ReplyKind.GAP, ReplyKind.EVICTED):
+            link = MemoryLink(lambda member, request: [(0.01, reply_to(request, 0, kind) if member == 0 else reply_to(request, 1, view=1))])
+            course = course_of(2)
+            course.view = 1
+            reply, _ = Asker(link, course, STEADY, link.clock).ask(REQUEST, 20.0)
+            self.assertEqual((reply.kind, link.sent), (ReplyKind.OUTCOME, [(0.0, 0), (0.25, 1)]))
 
     def test_a_group_without_a_primary_isnt_stormed(self):
         # Each member names another one of the same view for as long as the view changes. Twenty seconds have at most
-        # 0.25, 0.375, 0.5625, 0.84375, 1.265625, 1.8984375 and then 2 seconds between them: 14 pauses; one redirect was news.
+        # 0.25, 0.375, 0.5625, 0.84375, 1.265625, 1.8984375 and then 2 seconds between them: 14 pauses, all but the first with two messages;
+        # one redirect was news.
         reply, link = ask(lambda member, request: [(0.0001, reply_to(request, member, ReplyKind.REDIRECT, view=1))])
         self.assertIsNone(reply)
-        self.assertEqual(len(link.sent), 15)
+        self.assertEqual(len(link.sent), 1 + 13 * 2 + 1)
 
     def test_views_that_run_away_are_followed_only_so_far(self):
         views = iter(range(1, 10_000))
         reply, link = ask(lambda member, request: [(0.0001, reply_to(request, member, ReplyKind.REDIRECT, view=next(views)))])
         self.assertIsNone(reply)
-        self.assertEqual(len(link.sent), 14 * (1 + 3))
+        self.assertEqual(len(link.sent), 1 + 13 * 2 + 14 * 3)
 
     def test_time_ends(self):
         reply, link = ask(lambda member, request: [], deadline=1.0)
@@ -76,6 +116,47 @@ class Asking(unittest.TestCase):
                  reply_to(REQUEST, 0, outcome=Outcome(OutcomeKind.VALUE, "b")).encode()]
         reply, link = ask(lambda member, request: [(0.001 * at, data) for at, data in enumerate(wrong)] + [(0.1, right)])
         self.assertEqual((reply, link.time, len(link.sent)), (right, 0.1, 1))
+
+
+    def test_who_says_nothing_is_asked_in_the_other_version_once(self):
+        reply, link = ask(lambda member, request: [(0.01, reply_to(request, 1, ReplyKind.BUSY))] if member == 1 else [], deadline=6.0)
+        self.assertIsNone(reply)
+        self.assertEqual(sorted(member for _, member in link.probes), [0, 2])
+
+
+class Seeing(unittest.TestCase):
+    """What is told of each address, and what it may mean."""
+
+    def test_silent_and_refused(self):
+        self.assertEqual(seen(lambda member, request: []), (["silent"] * 3, "members are silent to whoever asks for another group or version, and where too few of them run"))
+        said, means = seen(lambda member, request: [(0.0, "refused")])
+        self.assertEqual((said, means[:36]), (["refused"] * 3, "no member runs at these addresses; o"))
+        said, means = seen(lambda member, request: [(0.0, "refused")] if member else [])
+        self.assertEqual((said, means), (["silent", "refused", "refused"], ""))
+
+    def test_who_was_not_asked(self):
+        self.assertEqual(seen(lambda member, request: [], deadline=0.2)[0], ["silent", "not asked", "not asked"])
+
+    def test_redirects_and_busy(self):
+        said, means = seen(lambda member, request: [(0.0, reply_to(request, member, ReplyKind.REDIRECT, view=4) if member else reply_to(request, 0, ReplyKind.BUSY))])
+        self.assertEqual(said, ["busy", "redirects to itself (view 4)", "redirects to member 1 (view 4)"])
+        self.assertEqual(means, "no member leads: fewer run, or hear each other, than the group needs")
+
+    def test_another_order(self):
+        said, means = seen(lambda member, request: [(0.0, reply_to(request, (member + 2) % 3, ReplyKind.BUSY))])
+        self.assertEqual(said, ["member 2 answers at place 0, busy", "member 0 answers at place 1, busy", "member 1 answers at place 2, busy"])
+        self.assertEqual(means, "the addresses stand in another order than at the members")
+
+    def test_another_group_and_another_version(self):
+        other = Reply(6, 7, 1, bytes(16), 0, 0, ReplyKind.BUSY)
+        self.assertEqual(seen(lambda member, request: [(0.0, other)]), (["answers for group 6"] * 3, "another group has these addresses"))
+        later = Reply(5, 7, 1, bytes(16), 0, 0, ReplyKind.BUSY, version=2)
+        self.assertEqual(seen(lambda member, request: [(0.0, later)]), (["answers in version 2"] * 3, "the group is of version 2: Group(.., version=2)"))
+
+    def test_what_is_no_answer(self):
+        self.assertEqual(seen(lambda member, request: [(0.0, b"x" * 200)]), (["sends what is no answer"] * 3, ""))
+        stale = [(0.0, reply_to(Request(5, 7, 0, Register()), 0))]
+        self.assertEqual(seen(lambda member, request: stale if member == 0 else [])[0], ["sends what is no answer", "silent", "silent"])
 
 
 class Retrying(unittest.TestCase):

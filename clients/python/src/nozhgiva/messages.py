@@ -8,19 +8,22 @@ from __future__ import annotations
 
 import hashlib
 import struct
-from dataclasses import dataclass
+from dataclasses import dataclass, field
 from enum import Enum, IntEnum
 from typing import Any, NamedTuple, Union
 
 __all__ = [
     "Delete", "Fault", "Get", "LARGEST_KEY", "LARGEST_MESSAGE", "LARGEST_VALUE", "Operation", "Outcome", "OutcomeKind", "Put", "Refused",
-    "Register", "Reply", "ReplyKind", "Request", "decode", "size_of",
+    "Register", "Reply", "ReplyKind", "Request", "SIZES", "VERSIONS", "decode", "size_of",
 ]
 
 LARGEST_MESSAGE = 20_480
 LARGEST_KEY = 64
 LARGEST_VALUE = {1: 1_024, 2: 3_000}
 """How many bytes a value has at most, by the version of the format. A version that isn't here is refused."""
+VERSIONS = tuple(LARGEST_VALUE)
+SIZES = {1: range(2, 7), 2: range(1, 7)}
+"""How many members a group may have, by the version."""
 
 LAST_COMMAND = 19
 LAST_VIEW = 2**32 - 2
@@ -94,10 +97,15 @@ class ReplyKind(IntEnum):
 
 
 def _check_text(what: str, text: str, most: int) -> None:
+    """Raises `TypeError` or `ValueError` where a text is no key or no value. What it raises never tells the text itself."""
+    if not isinstance(text, str):
+        raise TypeError(f"a {what} is a str, not {type(text).__name__}; Blob makes one of any bytes or text")
     if not 1 <= len(text) <= most:
-        raise ValueError(f"a {what} has 1 to {most} bytes, not {len(text)}")
-    if not all(FIRST_BYTE <= ord(letter) <= LAST_BYTE for letter in text):
-        raise ValueError(f"each byte of a {what} is from {FIRST_BYTE} to {LAST_BYTE}: a visible letter of ASCII")
+        raise ValueError(f"a {what} has 1 to {most:,} bytes, not {len(text):,}")
+    for at, letter in enumerate(text):
+        if not FIRST_BYTE <= ord(letter) <= LAST_BYTE:
+            raise ValueError(f"each letter of a {what} is a visible one of ASCII ({FIRST_BYTE} to {LAST_BYTE}), and the one at {at} isn't; "
+                             "Blob makes such a text of any bytes or text")
 
 
 @dataclass(frozen=True)
@@ -113,10 +121,10 @@ class Put:
     """Gives a key a value."""
 
     key: str
-    value: str
+    value: str = field(repr=False)
 
     def __str__(self) -> str:
-        return f"put {self.key} {self.value}"
+        return f"put {self.key} ({len(self.value):,} bytes)"
 
 
 @dataclass(frozen=True)
@@ -140,6 +148,7 @@ class Delete:
 
 
 Operation = Union[Register, Put, Get, Delete]
+"""What a request asks for. As a text it has the key and the size of the value, and never the value, which may be a secret."""
 
 
 def encode_operation(operation: Operation, version: int) -> bytes:
@@ -188,13 +197,15 @@ def decode_operation(body: bytes, version: int) -> Operation:
 
 @dataclass(frozen=True)
 class Outcome:
-    """What executing an operation gave; `value` stands exactly with the kind `VALUE`."""
+    """What executing an operation gave; `value` stands exactly with the kind `VALUE`. `op` is the number in the group's list of operations
+    under which it was executed, where that is known, else 0: of two operations the one that was executed later has the greater one."""
 
     kind: OutcomeKind
-    value: str = ""
+    value: str = field(default="", repr=False)
+    op: int = field(default=0, compare=False)
 
     def __str__(self) -> str:
-        return f"value {self.value}" if self.kind == OutcomeKind.VALUE else self.kind.name.lower()
+        return f"value ({len(self.value):,} bytes)" if self.kind == OutcomeKind.VALUE else self.kind.name.lower()
 
 
 def encode_outcome(outcome: Outcome, version: int) -> bytes:
