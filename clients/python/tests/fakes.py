@@ -1,10 +1,11 @@
 """What the tests put in the place of a group: a link and a clock in memory, and members that answer by a script over real sockets."""
 
+import contextlib
 import socket
 import threading
 
-from nozhgiva.links import Came
-from nozhgiva.messages import Outcome, OutcomeKind, Reply, ReplyKind, decode
+from nozhgiva import links
+from nozhgiva.messages import HEADER, Get, Outcome, OutcomeKind, Put, Register, Reply, ReplyKind, decode, size_of
 
 OK = Outcome(OutcomeKind.OK)
 SESSION = Outcome(OutcomeKind.SESSION)
@@ -13,7 +14,46 @@ SESSION = Outcome(OutcomeKind.SESSION)
 def reply_to(request, member, kind=ReplyKind.OUTCOME, *, view=0, op=1, outcome=OK):
     """A reply of a member to a request; op and outcome count only where it has one."""
     executed = kind == ReplyKind.OUTCOME
-    return Reply(request.cluster, request.client, request.number, request.name(), member, view, kind, op if executed else 0, outcome if executed else None)
+    op, outcome = (op, outcome) if executed else (0, None)
+    return Reply(request.cluster, request.client, request.number, request.name(), member, view, kind, op, outcome, request.version)
+
+
+class State:
+    """Keys and sessions, and a member's answers: each number of a client is executed once. `quiet` says of a number whether its answer is
+    lost. What is asked in another version than `version`, or of another group than `cluster`, it doesn't hear."""
+
+    def __init__(self, quiet=lambda number: False, version=1, cluster=5):
+        self.keys = {}
+        self.executed = []
+        self.last = {}
+        self.quiet = quiet
+        self.version, self.cluster = version, cluster
+        self.turn = threading.Lock()
+
+    def outcome(self, operation):
+        if isinstance(operation, Register):
+            return SESSION
+        if isinstance(operation, Put):
+            if operation.key == "one-too-many":
+                return Outcome(OutcomeKind.FULL)
+            self.keys[operation.key] = operation.value
+            return OK
+        value = self.keys.get(operation.key) if isinstance(operation, Get) else self.keys.pop(operation.key, None)
+        if value is None:
+            return Outcome(OutcomeKind.ABSENT)
+        return Outcome(OutcomeKind.VALUE, value) if isinstance(operation, Get) else OK
+
+    def __call__(self, member, data):
+        request = decode(data)
+        if (request.version, request.cluster) != (self.version, self.cluster):
+            return []
+        with self.turn:
+            number, op, outcome = self.last.get(request.client, (None, 0, None))
+            if number != request.number:
+                self.executed.append(request.operation)
+                op, outcome = len(self.executed), self.outcome(request.operation)
+                self.last[request.client] = request.number, op, outcome
+        return [] if self.quiet(request.number) else [reply_to(request, member, op=op, outcome=outcome).encode()]
 
 
 class MemoryLink:
@@ -40,7 +80,7 @@ class MemoryLink:
             return
         self.sent.append((self.time, member))
         for delay, reply in self.answer(member, request):
-            came = Came(member, trouble=reply) if isinstance(reply, str) else Came(member, reply if isinstance(reply, bytes) else reply.encode())
+            came = links.Came(member, trouble=reply) if isinstance(reply, str) else links.Came(member, reply if isinstance(reply, bytes) else reply.encode())
             self.waiting.append((self.time + delay, came))
             self.waiting.sort()
 
@@ -104,15 +144,19 @@ class Streams:
             except OSError:
                 return
             self.made[number] += 1
-            with stream:
+            with stream, contextlib.suppress(ConnectionError):
                 self._serve(number, stream)
 
     def _serve(self, number, stream):
+        waiting = b""
         while data := stream.recv(65_536):
-            for piece in self.answer(number, data):
-                if piece is None:
-                    return
-                stream.sendall(piece)
+            waiting += data
+            while len(waiting) >= HEADER.size and len(waiting) >= size_of(waiting):
+                message, waiting = waiting[:size_of(waiting)], waiting[size_of(waiting):]
+                for piece in self.answer(number, message):
+                    if piece is None:
+                        return
+                    stream.sendall(piece)
 
     def __enter__(self):
         return self

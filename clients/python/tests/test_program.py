@@ -1,57 +1,14 @@
 """The library against a group of the built program: PROGRAM, or crates/vr_app/out/vr_app. Without one these tests are skipped."""
 
-import os
 import signal
-import socket
-import subprocess
-import tempfile
 import time
 import unittest
-from pathlib import Path
 
-from nozhgiva import Full, Group, OutcomeKind, SessionLost, Unknown
-
-PROGRAM = os.environ.get("PROGRAM") or str(Path(__file__).resolve().parents[3] / "crates/vr_app/out/vr_app")
-SIZE = 3
-PATIENCE = 60.0
-MEMORY = "/dev/shm"
-"""Where the members' files stand if it is there: these tests are of the client, and needn't wait for a disk."""
+from nozhgiva import Full, OutcomeKind, SessionLost, Unknown
+from running import PATIENCE, Running, needs_program
 
 
-class Running:
-    """Three members on loopback, each with a file of its own."""
-
-    def __init__(self, scheme):
-        self.folder = tempfile.TemporaryDirectory(dir=MEMORY if os.path.isdir(MEMORY) else None)
-        held = [socket.create_server(("127.0.0.1", 0)) for _ in range(SIZE)]
-        self.addresses = [f"{scheme}127.0.0.1:{one.getsockname()[1]}" for one in held]
-        for one in held:
-            one.close()
-        self.members = [self._start(number, "--fresh") for number in range(SIZE)]
-        self.group = Group(5, self.addresses, timeout=PATIENCE)
-
-    def _start(self, number, *words):
-        words = [PROGRAM, "node", "5", str(number), f"{self.folder.name}/{number}", "1000000", *self.addresses, *words]
-        return subprocess.Popen(words, stdout=subprocess.DEVNULL)
-
-    def start(self, *numbers):
-        for number in numbers:
-            self.members[number] = self._start(number)
-
-    def kill(self, *numbers):
-        for number in numbers:
-            self.members[number].kill()
-            self.members[number].wait()
-
-    def __enter__(self):
-        return self
-
-    def __exit__(self, *_):
-        self.kill(*range(SIZE))
-        self.folder.cleanup()
-
-
-@unittest.skipUnless(os.access(PROGRAM, os.X_OK), f"no program at {PROGRAM}")
+@needs_program
 class Program(unittest.TestCase):
     def paths(self, scheme):
         with Running(scheme) as running, running.group.register() as session:

@@ -3,43 +3,11 @@
 import time
 import unittest
 
-from fakes import OK, SESSION, Members, Streams, reply_to
-from nozhgiva import Full, Get, Group, Outcome, OutcomeKind, Put, Retry, SessionLost, Unknown
+from fakes import OK, SESSION, Members, State, Streams, reply_to
+from nozhgiva import Full, Get, Group, Put, Retry, SessionLost, Unknown
 from nozhgiva.messages import Register, ReplyKind, decode
 
 FAST = Retry(first=0.05, factor=1.5, most=0.2, jitter=0.5)
-
-
-class State:
-    """A member's answers, right as long as one client asks: each number is executed once. `quiet` says whether an answer is lost."""
-
-    def __init__(self, quiet=lambda number: False):
-        self.keys = {}
-        self.executed = []
-        self.last = (None, None)
-        self.quiet = quiet
-
-    def outcome(self, operation):
-        if isinstance(operation, Register):
-            return SESSION
-        if isinstance(operation, Put):
-            if operation.key == "one-too-many":
-                return Outcome(OutcomeKind.FULL)
-            self.keys[operation.key] = operation.value
-            return OK
-        value = self.keys.get(operation.key) if isinstance(operation, Get) else self.keys.pop(operation.key, None)
-        if value is None:
-            return Outcome(OutcomeKind.ABSENT)
-        return Outcome(OutcomeKind.VALUE, value) if isinstance(operation, Get) else OK
-
-    def __call__(self, member, data):
-        request = decode(data)
-        if self.last[0] != request.number:
-            self.executed.append(request.operation)
-            self.last = (request.number, self.outcome(request.operation))
-        if self.quiet(request.number):
-            return []
-        return [reply_to(request, member, op=len(self.executed), outcome=self.last[1]).encode()]
 
 
 def answers(kind):

@@ -4,25 +4,33 @@ from __future__ import annotations
 
 from typing import Any, Optional, Sequence, Tuple
 
-from .messages import Operation
+from .messages import Operation, Outcome
 from .sights import Sight, told
 
-__all__ = ["Closed", "Error", "Full", "NotAsked", "SessionLost", "Unknown", "Unresolved"]
+__all__ = ["Closed", "Error", "Fate", "Full", "NotAsked", "SessionLost", "Unknown", "Unresolved"]
 
 
 class Error(Exception):
     """Any of the errors below."""
 
 
+class Fate:
+    """What comes of a request in the end: its outcome, once that is known."""
+
+    def __init__(self) -> None:
+        self.outcome: Optional[Outcome] = None
+
+
 class Unknown(Error, TimeoutError):
     """No answer came in time: `operation` may have been executed, may be executed later, or never. It isn't wrong to ask it again: the
-    session does so, under the same number, before its next request, or with `Session.settle`; so it is executed at most once.
+    session does so, under the same number, before its next request, or with `Session.settle`; so it is executed at most once. From then on
+    `outcome` has what it gave.
 
     `unsent` is the operation that was to be asked then and wasn't, since this earlier one isn't settled yet; else None. `seen` has for
     each address what was seen there meanwhile.
     """
 
-    def __init__(self, operation: Operation, unsent: Optional[Operation] = None, seen: Sequence[Sight] = ()) -> None:
+    def __init__(self, operation: Operation, unsent: Optional[Operation] = None, seen: Sequence[Sight] = (), fate: Optional[Fate] = None) -> None:
         text = f"no answer: whether `{operation}` was executed isn't known"
         if unsent is not None:
             text += f"; `{unsent}` wasn't asked"
@@ -30,6 +38,12 @@ class Unknown(Error, TimeoutError):
         self.operation = operation
         self.unsent = unsent
         self.seen: Tuple[Sight, ...] = tuple(seen)
+        self._fate = fate
+
+    @property
+    def outcome(self) -> Optional[Outcome]:
+        """What the operation gave, once the session has heard that; None until then, and for good where the session was lost."""
+        return None if self._fate is None else self._fate.outcome
 
     def __reduce__(self) -> Tuple[Any, ...]:
         return type(self), (self.operation, self.unsent, self.seen)

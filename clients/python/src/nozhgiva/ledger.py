@@ -10,7 +10,7 @@ from dataclasses import replace
 from typing import List, Optional, Sequence, Set
 
 from .asking import NO_VIEW, Course, Retry, Search
-from .errors import Closed, SessionLost, Unknown
+from .errors import Closed, Fate, SessionLost, Unknown
 from .links import Places, places_of
 from .messages import SIZES, VERSIONS, Operation, Outcome, Reply, Request
 
@@ -90,6 +90,7 @@ class Ledger:
         self.lost: Optional[str] = None
         self.is_closed = False
         self._next = 0
+        self._fate = Fate()
         self._misplaced: Set[int] = set()
         self._process = os.getpid()
 
@@ -119,18 +120,20 @@ class Ledger:
         if self.lost is not None:
             raise SessionLost(self.lost, operation, is_asked=False)
         self.open = self._request(operation)
+        self._fate = Fate()
         self._next += 1
         return self.open
 
     def settle(self, request: Request, reply: Optional[Reply], search: Search, unsent: Optional[Operation]) -> Outcome:
         """The outcome of the request that is open, which isn't any more then. Raises `Unknown` where no reply came, and `SessionLost`."""
         if reply is None:
-            raise Unknown(request.operation, unsent, search.sights)
+            raise Unknown(request.operation, unsent, search.sights, self._fate)
         self.open = None
         if reply.outcome is None:
             self.lost = reply.kind.name.lower()
             raise SessionLost(self.lost, request.operation)
-        return replace(reply.outcome, op=reply.op)
+        self._fate.outcome = replace(reply.outcome, op=reply.op)
+        return self._fate.outcome
 
     def note(self, request: Request, reply: Optional[Reply], search: Search, begun: float, view: int) -> None:
         """Logs how a request went: a line for whoever looks closely, and a warning where another member leads than in `view`, the one before."""

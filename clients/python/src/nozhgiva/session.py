@@ -94,6 +94,10 @@ class Session(Requests):
         """The client's number."""
         return self._ledger.client
 
+    def within(self, timeout: Optional[float]) -> float:
+        """So many seconds, or the group's timeout where None is given."""
+        return self._group.checked(timeout)
+
     @property
     def lost(self) -> Optional[str]:
         """Why the session is lost, in a word; None as long as it isn't known to be."""
