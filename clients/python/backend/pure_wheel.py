@@ -1,13 +1,13 @@
 """Builds the wheel of a pure package by the standard library alone (the hooks of PEP 517).
 
-It reads name, version, description and Python's version from `pyproject.toml`, takes each file of `src/NAME`, and writes no date into the
-archive: the same files give the same bytes.
+It reads the table `project` of `pyproject.toml`, takes each file of `src/NAME`, and writes no date into the archive: the same files give the
+same bytes.
 """
 
+import ast
 import base64
 import hashlib
 import tarfile
-import tomllib
 import zipfile
 from pathlib import Path
 
@@ -18,7 +18,19 @@ WHEEL = "Wheel-Version: 1.0\nGenerator: pure_wheel\nRoot-Is-Purelib: true\nTag: 
 
 
 def _project():
-    return tomllib.loads((ROOT / "pyproject.toml").read_text())["project"]
+    """The table `project`: texts and lists of texts, which Python reads as TOML does; so no reader of TOML is needed, which Python has from
+    3.11 on."""
+    text = (ROOT / "pyproject.toml").read_text(encoding="utf-8")
+    lines = iter(text.partition("\n[project]\n")[2].partition("\n[")[0].splitlines())
+    project = {}
+    for line in lines:
+        if not line.strip() or line.lstrip().startswith("#"):
+            continue
+        key, _, value = line.partition("=")
+        while value.count("[") > value.count("]"):
+            value += next(lines)
+        project[key.strip()] = ast.literal_eval(value.strip())
+    return project
 
 
 def _metadata(project):
@@ -27,10 +39,13 @@ def _metadata(project):
         f"Name: {project['name']}",
         f"Version: {project['version']}",
         f"Summary: {project['description']}",
+        f"License: {project['license']}",
+        f"Keywords: {','.join(project['keywords'])}",
+        *(f"Classifier: {classifier}" for classifier in project["classifiers"]),
         f"Requires-Python: {project['requires-python']}",
         "Description-Content-Type: text/markdown",
         "",
-        (ROOT / project["readme"]).read_text(),
+        (ROOT / project["readme"]).read_text(encoding="utf-8"),
     ])
 
 

@@ -8,10 +8,13 @@ import socket
 import subprocess
 import tempfile
 import threading
+import time
 import unittest
 from pathlib import Path
 
-from nozhgiva import Group
+from nozhgiva import Get, Group
+from nozhgiva.links import open_link, places_of
+from nozhgiva.messages import Request
 
 PROGRAM = os.environ.get("PROGRAM") or str(Path(__file__).resolve().parents[3] / "crates/vr_app/out/vr_app")
 CLUSTER = 5
@@ -19,7 +22,14 @@ PATIENCE = 60.0
 MEMORY = "/dev/shm"
 """Where the members' files stand if it is there: these tests are of the client, and needn't wait for a disk."""
 
-needs_program = unittest.skipUnless(os.access(PROGRAM, os.X_OK), f"no program at {PROGRAM}")
+
+
+def is_there(program):
+    """Whether a program can be run."""
+    return os.path.isfile(program) and os.access(program, os.X_OK)
+
+
+needs_program = unittest.skipUnless(is_there(PROGRAM), f"no program at {PROGRAM}")
 
 
 def free_addresses(size, scheme=""):
@@ -40,10 +50,23 @@ class Running:
         made = ["--fresh"] + ["--v2"] * (version == 2)
         self.members = [self._start(number, *made) for number in range(size)]
         self.group = Group(CLUSTER, self.addresses, version=version, timeout=PATIENCE)
+        for address in self.addresses:
+            self._await(address)
 
     def _start(self, number, *words):
         words = [PROGRAM, "node", str(CLUSTER), str(number), f"{self.folder.name}/{number}", "1000000", *self.addresses, *words]
         return subprocess.Popen(words, stdout=subprocess.DEVNULL)
+
+    def _await(self, address):
+        """Waits until a member answers, so that it may be killed: one that was killed before its file was made is none."""
+        asked = Request(CLUSTER, 1, 1, Get("?"), self.group.version).encode()
+        link, end = open_link(places_of([address])), time.monotonic() + PATIENCE
+        while time.monotonic() < end:
+            link.send(0, asked)
+            came = link.receive(0.1)
+            if came is not None and came.data:
+                break
+        link.close()
 
     def start(self, *numbers):
         for number in numbers:

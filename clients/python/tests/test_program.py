@@ -1,21 +1,25 @@
 """The library against a group of the built program: PROGRAM, or crates/vr_app/out/vr_app. Without one these tests are skipped."""
 
 import signal
+import threading
 import time
 import unittest
 
-from nozhgiva import Full, OutcomeKind, SessionLost, Unknown
-from running import PATIENCE, Running, needs_program
+from failover import measure
+from nozhgiva import Full, Group, OutcomeKind, Pool, Retry, SessionLost, Unknown
+from running import CLUSTER, PATIENCE, Running, needs_program
+
+FAST = Retry(first=0.05, factor=1.5, most=0.2, jitter=0.5)
 
 
 @needs_program
 class Program(unittest.TestCase):
-    def paths(self, scheme):
-        with Running(scheme) as running, running.group.register() as session:
+    def paths(self, scheme, version, longest):
+        with Running(scheme, version=version) as running, running.group.register() as session:
             session.put("color", "green")
             self.assertEqual(session.get("color"), "green")
-            session.put("k" * 64, "v" * 1024)
-            self.assertEqual(session.get("k" * 64), "v" * 1024)
+            session.put("k" * 64, "v" * longest)
+            self.assertEqual(session.get("k" * 64), "v" * longest)
             running.kill(0)
             begun = time.monotonic()
             self.assertIs(session.delete("color"), True)
@@ -26,10 +30,58 @@ class Program(unittest.TestCase):
                 self.assertIs(other.delete("color"), False)
 
     def test_over_datagrams(self):
-        self.paths("")
+        self.paths("", 1, 1024)
 
-    def test_over_streams(self):
-        self.paths("tcp:")
+    def test_over_streams_in_version_2(self):
+        self.paths("tcp:", 2, 3000)
+
+    def test_a_group_of_one(self):
+        with Running(size=1, version=2) as running, running.group.register() as session:
+            session.put("color", "v" * 3000)
+            self.assertEqual(session.get("color"), "v" * 3000)
+
+    def test_a_group_of_another_version_says_so(self):
+        for scheme, version in (("", 2), ("tcp:", 1)):
+            with self.subTest(scheme=scheme, version=version), Running(scheme, version=version) as running:
+                with self.assertRaises(Unknown) as raised:
+                    Group(CLUSTER, running.addresses, version=3 - version, timeout=2.5, retry=FAST).register()
+                self.assertIn(f"answers in version {version}", str(raised.exception))
+                with self.assertRaises(Unknown) as raised:
+                    Group(CLUSTER + 1, running.addresses, version=version, timeout=0.5).register()
+                self.assertTrue(all(sight.is_silent or not sight.asked for sight in raised.exception.seen), raised.exception)
+
+    def test_addresses_in_another_order_are_told(self):
+        with Running() as running:
+            running.kill(0)
+            first, second, third = running.addresses
+            with self.assertLogs("nozhgiva", "WARNING") as logs:
+                Group(CLUSTER, [first, third, second], timeout=PATIENCE).register().close()
+            self.assertIn("answers at place", logs.output[0])
+
+    def test_a_restart_of_all_members_is_waited_out(self):
+        with Running() as running, running.group.register() as session:
+            session.put("color", "green")
+            running.kill(0, 1, 2)
+            timer = threading.Timer(1.0, running.start, args=(0, 1, 2))
+            timer.start()
+            self.assertEqual(session.get("color"), "green")
+            timer.join()
+
+    def test_forty_threads_lose_no_session(self):
+        with Running() as running, Pool(running.group, 4) as pool:
+            threads = [threading.Thread(target=pool.put, args=(f"key{number}", str(number))) for number in range(40)]
+            for thread in threads:
+                thread.start()
+            for thread in threads:
+                thread.join()
+            self.assertEqual([pool.get(f"key{number}") for number in range(40)], [str(number) for number in range(40)])
+
+    def test_no_put_fails_while_primaries_are_killed(self):
+        with Running() as running:
+            answers, kills, longest = measure(running, seconds=7.0, every=3.0)
+        self.assertGreater(answers, 0)
+        self.assertGreaterEqual(kills, 2)
+        self.assertLess(longest, PATIENCE)
 
     def test_full_and_lost(self):
         with Running("") as running, running.group.register(client=7) as session:

@@ -28,12 +28,20 @@ def start(example, addresses, *words):
 class Together(unittest.TestCase):
     """Four processes, and members that go and come. Each of them tells in lines what it saw."""
 
+    @classmethod
+    def setUpClass(cls):
+        cls.running = Running()
+
+    @classmethod
+    def tearDownClass(cls):
+        cls.running.__exit__()
+
     def lines_of(self, example):
-        with Running() as running:
-            self.assertEqual(start(example, running.addresses, "--make").communicate(timeout=120), ("", ""))
-            with Disturbing(running, example) as disturbing:
-                processes = [start(example, running.addresses, "--seconds", SECONDS) for _ in range(PROCESSES)]
-                told = [process.communicate(timeout=300) for process in processes]
+        addresses = self.running.addresses
+        self.assertEqual(start(example, addresses, "--make").communicate(timeout=120), ("", ""))
+        with Disturbing(self.running, example) as disturbing:
+            processes = [start(example, addresses, "--seconds", SECONDS) for _ in range(PROCESSES)]
+            told = [process.communicate(timeout=300) for process in processes]
         self.assertEqual([(process.returncode, err) for process, (_, err) in zip(processes, told)], [(0, "")] * PROCESSES)
         self.assertEqual({"killed", "paused"}, set(disturbing.done))
         return [[line.split() for line in out.splitlines()] for out, _ in told]

@@ -9,11 +9,16 @@ from pathlib import Path
 
 ROOT = Path(__file__).resolve().parent.parent
 SCRIPT = """
-import importlib.metadata, nozhgiva, sys
+import importlib.metadata, importlib.resources, nozhgiva, nozhgiva.aio, nozhgiva.recipes, sys
 from nozhgiva.messages import Put, Request
 assert nozhgiva.__file__.startswith(sys.prefix), nozhgiva.__file__
 assert importlib.metadata.requires("nozhgiva") is None
-print(importlib.metadata.version("nozhgiva"), len(Request(5, 7, 1, Put("a", "b")).encode()))
+data = importlib.metadata.metadata("nozhgiva")
+assert (data["License"], data["Requires-Python"]) == ("Apache-2.0", ">=3.9"), dict(data)
+assert "Typing :: Typed" in data.get_all("Classifier") and "# A client in Python" in (data["Description"] or data.get_payload())
+assert importlib.resources.read_text("nozhgiva", "py.typed") == ""
+assert importlib.metadata.version("nozhgiva") == nozhgiva.__version__
+print(nozhgiva.__version__, len(Request(5, 7, 1, Put("a", "b")).encode()))
 """
 
 
@@ -36,12 +41,13 @@ class Wheel(unittest.TestCase):
                 self.skipTest(f"no virtual environment can be made: {error}")
             python = f"{folder}/fresh/bin/python"
             run(python, "-m", "pip", "wheel", "--no-deps", "--wheel-dir", folder, ROOT)
-            run(python, "-m", "pip", "wheel", "--no-deps", "--wheel-dir", f"{folder}/again", ROOT)
             wheels = list(Path(folder).glob("*.whl"))
             self.assertEqual([wheel.name for wheel in wheels], ["nozhgiva-1.0.0-py3-none-any.whl"])
-            self.assertEqual(wheels[0].read_bytes(), Path(folder, "again", wheels[0].name).read_bytes())
+            again = f"import sys; sys.path.insert(0, {str(ROOT / 'backend')!r}); import pure_wheel; print(pure_wheel.build_wheel({folder + '/fresh'!r}))"
+            self.assertEqual(run(python, "-B", "-c", again), f"{wheels[0].name}\n")
+            self.assertEqual(wheels[0].read_bytes(), Path(folder, "fresh", wheels[0].name).read_bytes())
             run(python, "-m", "pip", "install", wheels[0])
-            self.assertEqual(run(python, "-c", SCRIPT), "1.0.0 134\n")
+            self.assertEqual(run(python, "-W", "ignore", "-c", SCRIPT), "1.0.0 134\n")
 
 
 if __name__ == "__main__":
