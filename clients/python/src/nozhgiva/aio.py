@@ -109,6 +109,7 @@ class _Link:
         self._inbox: asyncio.Queue[Came] = asyncio.Queue()
         self._ways: Dict[int, Any] = {}
         self._begun: Dict[int, asyncio.Task[None]] = {}
+        self._is_closed = False
 
     async def receive(self, within: float) -> Optional[Came]:
         try:
@@ -119,8 +120,11 @@ class _Link:
     def send(self, place: int, data: bytes) -> None:
         way = self._ways.get(place)
         if way is not None and not way.is_closing():
-            way.write(data) if self._over_tcp else way.sendto(data)
-        elif place not in self._begun or self._begun[place].done():
+            if self._over_tcp:
+                way.write(data)
+            else:
+                way.sendto(data)
+        elif not self._is_closed and (place not in self._begun or self._begun[place].done()):
             self._begun[place] = asyncio.ensure_future(self._begin(place, data))
 
     async def _begin(self, place: int, data: bytes) -> None:
@@ -150,6 +154,7 @@ class _Link:
         return stream
 
     def close(self) -> None:
+        self._is_closed = True
         for task in self._begun.values():
             task.cancel()
         for way in self._ways.values():

@@ -55,7 +55,8 @@ class Group(GroupWords):
         The group keeps 32 sessions, in version 2 64; a further one ends the one that was used longest ago.
 
         Raises `Unknown` where no answer came in `timeout` seconds: fewer members run than the group needs, or messages don't come through;
-        `SessionLost` where the number was used before and its session has gone on; `Unresolved` where no address can be resolved.
+        `SessionLost` where the number was used before and its session has gone on; `Unresolved` where no address can be resolved. Names of
+        hosts are looked up here, once for the session; one that isn't found is left out. How long that takes is up to the system.
         """
         number, within = self.client_number(client), self.checked(timeout)
         session = Session(self, number, open_link(self.places))
