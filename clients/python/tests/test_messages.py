@@ -1,6 +1,8 @@
 """Messages byte for byte as the program spells them, and what isn't one refused: by the vectors of clients/vectors, whose README has their form."""
 
 import random
+import subprocess
+import sys
 import unittest
 from pathlib import Path
 
@@ -94,6 +96,10 @@ class Vectors(unittest.TestCase):
             self.assertEqual({reply.outcome.kind for reply in replies if reply.outcome}, set(OutcomeKind))
             self.assertGreater(max(reply.view for reply in replies), 0)
             self.assertEqual(max(len(request.operation.value) for request in requests if isinstance(request.operation, Put)), most)
+
+    def test_the_changed_ones_are_made_of_those_that_the_program_spelled(self):
+        made = subprocess.run([sys.executable, VECTORS / "make-changed", "--check"], capture_output=True, text=True, check=False)
+        self.assertEqual((made.returncode, made.stderr), (0, ""))
 
     def test_what_is_no_message_has_its_fault(self):
         bad = fields_of("bad.txt")

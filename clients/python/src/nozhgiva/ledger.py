@@ -12,7 +12,7 @@ from typing import List, Optional, Sequence, Set
 from .asking import NO_VIEW, Course, Retry, Search
 from .errors import Closed, Fate, SessionLost, Unknown
 from .links import Places, places_of
-from .messages import SIZES, VERSIONS, Operation, Outcome, Reply, Request
+from .messages import SIZES, VERSIONS, Operation, Outcome, Reply, Request, encode_operation
 
 __all__ = ["GroupWords", "Ledger"]
 
@@ -108,7 +108,7 @@ class Ledger:
 
     def check(self, operation: Operation) -> None:
         """Raises `TypeError` or `ValueError` where an operation isn't of the form of the group's version."""
-        self._request(operation).encode()
+        encode_operation(operation, self.group.version)
 
     def _request(self, operation: Operation) -> Request:
         return Request(self.group.cluster, self.client, self._next, operation, self.group.version)
@@ -138,8 +138,9 @@ class Ledger:
     def note(self, request: Request, reply: Optional[Reply], search: Search, begun: float, view: int) -> None:
         """Logs how a request went: a line for whoever looks closely, and a warning where another member leads than in `view`, the one before."""
         took = time.monotonic() - begun
-        said = "no answer" if reply is None else str(reply.outcome or reply.kind.name.lower())
-        log.debug("client %d: %s as number %d: %s in %.3f s, sent %d times", self.client, request.operation, request.number, said, took, search.sent)
+        if log.isEnabledFor(logging.DEBUG):
+            said = "no answer" if reply is None else str(reply.outcome or reply.kind.name.lower())
+            log.debug("client %d: %s as number %d: %s in %.3f s, sent %d times", self.client, request.operation, request.number, said, took, search.sent)
         if reply is not None and NO_VIEW < view < reply.view:
             log.warning("client %d: the primary of view %d was lost; member %d leads view %d; the request waited %.3f s",
                         self.client, view, reply.replica, reply.view, took)

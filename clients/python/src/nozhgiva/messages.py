@@ -10,11 +10,12 @@ import hashlib
 import struct
 from dataclasses import dataclass, field
 from enum import Enum, IntEnum
+from functools import cached_property
 from typing import Any, NamedTuple, Union
 
 __all__ = [
     "Delete", "Fault", "Get", "LARGEST_KEY", "LARGEST_MESSAGE", "LARGEST_VALUE", "Operation", "Outcome", "OutcomeKind", "Put", "Refused",
-    "Register", "Reply", "ReplyKind", "Request", "SIZES", "VERSIONS", "decode", "size_of",
+    "Register", "Reply", "ReplyKind", "Request", "SIZES", "VERSIONS", "decode", "encode_operation", "size_of",
 ]
 
 LARGEST_MESSAGE = 20_480
@@ -254,10 +255,13 @@ class Header(NamedTuple):
     zeros: bytes
 
 
+BLANK = Header(*HEADER.unpack(bytes(HEADER.size)))
+"""A header whose fields are all zero."""
+
+
 def _message(body: bytes, command: Command, version: int, **fields: Any) -> bytes:
     """A message of these fields, all others zero."""
-    blank = Header(*HEADER.unpack(bytes(HEADER.size)))
-    header = blank._replace(body=name_of(body), size=HEADER.size + len(body), command=command, version=version, **fields)
+    header = BLANK._replace(body=name_of(body), size=HEADER.size + len(body), command=command, version=version, **fields)
     rest = HEADER.pack(*header)[NAME_SIZE:]
     return name_of(rest) + rest + body
 
@@ -273,13 +277,17 @@ class Request:
     version: int = 1
 
     def encode(self) -> bytes:
-        """Its bytes. Raises `ValueError` where the operation isn't of the form."""
-        body = encode_operation(self.operation, self.version)
-        return _message(body, Command.REQUEST, self.version, cluster=self.cluster, client=self.client, request=self.number)
+        """Its bytes. Raises `TypeError` or `ValueError` where the operation isn't of the form."""
+        return self._encoded
 
     def name(self) -> bytes:
         """The name of its header, by which a reply tells what it answers."""
-        return self.encode()[:NAME_SIZE]
+        return self._encoded[:NAME_SIZE]
+
+    @cached_property
+    def _encoded(self) -> bytes:
+        body = encode_operation(self.operation, self.version)
+        return _message(body, Command.REQUEST, self.version, cluster=self.cluster, client=self.client, request=self.number)
 
 
 @dataclass(frozen=True)
