@@ -4,6 +4,7 @@ from __future__ import annotations
 
 import argparse
 import itertools
+import os
 import sys
 import time
 from typing import Callable, Iterator
@@ -38,8 +39,7 @@ def run(text: str, play: Callable[[Session, argparse.Namespace], None]) -> None:
             play(session, words)
             sys.stdout.flush()
     except BrokenPipeError:
-        sys.stderr.close()
-        sys.exit(1)
+        os._exit(1)
     except ValueError as error:
         parser.error(str(error))
     except (Error, OSError) as error:

@@ -95,7 +95,7 @@ class Lock:
         while (outcome := self._ask(Delete(self.name), deadline)).kind != OutcomeKind.OK:
             deadline.rest(pause)
             if deadline.is_over:
-                raise Taken(f"the lock {self.name} wasn't free in time")
+                raise Taken(f"the lock {self.name} wasn't free in time; before its first use `make_free` has to be called once")
             pause = min(pause * PAUSE_FACTOR, PAUSE_MOST)
         self.number = outcome.op
         return outcome.op
