@@ -48,8 +48,10 @@ class State:
         if (request.version, request.cluster) != (self.version, self.cluster):
             return []
         with self.turn:
-            number, op, outcome = self.last.get(request.client, (None, 0, None))
-            if number != request.number:
+            number, op, outcome = self.last.get(request.client, (-1, 0, None))
+            if request.number < number:
+                return [reply_to(request, member, ReplyKind.OLD).encode()]
+            if request.number > number:
                 self.executed.append(request.operation)
                 op, outcome = len(self.executed), self.outcome(request.operation)
                 self.last[request.client] = request.number, op, outcome
@@ -127,13 +129,14 @@ class Members:
 
 class Streams:
     """Members over TCP on loopback, each with a listener; the streams are answered one message a time by `answer(member, data)`, whose
-    pieces are sent one after the other; None closes the stream."""
+    pieces are sent one after the other; None closes the stream. `made` counts the streams, and `ended` says whether one has ended."""
 
     def __init__(self, size, answer):
         self.answer = answer
         self.listeners = [socket.create_server(("127.0.0.1", 0)) for _ in range(size)]
         self.addresses = [f"tcp:127.0.0.1:{listener.getsockname()[1]}" for listener in self.listeners]
         self.made = [0] * size
+        self.ended = [threading.Event() for _ in range(size)]
         for number in range(size):
             threading.Thread(target=self._listen, args=(number,), daemon=True).start()
 
@@ -146,6 +149,7 @@ class Streams:
             self.made[number] += 1
             with stream, contextlib.suppress(ConnectionError):
                 self._serve(number, stream)
+            self.ended[number].set()
 
     def _serve(self, number, stream):
         waiting = b""

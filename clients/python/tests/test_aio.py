@@ -17,7 +17,14 @@ def group_of(members, timeout=SOON, **words):
     return aio.Group(5, members.addresses, timeout=timeout, retry=FAST, **words)
 
 
-class Sessions(unittest.IsolatedAsyncioTestCase):
+class Tests(unittest.IsolatedAsyncioTestCase):
+    """Without the words that asyncio has for callbacks that a busy machine makes wait."""
+
+    async def asyncSetUp(self):
+        asyncio.get_running_loop().slow_callback_duration = 60.0
+
+
+class Sessions(Tests):
     async def paths(self, group):
         async with await group.register() as session:
             self.assertIsNone(await session.put("color", "green"))
@@ -102,7 +109,7 @@ class Sessions(unittest.IsolatedAsyncioTestCase):
 
 
 @needs_program
-class Program(unittest.IsolatedAsyncioTestCase):
+class Program(Tests):
     async def test_a_group_whose_primary_is_killed(self):
         for scheme, version in (("", 1), ("tcp:", 2)):
             with self.subTest(scheme=scheme, version=version), Running(scheme, version=version) as running:

@@ -22,7 +22,7 @@ def answers(kind):
 
 class Sessions(unittest.TestCase):
     def paths(self, members):
-        group = Group(5, members.addresses, timeout=5.0, retry=FAST)
+        group = Group(5, members.addresses, timeout=20.0, retry=FAST)
         with group.register() as session:
             self.assertIsNone(session.put("color", "green"))
             self.assertEqual(session.get("color"), "green")
@@ -60,14 +60,16 @@ class Sessions(unittest.TestCase):
             self.assertGreaterEqual(sum(members.made), 7)
 
     def test_a_stream_with_something_else_is_closed(self):
+        state = State()
         with Streams(2, lambda member, data: [bytes(200)] if member == 0 else state(member, data)) as members:
-            state = State()
-            self.paths(members)
-            self.assertEqual(members.made, [1, 1])
+            with Group(5, members.addresses, timeout=20.0, retry=FAST).register() as session:
+                session.put("color", "green")
+                self.assertTrue(members.ended[0].wait(20.0))
+                self.assertEqual(session.get("color"), "green")
 
     def test_a_member_that_isnt_there(self):
         with Streams(2, State()) as members:
-            group = Group(5, ["tcp:127.0.0.1:1", members.addresses[1]], timeout=5.0, retry=FAST)
+            group = Group(5, ["tcp:127.0.0.1:1", members.addresses[1]], timeout=20.0, retry=FAST)
             with group.register() as session:
                 session.put("color", "green")
 
@@ -75,7 +77,7 @@ class Sessions(unittest.TestCase):
         lost = [True]
         state = State(quiet=lambda number: number == 1 and lost[0])
         with Members(2, state) as members:
-            with Group(5, members.addresses, timeout=0.4, retry=FAST).register(timeout=5.0) as session:
+            with Group(5, members.addresses, timeout=0.4, retry=FAST).register(timeout=20.0) as session:
                 with self.assertRaises(Unknown) as raised:
                     session.put("color", "green")
                 self.assertEqual((raised.exception.operation, raised.exception.unsent), (Put("color", "green"), None))
@@ -84,25 +86,25 @@ class Sessions(unittest.TestCase):
                     session.get("color")
                 self.assertEqual((raised.exception.operation, raised.exception.unsent), (Put("color", "green"), Get("color")))
                 lost[0] = False
-                self.assertEqual(session.settle(5.0), OK)
-                self.assertEqual((session.pending, session.get("color", timeout=5.0)), (None, "green"))
+                self.assertEqual(session.settle(20.0), OK)
+                self.assertEqual((session.pending, session.get("color", timeout=20.0)), (None, "green"))
         self.assertEqual(state.executed, [Register(), Put("color", "green"), Get("color")])
 
     def test_the_next_request_settles_the_one_before(self):
         lost = [True]
         state = State(quiet=lambda number: number == 1 and lost[0])
         with Members(2, state) as members:
-            with Group(5, members.addresses, timeout=0.3, retry=FAST).register(timeout=5.0) as session:
+            with Group(5, members.addresses, timeout=0.3, retry=FAST).register(timeout=20.0) as session:
                 with self.assertRaises(Unknown):
                     session.put("color", "green")
                 lost[0] = False
-                self.assertEqual(session.get("color", timeout=5.0), "green")
+                self.assertEqual(session.get("color", timeout=20.0), "green")
         self.assertEqual(state.executed, [Register(), Put("color", "green"), Get("color")])
 
     def test_a_lost_session_stays_lost(self):
         for kind in (ReplyKind.OLD, ReplyKind.GAP, ReplyKind.EVICTED):
             with self.subTest(kind), Members(2, answers(kind)) as members:
-                with Group(5, members.addresses, timeout=5.0, retry=FAST).register() as session:
+                with Group(5, members.addresses, timeout=20.0, retry=FAST).register() as session:
                     for key in ("color", "size"):
                         with self.assertRaises(SessionLost) as raised:
                             session.get(key)
@@ -114,7 +116,7 @@ class Sessions(unittest.TestCase):
 
     def test_what_is_out_of_form_isnt_asked(self):
         state = State()
-        with Members(2, state) as members, Group(5, members.addresses, timeout=5.0).register() as session:
+        with Members(2, state) as members, Group(5, members.addresses, timeout=20.0).register() as session:
             for key, value in (("", "v"), ("k" * 65, "v"), ("a b", "v"), ("é", "v"), ("k", ""), ("k", "v" * 1025), ("k", "a\n")):
                 with self.subTest(key=key, value=value), self.assertRaises(ValueError):
                     session.put(key, value)

@@ -33,11 +33,6 @@ WAITING_MOST = 1_000
 """How many messages may wait to be looked at; what comes beyond them is lost, as on a network."""
 
 
-def _put(inbox: asyncio.Queue[Came], came: Came) -> None:
-    if inbox.qsize() < WAITING_MOST:
-        inbox.put_nowait(came)
-
-
 async def _acquired(lock: Union[asyncio.Lock, asyncio.Semaphore], within: float) -> bool:
     """Whether a lock was had in so many seconds. It is given back where that comes too late, or the task is cancelled meanwhile."""
     taking = asyncio.ensure_future(lock.acquire())
@@ -55,49 +50,45 @@ async def _acquired(lock: Union[asyncio.Lock, asyncio.Semaphore], within: float)
 class _Datagrams(asyncio.DatagramProtocol):
     """What comes from the member at a place over UDP."""
 
-    def __init__(self, inbox: asyncio.Queue[Came], place: int) -> None:
-        self._inbox = inbox
+    def __init__(self, link: _Link, place: int) -> None:
+        self._link = link
         self._place = place
-        self._transport: Optional[asyncio.BaseTransport] = None
 
     def connection_made(self, transport: asyncio.BaseTransport) -> None:
-        self._transport = transport
+        self._link.stands(self._place, transport)
 
     def datagram_received(self, data: bytes, addr: Any) -> None:
-        _put(self._inbox, Came(self._place, data))
+        self._link.came(Came(self._place, data))
 
     def error_received(self, exc: Exception) -> None:
-        assert isinstance(exc, OSError) and self._transport is not None
-        _put(self._inbox, Came(self._place, trouble=trouble_of(exc)))
+        assert isinstance(exc, OSError)
+        self._link.came(Came(self._place, trouble=trouble_of(exc)))
         if not isinstance(exc, ConnectionRefusedError):
-            self._transport.close()
+            self._link.drop(self._place)
 
 
 class _Stream(asyncio.Protocol):
     """What comes from the member at a place over TCP. A stream on which something comes that can't be a message is closed."""
 
-    def __init__(self, inbox: asyncio.Queue[Came], place: int) -> None:
-        self._inbox = inbox
+    def __init__(self, link: _Link, place: int) -> None:
+        self._link = link
         self._place = place
         self._unpacker = Unpacker()
-        self._transport: Optional[asyncio.Transport] = None
 
     def connection_made(self, transport: asyncio.BaseTransport) -> None:
-        assert isinstance(transport, asyncio.Transport)
-        self._transport = transport
+        self._link.stands(self._place, transport)
 
     def data_received(self, data: bytes) -> None:
-        assert self._transport is not None
         try:
             for message in self._unpacker.add(data):
-                _put(self._inbox, Came(self._place, message))
+                self._link.came(Came(self._place, message))
         except Refused:
-            _put(self._inbox, Came(self._place, trouble="sends what is no message"))
-            self._transport.close()
+            self._link.came(Came(self._place, trouble="sends what is no message"))
+            self._link.drop(self._place)
 
     def connection_lost(self, exc: Optional[Exception]) -> None:
         why = trouble_of(exc) if isinstance(exc, OSError) else "it ended the stream"
-        _put(self._inbox, Came(self._place, trouble=why))
+        self._link.came(Came(self._place, trouble=why))
 
 
 class _Link:
@@ -111,13 +102,32 @@ class _Link:
         self._begun: Dict[int, asyncio.Task[None]] = {}
         self._is_closed = False
 
+    def came(self, came: Came) -> None:
+        """Something came; where nobody looks at it, it is lost, as on a network."""
+        if self._inbox.qsize() < WAITING_MOST:
+            self._inbox.put_nowait(came)
+
+    def stands(self, place: int, way: asyncio.BaseTransport) -> None:
+        """The way to a member is made; where the link was closed meanwhile it is closed too."""
+        if self._is_closed:
+            way.close()
+        else:
+            self._ways[place] = way
+
+    def drop(self, place: int) -> None:
+        """Ends the way to a member: the next message there makes another one."""
+        if place in self._ways:
+            self._ways.pop(place).close()
+
     async def receive(self, within: float) -> Optional[Came]:
+        """What comes next; None where nothing came in so many seconds."""
         try:
             return await asyncio.wait_for(self._inbox.get(), within)
         except (asyncio.TimeoutError, TimeoutError):
             return None
 
     def send(self, place: int, data: bytes) -> None:
+        """Sends a message, or loses it."""
         way = self._ways.get(place)
         if way is not None and not way.is_closing():
             if self._over_tcp:
@@ -130,36 +140,35 @@ class _Link:
     async def _begin(self, place: int, data: bytes) -> None:
         """Makes the way to a member, and sends there."""
         try:
-            self._ways[place] = await asyncio.wait_for(self._made(place), CONNECT_TIME)
+            await asyncio.wait_for(self._make(place), CONNECT_TIME)
             self.send(place, data)
         except (asyncio.TimeoutError, TimeoutError):
-            _put(self._inbox, Came(place, trouble="no connection"))
+            self.came(Came(place, trouble="no connection"))
         except OSError as error:
-            _put(self._inbox, Came(place, trouble=trouble_of(error)))
+            self.came(Came(place, trouble=trouble_of(error)))
 
-    async def _made(self, place: int) -> asyncio.BaseTransport:
+    async def _make(self, place: int) -> None:
         member, loop = self._members[place], asyncio.get_running_loop()
         if member is None:
             raise OSError(NOT_RESOLVED)
         if not self._over_tcp:
-            datagrams, _ = await loop.create_datagram_endpoint(lambda: _Datagrams(self._inbox, place), sock=datagram_socket(member))
-            return datagrams
+            await loop.create_datagram_endpoint(lambda: _Datagrams(self, place), sock=datagram_socket(member))
+            return
         made = stream_socket(member)
         try:
             await loop.sock_connect(made, member.address)
-            stream, _ = await loop.create_connection(lambda: _Stream(self._inbox, place), sock=made)
         except BaseException:
             made.close()
             raise
-        return stream
+        await loop.create_connection(lambda: _Stream(self, place), sock=made)
 
     def close(self) -> None:
+        """Gives back what the system lent."""
         self._is_closed = True
         for task in self._begun.values():
             task.cancel()
-        for way in self._ways.values():
-            way.close()
-        self._ways.clear()
+        for place in list(self._ways):
+            self.drop(place)
 
 
 async def _open_link(places: Places) -> _Link:
