@@ -82,7 +82,7 @@ class Together(unittest.TestCase):
 class Wrong(unittest.TestCase):
     """What a recipe says where it is used wrong, or where it isn't known what came of a request; with members that answer by a script."""
 
-    def session(self, state, timeout=2.0):
+    def session(self, state, timeout=20.0):
         members = self.enterContext(Members(2, state)) if hasattr(self, "enterContext") else self.entered(Members(2, state))
         session = Group(CLUSTER, members.addresses, timeout=timeout, retry=FAST).register(timeout=10.0)
         self.addCleanup(session.close)
@@ -108,9 +108,9 @@ class Wrong(unittest.TestCase):
     def test_a_lock_finds_out_whether_it_was_taken_and_given_back(self):
         quiet = set()
         state = State(quiet=lambda number: number in quiet)
-        session = self.session(state, timeout=0.4)
+        session = self.session(state, timeout=0.8)
         lock = Lock(session, "printer")
-        lock.make_free()
+        lock.make_free(timeout=20.0)
         quiet |= {2, 3}
         with self.assertRaises(Unknown):
             lock.acquire()
@@ -118,28 +118,46 @@ class Wrong(unittest.TestCase):
         with self.assertRaises(Unknown):
             lock.acquire()
         quiet.clear()
-        number = lock.acquire(timeout=5.0)
+        number = lock.acquire(timeout=20.0)
         self.assertEqual((lock.number, len(state.executed)), (number, 3))
         quiet |= {3}
         with self.assertRaises(Unknown):
             lock.release()
         quiet.clear()
-        self.assertEqual(session.get("other", timeout=5.0), None)
-        lock.release(timeout=5.0)
+        self.assertEqual(session.get("other", timeout=20.0), None)
+        lock.release(timeout=20.0)
         self.assertEqual((lock.is_held, len(state.executed)), (False, 5))
+
+    def test_a_lock_whose_taking_was_interrupted_finds_out_too(self):
+        quiet = {2}
+        state = State(quiet=lambda number: number in quiet)
+        session = self.session(state)
+        lock = Lock(session, "printer")
+        lock.make_free(timeout=20.0)
+        send, session._link.send = session._link.send, self.interrupted
+        with self.assertRaises(KeyboardInterrupt):
+            lock.acquire()
+        session._link.send = send
+        quiet.clear()
+        self.assertIsNone(session.get("other", timeout=20.0))
+        number = lock.acquire(timeout=20.0)
+        self.assertEqual((lock.number, len(state.executed)), (number, 4))
+
+    def interrupted(self, place, data):
+        raise KeyboardInterrupt
 
     def test_a_counter_whose_put_isnt_known_goes_on_with_its_lock(self):
         quiet = set()
         state = State(quiet=lambda number: number in quiet)
-        session = self.session(state, timeout=0.4)
+        session = self.session(state)
         counter = Counter(session, "visits")
-        counter.make(timeout=5.0)
+        counter.make(timeout=20.0)
         quiet |= {5}
         with self.assertRaises(Unknown) as raised:
-            counter.add()
+            counter.add(timeout=2.0)
         self.assertEqual((str(raised.exception.operation), raised.exception.outcome), ("put visits (1 bytes)", None))
         quiet.clear()
-        self.assertEqual(counter.add(timeout=5.0), 2)
+        self.assertEqual(counter.add(timeout=20.0), 2)
         self.assertEqual((raised.exception.outcome.kind.name, counter.value(), counter.cell.lock.is_held), ("OK", 2, False))
 
     def test_a_change_that_raises_gives_the_lock_back(self):

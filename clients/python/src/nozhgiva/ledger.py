@@ -124,6 +124,12 @@ class Ledger:
         self._next += 1
         return self.open
 
+    def doubt(self, operation: Operation) -> Optional[Unknown]:
+        """What is told of this very operation later, where it is open."""
+        if self.open is None or self.open.operation is not operation:
+            return None
+        return Unknown(operation, fate=self._fate)
+
     def settle(self, request: Request, reply: Optional[Reply], search: Search, unsent: Optional[Operation]) -> Outcome:
         """The outcome of the request that is open, which isn't any more then. Raises `Unknown` where no reply came, and `SessionLost`."""
         if reply is None:

@@ -131,8 +131,8 @@ class Lock:
                 return outcome
         try:
             return self.session.ask(operation, deadline.left(str(operation)))
-        except Unknown as error:
-            self._doubt = error if error.unsent is None else None
+        except BaseException:
+            self._doubt = self.session.doubt(operation)
             raise
 
 

@@ -8,7 +8,7 @@ from types import TracebackType
 from typing import Optional, Type
 
 from .asking import Asker
-from .errors import Full, NotAsked
+from .errors import Full, NotAsked, Unknown
 from .ledger import GroupWords, Ledger
 from .links import Link, open_link
 from .messages import Delete, Get, Operation, Outcome, OutcomeKind, Put, Register, Request
@@ -129,6 +129,10 @@ class Session(Requests):
         """The operation of which it isn't known whether it was executed, if there is one."""
         request = self._ledger.open
         return None if request is None else request.operation
+
+    def doubt(self, operation: Operation) -> Optional[Unknown]:
+        """Where this very operation was asked and isn't known yet, whatever ended its call: what `Unknown.outcome` will tell of it."""
+        return self._ledger.doubt(operation)
 
     def settle(self, timeout: Optional[float] = None) -> Optional[Outcome]:
         """Asks again for the answer that `pending` has, under the number that it had, so it isn't executed twice. None where nothing is
