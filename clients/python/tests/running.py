@@ -32,13 +32,29 @@ def is_there(program):
 needs_program = unittest.skipUnless(is_there(PROGRAM), f"no program at {PROGRAM}")
 
 
+PORTS = range(20_000, 32_000)
+"""Below those that systems give to clients, so that a member's port stays free while it is away."""
+
+
+def _is_free(port):
+    """Whether nobody has a port of this machine, over UDP or TCP."""
+    for kind in (socket.SOCK_DGRAM, socket.SOCK_STREAM):
+        with socket.socket(socket.AF_INET, kind) as one:
+            try:
+                one.bind(("127.0.0.1", port))
+            except OSError:
+                return False
+    return True
+
+
 def free_addresses(size, scheme=""):
     """So many addresses of this machine that nobody has."""
-    held = [socket.create_server(("127.0.0.1", 0)) for _ in range(size)]
-    addresses = [f"{scheme}127.0.0.1:{one.getsockname()[1]}" for one in held]
-    for one in held:
-        one.close()
-    return addresses
+    ports = []
+    while len(ports) < size:
+        port = random.choice(PORTS)
+        if port not in ports and _is_free(port):
+            ports.append(port)
+    return [f"{scheme}127.0.0.1:{port}" for port in ports]
 
 
 class Running:
