@@ -1,0 +1,3 @@
+module nozhgiva
+
+go 1.19
