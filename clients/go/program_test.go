@@ -171,7 +171,7 @@ func TestFailover(t *testing.T) {
 	if *failover == 0 {
 		t.Skip("it takes a while: go test -run Failover -failover 1m")
 	}
-	for _, scheme := range []string{"", "tcp:"} {
+	for scheme, name := range map[string]string{"": "datagrams", "tcp:": "streams"} {
 		r := start(t, scheme, "127.0.0.1")
 		session := register(t, r.group(WithTimeout(defaultTimeout)))
 		answers, kills, longest := 0, 0, time.Duration(0)
@@ -191,7 +191,7 @@ func TestFailover(t *testing.T) {
 			time.Sleep(10 * time.Millisecond)
 		}
 		<-back
-		t.Logf("%q: %d answers, %d primaries killed, at most %v without an answer", scheme, answers, kills, longest)
+		t.Logf("over %s: %d answers, %d primaries killed, at most %v without an answer", name, answers, kills, longest)
 		if longest > 2*time.Second || kills < int(*failover/(6*time.Second)) {
 			t.Errorf("%v without an answer, %d killed", longest, kills)
 		}
