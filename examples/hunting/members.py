@@ -130,9 +130,9 @@ class Trouble:
             if len(self.mends) < self.MOST:
                 mend = self.draw.choice(self.kinds)(self.someone())
                 if mend:
-                    self.mends.append((now + self.draw.uniform(0.2, 2.5), mend))
+                    self.mends.append((now + self.draw.uniform(0.2, 2.0), mend))
                     pace()
-            time.sleep(self.draw.uniform(0.2, 2.0))
+            time.sleep(self.draw.uniform(0.3, 3.0))
         self.mend()
 
     def mend(self, now: float = float("inf")) -> None:

@@ -31,7 +31,7 @@ class Board:
         """How long a client rests between two operations, in seconds, on average."""
         self.history: List[Operation] = []
         self.faults: List[str] = []
-        self.sessions = 0
+        self.sessions = self.lost = 0
         self.lock = threading.Lock()
 
     def take_session(self, most: int = MOST_SESSIONS) -> bool:
@@ -93,6 +93,11 @@ class Worker(threading.Thread):
             self.board.history.append(self.pending)
         self.pending = self.version = None
 
+    def lose(self) -> None:
+        """Gives up a session with which the group doesn't go on."""
+        self.board.lost += 1
+        self.give_up()
+
     def drawn(self) -> Operation:
         """The next operation."""
         kind = self.draw.choices(("put", "get", "delete"), (4, 4, 2))[0]
@@ -113,7 +118,7 @@ class Worker(threading.Thread):
             return
         if answer.startswith("lost "):
             self.board.history.append(asked)
-            self.give_up()
+            self.lose()
             return
         self.told(self.pending, UNTOLD)
         self.pending = None
@@ -133,7 +138,7 @@ class Worker(threading.Thread):
                 return
             answer = self.say(f"settle {PATIENCE}")
             if answer.startswith("lost "):
-                self.give_up()
+                self.lose()
                 return
             if answer != "unknown":
                 self.told(self.pending, answer)
