@@ -30,6 +30,7 @@ type asker struct {
 	link      *link
 	addresses []string
 	retry     Retry
+	draw      *rand.Rand // of the session's own seed, so that no two clients rest for the same times
 	first     int
 	view      uint32 // of the last outcome; a member that answers in an earlier one was cut off, and doesn't know that it leads no more
 }
@@ -51,13 +52,13 @@ type search struct {
 // ask asks until there is a reply that settles the request: an outcome, old, gap or evicted; or an [UnknownError], once the context or the link has
 // ended.
 func (a *asker) ask(ctx context.Context, r request) (reply, error) {
-	s := &search{asker: a, request: r, data: r.encode(), probe: probe(r), seen: make([]Seen, len(a.addresses))}
+	s := &search{asker: a, request: r, data: r.encode(), probe: a.probe(r), seen: make([]Seen, len(a.addresses))}
 	copy(s.name[:], s.data)
 	for place, address := range a.addresses {
 		s.seen[place].Address, s.seen[place].Place = address, place
 	}
 	for length := a.retry.First; ; {
-		share := 1 - a.retry.Jitter*rand.Float64()
+		share := 1 - a.retry.Jitter*a.draw.Float64()
 		if answer, over := s.pause(ctx, time.Duration(float64(length)*share)); over != nil {
 			return reply{}, &UnknownError{Operation: r.operation, Seen: s.seen, Cause: over}
 		} else if answer != nil {
@@ -71,8 +72,8 @@ func (a *asker) ask(ctx context.Context, r request) (reply, error) {
 }
 
 // probe gives a request of the other version, by a client that has no session: a member of that version answers it by evicted or redirect.
-func probe(r request) []byte {
-	unknown := request{r.cluster, 1 + uint64(rand.Int63()), 1, Operation{Kind: OperationGet, Key: "version"}, 3 - r.version}
+func (a *asker) probe(r request) []byte {
+	unknown := request{r.cluster, 1 + uint64(a.draw.Int63()), 1, Operation{Kind: OperationGet, Key: "version"}, 3 - r.version}
 	return unknown.encode()
 }
 

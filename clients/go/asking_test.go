@@ -48,6 +48,16 @@ func TestWhoIsAsked(t *testing.T) {
 	}
 }
 
+// Clients that lost their primary at one moment don't come back at one moment.
+func TestSessionsRestForTimesOfTheirOwn(t *testing.T) {
+	group := dial(t, overDatagrams(t, 2, func(member int, asked request) [][]byte {
+		return [][]byte{answer(asked, member, replyOutcome, 0, Outcome{Kind: OutcomeSession}).encode()}
+	}))
+	if one, other := register(t, group).asker.draw.Float64(), register(t, group).asker.draw.Float64(); one == other {
+		t.Errorf("both rest for %v of a pause", one)
+	}
+}
+
 // Past a port that refuses the next member is asked at once.
 func TestPortsThatRefuse(t *testing.T) {
 	for scheme, start := range map[string]func(*testing.T, int, script) []string{"": overDatagrams, tcpPrefix: overStreams} {

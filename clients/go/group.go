@@ -2,9 +2,10 @@ package nozhgiva
 
 import (
 	"context"
-	"crypto/rand"
+	crypto "crypto/rand"
 	"encoding/binary"
 	"fmt"
+	"math/rand"
 	"sync"
 	"time"
 )
@@ -93,14 +94,13 @@ func (g *Group) String() string {
 // group needs, messages don't come through, or the number, the version or the addresses are another group's. The error says what was seen.
 func (g *Group) Register(ctx context.Context) (*Session, error) {
 	var drawn [8]byte
-	for client := uint64(0); ; {
-		if client != 0 {
-			return g.RegisterAs(ctx, client)
-		}
-		if _, err := rand.Read(drawn[:]); err != nil {
+	for {
+		if _, err := crypto.Read(drawn[:]); err != nil {
 			return nil, notAsked("register", err)
 		}
-		client = binary.BigEndian.Uint64(drawn[:])
+		if client := binary.BigEndian.Uint64(drawn[:]); client != 0 {
+			return g.RegisterAs(ctx, client)
+		}
 	}
 }
 
@@ -119,7 +119,8 @@ func (g *Group) RegisterAs(ctx context.Context, client uint64) (*Session, error)
 	if err != nil {
 		return nil, notAsked("register", err)
 	}
-	s := &Session{client: client, group: g, link: link, asker: asker{link: link, addresses: g.addresses, retry: g.retry}, turn: make(chan struct{}, 1)}
+	s := &Session{client: client, group: g, link: link, turn: make(chan struct{}, 1)}
+	s.asker = asker{link: link, addresses: g.addresses, retry: g.retry, draw: rand.New(rand.NewSource(int64(client)))}
 	if _, err := s.ask(within, Operation{Kind: OperationRegister}); err != nil {
 		s.Close()
 		return nil, err

@@ -77,8 +77,11 @@ func TestAnswersThatComeThrough(t *testing.T) {
 		{"one of three leads, over streams", overStreams, func(s *state) script { return alone(1, s.script) }},
 		{"each answer comes in two pieces", overStreams, func(s *state) script {
 			return func(member int, asked request) [][]byte {
-				whole := s.script(member, asked)[0]
-				return [][]byte{whole[:7], whole[7:]}
+				var pieces [][]byte
+				for _, whole := range s.script(member, asked) {
+					pieces = append(pieces, whole[:7], whole[7:])
+				}
+				return pieces
 			}
 		}},
 		{"each stream ends after an answer", overStreams, func(s *state) script {
@@ -122,7 +125,12 @@ func TestAnswersThatComeThrough(t *testing.T) {
 			}
 		}},
 		{"each answer comes behind what is cut, flipped, late, of others and no message", overDatagrams, func(s *state) script {
-			return func(member int, asked request) [][]byte { return spoil(member, asked, s.script(member, asked)[0]) }
+			return func(member int, asked request) (pieces [][]byte) {
+				for _, right := range s.script(member, asked) {
+					pieces = append(pieces, spoil(member, asked, right)...)
+				}
+				return pieces
+			}
 		}},
 	}
 	for _, row := range table {
