@@ -16,7 +16,7 @@ from group import Group
 SIZE = 3
 TAIL = 1 << 16
 FAR = 2 << 20
-PATIENCE = 60.0
+PATIENCE = 180.0
 
 
 class Stuck(Exception):
