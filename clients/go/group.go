@@ -90,7 +90,7 @@ func (g *Group) String() string {
 // Register begins a session, of a client with a random number. The group keeps 32 sessions, in version 2 64; a further one ends the one that was
 // used longest ago. So a program should have few, and may use one from several goroutines.
 //
-// It gives an error of package net where an address can't be resolved, and an [ErrUnknown] where no answer came: fewer members run than the
+// It gives an error of package net where no address can be resolved, and an [ErrUnknown] where no answer came: fewer members run than the
 // group needs, messages don't come through, or the number, the version or the addresses are another group's. The error says what was seen.
 func (g *Group) Register(ctx context.Context) (*Session, error) {
 	var drawn [8]byte

@@ -73,23 +73,33 @@ func readAddresses(addresses []string) (places []string, overTCP bool, err error
 	return places, overTCP, nil
 }
 
-// openLink opens a link to places. It gives an error of package net where a name can't be resolved, or no socket is to be had.
+// openLink opens a link to places. It gives an error of package net where none of the places has a host that can be resolved.
 func openLink(ctx context.Context, places []string, overTCP bool) (*link, error) {
 	within, cancel := context.WithCancel(context.Background())
-	l := &link{arrivals: make(chan arrival, waiting), done: make(chan struct{}), cancel: cancel}
-	for number, place := range places {
-		var one sender
-		var err error
+	l := &link{arrivals: make(chan arrival, waiting), done: make(chan struct{}), cancel: cancel, places: make([]sender, len(places))}
+	opened := make(chan error, len(places))
+	for number, address := range places {
 		if overTCP {
-			one, err = l.openStreams(ctx, within, number, place)
+			s := &streams{link: l, place: number, address: address, outbox: make(chan []byte, 2)}
+			l.places[number] = s
+			go func() { opened <- s.resolve(ctx) }()
+			go s.serve(within)
 		} else {
-			one, err = l.openDatagrams(ctx, within, number, place)
+			d := &datagrams{link: l, within: within, place: number, address: address, opening: true}
+			l.places[number] = d
+			go func() { opened <- d.open(ctx) }()
 		}
-		if err != nil {
-			l.close()
-			return nil, err
+	}
+	failures := 0
+	var failure error
+	for range places {
+		if err := <-opened; err != nil {
+			failures, failure = failures+1, err
 		}
-		l.places = append(l.places, one)
+	}
+	if failures == len(places) {
+		l.close()
+		return nil, failure
 	}
 	return l, nil
 }
@@ -121,54 +131,89 @@ func (l *link) give(came arrival) bool {
 	}
 }
 
-// causeOf gives the system's own word for an error, as `connection refused`.
+// causeOf gives the system's own word for an error, as `connection refused`, or that of who resolves names.
 func causeOf(err error) error {
 	var number syscall.Errno
-	if errors.As(err, &number) {
+	var unresolved *net.DNSError
+	switch {
+	case errors.As(err, &number):
 		return number
+	case errors.As(err, &unresolved):
+		return errors.New(unresolved.Err)
 	}
 	return err
 }
 
 // Datagrams to one place, by a socket that hears from there alone, and is told where nobody listens.
 type datagrams struct {
-	link   *link
-	place  int
-	socket net.Conn
+	link    *link
+	within  context.Context // ends with the link
+	place   int
+	address string
+	mutex   sync.Mutex
+	socket  net.Conn // nil where the host couldn't be resolved so far
+	opening bool
 }
 
-func (l *link) openDatagrams(ctx, within context.Context, place int, address string) (sender, error) {
+// open resolves the host and makes the socket.
+func (d *datagrams) open(ctx context.Context) error {
 	var dialer net.Dialer
-	socket, err := dialer.DialContext(ctx, "udp", address)
+	socket, err := dialer.DialContext(ctx, "udp", d.address)
+	d.mutex.Lock()
+	defer d.mutex.Unlock()
+	d.opening = false
 	if err != nil {
-		return nil, err
+		return err
 	}
+	d.socket = socket
 	go func() {
-		<-within.Done()
+		<-d.within.Done()
 		socket.Close()
 	}()
-	d := &datagrams{l, place, socket}
-	go d.receive()
-	return d, nil
+	go d.receive(socket)
+	return nil
 }
 
-func (d *datagrams) send(data []byte) {
-	_, err := d.socket.Write(data)
-	if errors.Is(err, syscall.ECONNREFUSED) { // that is said of an earlier datagram, and this one wasn't sent
-		_, err = d.socket.Write(data)
+// openAgain opens once more, where that isn't going on.
+func (d *datagrams) openAgain() {
+	if !d.opening {
+		d.opening = true
+		go func() {
+			within, cancel := context.WithTimeout(d.within, patience)
+			defer cancel()
+			d.tell(d.open(within))
+		}()
 	}
+}
+
+// tell hands over an error, where there is one, and nobody has to wait for that.
+func (d *datagrams) tell(err error) {
 	if err != nil {
 		select {
 		case d.link.arrivals <- arrival{place: d.place, err: causeOf(err)}:
-		default: // who sends is the one who reads them
+		default:
 		}
 	}
 }
 
-func (d *datagrams) receive() {
+func (d *datagrams) send(data []byte) {
+	d.mutex.Lock()
+	defer d.mutex.Unlock()
+	if d.socket == nil {
+		d.openAgain()
+		return
+	}
+	_, err := d.socket.Write(data)
+	if errors.Is(err, syscall.ECONNREFUSED) { // that is said of an earlier datagram, and this one wasn't sent
+		_, err = d.socket.Write(data)
+	}
+	d.tell(err)
+}
+
+func (d *datagrams) receive(socket net.Conn) {
 	buffer := make([]byte, largestMessage+1)
 	for {
-		size, err := d.socket.Read(buffer)
+		size, err := socket.Read(buffer)
 		came := arrival{place: d.place, data: append([]byte(nil), buffer[:size]...)}
 		if err != nil {
 			if errors.Is(err, net.ErrClosed) {
@@ -195,14 +240,10 @@ type streams struct {
 	waits   bool      // whether something was sent since
 }
 
-func (l *link) openStreams(ctx, within context.Context, place int, address string) (sender, error) {
-	host, _, _ := net.SplitHostPort(address) // made by net.JoinHostPort
-	if _, err := net.DefaultResolver.LookupIPAddr(ctx, host); err != nil {
-		return nil, err
-	}
-	s := &streams{link: l, place: place, address: address, outbox: make(chan []byte, 2)}
-	go s.serve(within)
-	return s, nil
+func (s *streams) resolve(ctx context.Context) error {
+	host, _, _ := net.SplitHostPort(s.address) // made by net.JoinHostPort
+	_, err := net.DefaultResolver.LookupIPAddr(ctx, host)
+	return err
 }
 
 func (s *streams) send(data []byte) {

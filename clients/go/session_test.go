@@ -398,10 +398,16 @@ func TestWhatIsOutOfForm(t *testing.T) {
 }
 
 func TestAddressesThatDontResolve(t *testing.T) {
-	for _, scheme := range []string{"", "tcp:"} {
-		_, err := dial(t, []string{scheme + "127.0.0.1:4000", scheme + "nowhere.invalid:4000"}).Register(background)
+	for scheme, start := range map[string]func(*testing.T, int, script) []string{"": overDatagrams, tcpPrefix: overStreams} {
+		nowhere := scheme + "nowhere.invalid:4000"
+		_, err := dial(t, []string{nowhere, nowhere}).Register(background)
 		var unresolved *net.DNSError
 		if wantIs(t, "a register", err, ErrNotAsked); !errors.As(err, &unresolved) {
+			t.Errorf("%v", err)
+		}
+		paths(t, []string{nowhere, start(t, 1, newState().script)[0]}) // the others answer
+		_, err = dial(t, []string{nowhere, start(t, 1, silent)[0]}, WithTimeout(soon)).Register(background)
+		if wantIs(t, "a register", err, ErrUnknown); !strings.Contains(err.Error(), nowhere+" can't be reached") {
 			t.Errorf("%v", err)
 		}
 	}
