@@ -12,6 +12,7 @@ import (
 
 const (
 	soon    = 300 * time.Millisecond // for what isn't to be answered
+	later   = 3 * time.Second        // for what is to be seen meanwhile
 	surely  = 30 * time.Second       // for what is, also on a slow machine
 	cluster = 5
 )

@@ -272,11 +272,13 @@ func TestWhatWasSeen(t *testing.T) {
 		{"no message on a stream", overStreams, func(int, request) [][]byte { return [][]byte{make([]byte, 200)} }, NoMessage, "sends what is no message"},
 	}
 	for _, row := range table {
+		row := row
 		t.Run(row.name, func(t *testing.T) {
+			t.Parallel()
 			begun := time.Now()
-			_, err := dial(t, row.start(t, 3, row.says), WithTimeout(soon)).Register(background)
+			_, err := dial(t, row.start(t, 3, row.says), WithTimeout(later)).Register(background)
 			wantIs(t, "a register", err, ErrUnknown)
-			if took := time.Since(begun); took < soon {
+			if took := time.Since(begun); took < later {
 				t.Errorf("it waited for %v alone", took)
 			}
 			var unknown *UnknownError
@@ -399,14 +401,14 @@ func TestWhatIsOutOfForm(t *testing.T) {
 
 func TestAddressesThatDontResolve(t *testing.T) {
 	for scheme, start := range map[string]func(*testing.T, int, script) []string{"": overDatagrams, tcpPrefix: overStreams} {
-		nowhere := scheme + "nowhere.invalid:4000"
+		nowhere := scheme + "no..name:4000" // refused without asking anybody
 		_, err := dial(t, []string{nowhere, nowhere}).Register(background)
 		var unresolved *net.DNSError
 		if wantIs(t, "a register", err, ErrNotAsked); !errors.As(err, &unresolved) {
 			t.Errorf("%v", err)
 		}
 		paths(t, []string{nowhere, start(t, 1, newState().script)[0]}) // the others answer
-		_, err = dial(t, []string{nowhere, start(t, 1, silent)[0]}, WithTimeout(soon)).Register(background)
+		_, err = dial(t, []string{nowhere, start(t, 1, silent)[0]}, WithTimeout(later)).Register(background)
 		if wantIs(t, "a register", err, ErrUnknown); !strings.Contains(err.Error(), nowhere+" can't be reached") {
 			t.Errorf("%v", err)
 		}
