@@ -157,11 +157,15 @@ class Trouble:
         if self.members.members[r] is None:
             self.members.start(r)
 
+    def back_all(self) -> None:
+        for r in range(SIZE):
+            self.back(r)
+
     def kill_all(self, _: int) -> Callable[[], None]:
         self.counts["all killed"] += 1
         for r in range(SIZE):
             self.members.kill(r)
-        return lambda: [self.back(r) for r in range(SIZE)] and None
+        return self.back_all
 
     def pause(self, r: int) -> Optional[Callable[[], None]]:
         if not self.members.runs(r):
