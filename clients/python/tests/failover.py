@@ -2,7 +2,7 @@
 """Puts one value after the other into a group of three while its primary is killed again and again, and tells how many were answered and the
 longest time without an answer. Ends with 1 where a put failed or that time is above --most. The program is PROGRAM or
 crates/vr_app/out/vr_app.
-  clients/python/tests/run failover [--seconds S] [--every S] [--most S] [--tcp] [--version N]"""
+  clients/python/tests/run failover [--seconds S] [--every S] [--rest S] [--most S] [--tcp] [--version N]"""
 
 import argparse
 import sys
@@ -42,15 +42,16 @@ class Failing:
         self.thread.join()
 
 
-def measure(running, seconds, every):
-    """How many puts were answered in so many seconds, how often a primary was killed, and the longest time without an answer. What a put
-    raises goes on to the caller."""
+def measure(running, seconds, every, rest=0.0):
+    """How many puts were answered in so many seconds, how often a primary was killed, and the longest time without an answer; between two
+    puts lies a rest. What a put raises goes on to the caller."""
     with running.group.register() as session:
         with Failing(running, lambda: session._ledger.course.target, every) as failing:
             answers, longest, end = 0, 0.0, time.monotonic() + seconds
             while (begun := time.monotonic()) < end:
                 session.put(f"key{answers % 100}", str(answers))
                 longest, answers = max(longest, time.monotonic() - begun), answers + 1
+                time.sleep(rest)
     return answers, failing.kills, longest
 
 
@@ -59,6 +60,7 @@ def main():
     parser.add_argument("--seconds", type=float, default=60.0, help="for how long (60)")
     parser.add_argument("--every", type=float, default=5.0, help="how many seconds lie between two kills (5)")
     parser.add_argument("--most", type=float, default=2.0, help="the longest time that may be without an answer (2)")
+    parser.add_argument("--rest", type=float, default=0.0, help="how many seconds lie between two puts (0)")
     parser.add_argument("--tcp", action="store_true", help="over TCP")
     parser.add_argument("--version", type=int, choices=(1, 2), default=1, help="of the group's files (1)")
     words = parser.parse_args()
@@ -68,7 +70,7 @@ def main():
         parser.error(f"no program at {PROGRAM}")
     with Running("tcp:" if words.tcp else "", version=words.version) as running:
         try:
-            answers, kills, longest = measure(running, words.seconds, words.every)
+            answers, kills, longest = measure(running, words.seconds, words.every, words.rest)
         except Error as error:
             sys.exit(f"failed: {error}")
     print(f"{answers} puts answered, {kills} times a primary killed, none failed; the longest time without an answer was {longest:.2f} s")
