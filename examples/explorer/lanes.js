@@ -1,18 +1,21 @@
 // The picture: time goes down, each replica is a lane, a message an arrow from where it was sent to each of its arrivals. It makes text of
-// SVG; what a mark is can be told by its form and its words, not by its colour alone.
+// SVG; what a mark is can be told by its form and its words, not by its colour alone. Words stand right of a lane; arrows run between them.
 "use strict";
 
-const WIDEST_GUTTER = 296;
-const CLIENT_LANE = 72;
+const CLIENT_LANE = 58;
 const MOST_CLIENT_LANES = 3;
-const NARROWEST_LANE = 200;
+const NARROWEST_LANE = 176;
 const WIDEST_LANE = 280;
 const LETTER = 7;
 const LINE = 14;
-const MOST_LINES = 6;
-const LETTERS_OF_LINE = 34;
-const FIRST_ROW = 8;
-const BASE = 16;
+const MOST_LINES = 7;
+const FEWEST_LETTERS_OF_LINE = 13;
+const MOST_LETTERS_OF_LINE = 34;
+const FIRST_ROW = 4;
+const BASE = 12;
+const CHANNEL = 26;
+const TRACKS = 4;
+const LONGEST_NUMBER = 6;
 
 const STYLES = {
     prepare: "normal", prepare_ok: "normal", commit: "normal",
@@ -29,7 +32,18 @@ function shortly(words) {
     return text.replace(/^(prepare|prepare_ok|start_view|sync_view) (v\d+) op (\d+)( commit \d+)?/, "$1 $3 $2").replace(/^commit (v\d+) op (\d+) commit/, "commit $2 $1 to");
 }
 
-// The clients that a run names, in order; all of them share a lane where they are many.
+// A text in lines of at most so many letters, broken between words; a word that is longer is cut.
+function wrapped(text, most) {
+    const lines = [];
+    for (const word of text.split(" ")) {
+        const last = lines.length - 1;
+        if (last >= 0 && lines[last].length + 1 + word.length <= most) lines[last] += ` ${word}`;
+        else lines.push(cut(word, most));
+    }
+    return lines;
+}
+
+// The clients that a run names, in order.
 function clientsOf(run) {
     const clients = new Set();
     for (const step of run.steps) {
@@ -42,33 +56,101 @@ function clientsOf(run) {
     return [...clients];
 }
 
+// Each client by a number that is short: a long one is cut in its midst, unless another one would look the same.
+function shortNumbers(clients) {
+    const shorten = (number) => (number.length > LONGEST_NUMBER ? `${number.slice(0, 2)}…${number.slice(-3)}` : number);
+    const same = (number) => clients.filter((other) => shorten(other) === shorten(number)).length > 1;
+    return new Map(clients.map((number) => [number, same(number) ? number : shorten(number)]));
+}
+
+// Of each message the arrivals that only repeat: it came before, or its words did, and nothing is put out.
+function repeatsOf(run, messages) {
+    const repeats = messages.map(() => new Set());
+    const seen = new Set();
+    run.steps.forEach((step, at) => step.came.forEach((number) => {
+        const words = [messages[number].from, messages[number].to, ...messages[number].words].join(" ");
+        if (seen.has(words) && step.outputs.length === 0) repeats[number].add(at);
+        seen.add(words);
+    }));
+    return repeats;
+}
+
 class Lanes {
-    // `room` is the width that there is.
-    constructor(run, messages, room) {
+    // `room` is the width that there is. Unless it is `whole`, lines that repeat without a word share a row.
+    constructor(run, messages, room, whole = false) {
         this.run = run;
         this.messages = messages;
-        const clients = clientsOf(run);
-        this.clients = clients.length > MOST_CLIENT_LANES ? [] : clients;
-        this.clientLanes = clients.length > 0 ? Math.max(this.clients.length, 1) : 0;
-        const longest = Math.max(...run.steps.map((step) => (step.line + this.whatCame(step)).length));
-        this.gutter = Math.min(70 + LETTER * Math.min(longest, LETTERS_OF_LINE), WIDEST_GUTTER);
-        const left = this.gutter + this.clientLanes * CLIENT_LANE;
-        this.lane = Math.min(Math.max(Math.floor((room - left) / run.size), NARROWEST_LANE), WIDEST_LANE);
-        this.width = left + run.size * this.lane;
-        this.letters = Math.floor((this.lane - 25) / LETTER);
+        this.whole = whole;
+        this.repeats = repeatsOf(run, messages);
+        this.layOut(room);
         this.labels = run.steps.map((step) => this.labelsOf(step));
+        this.makeRows();
+    }
+
+    // The lanes and their widths: lines are cut before clients share a lane, and these before the replicas' lanes are too narrow for words.
+    layOut(room) {
+        const clients = clientsOf(this.run);
+        this.shortNumbers = shortNumbers(clients);
+        const numbers = 26 + LETTER * String(this.run.steps.length).length * (this.whole ? 1 : 2);
+        const need = numbers + this.run.size * NARROWEST_LANE + LETTER * FEWEST_LETTERS_OF_LINE;
+        const share = clients.length > MOST_CLIENT_LANES || (clients.length > 1 && room < need + clients.length * CLIENT_LANE);
+        this.clients = share ? [] : clients;
+        this.clientLanes = clients.length > 0 ? Math.max(this.clients.length, 1) : 0;
+        const left = room - numbers - this.clientLanes * CLIENT_LANE - this.run.size * (NARROWEST_LANE + 24);
+        const longest = Math.max(...this.run.steps.map((step) => this.lineOf(step).length + 3));
+        this.lettersOfLine = Math.max(FEWEST_LETTERS_OF_LINE, Math.min(longest, MOST_LETTERS_OF_LINE, Math.floor(left / LETTER)));
+        this.numbers = numbers - 12;
+        this.gutter = numbers + LETTER * this.lettersOfLine;
+        const before = this.gutter + this.clientLanes * CLIENT_LANE;
+        this.lane = Math.min(Math.max(Math.floor((room - before) / this.run.size), NARROWEST_LANE), WIDEST_LANE);
+        this.width = before + this.run.size * this.lane;
+        this.letters = Math.floor((this.lane - 15 - CHANNEL) / LETTER);
+    }
+
+    // A step as it stands at the margin: its line, its clock where it has one, and of a delivery which message it is.
+    lineOf(step) {
+        const line = step.line.replace(/^(request \d+ )(\d+)/, (_, front, client) => front + this.shortNumbers.get(client));
+        if (step.time) return `${step.time.slice(11, 23)} ${line}`;
+        if (step.came.length === 0 || !step.line.startsWith("deliver")) return line;
+        const message = this.messages[step.came[0]];
+        return `${line} ${message.words[0]} ${message.from}→${message.to}`;
+    }
+
+    // The same in so many letters, as far as it may be left out: which message a delivery is, and a number of a client.
+    fitting(step, room) {
+        const line = this.lineOf(step);
+        return line.length <= room ? line : line.replace(/^(deliver \d+) .*/, "$1").replace(/^(request \d+) \S+ \d+ /, "$1 ");
+    }
+
+    // Whether a step says again what the one before it says: the same line, of which nothing comes.
+    repeatsLine(at) {
+        const [step, before] = [this.run.steps[at], this.run.steps[at - 1]];
+        return !this.whole && at > 0 && !step.note && [step, before].every((one) => one.outputs.length === 0) && step.line === before.line && !step.line.startsWith("deliver");
+    }
+
+    // Of each step its row, which has the first and the last step that stand in it.
+    makeRows() {
         this.rows = [];
         let y = FIRST_ROW;
-        for (const labels of this.labels) {
+        this.labels.forEach((labels, at) => {
+            if (this.repeatsLine(at)) {
+                this.rows.push(this.rows[at - 1]);
+                this.rows[at].last = at;
+                return;
+            }
             const lines = Math.max(1, ...labels.map((label) => label.lines.length));
-            this.rows.push({ y, height: 10 + LINE * lines });
-            y += 10 + LINE * lines;
-        }
+            this.rows.push({ y, height: 12 + LINE * lines, first: at, last: at });
+            y += 12 + LINE * lines;
+        });
         this.height = y + 10;
     }
 
+    firsts() {
+        return this.run.steps.map((_, at) => at).filter((at) => this.rows[at].first === at);
+    }
+
     x(replica) {
-        return this.gutter + this.clientLanes * CLIENT_LANE + replica * this.lane + 14;
+        return this.gutter + this.clientLanes * CLIENT_LANE + replica * this.lane + CHANNEL;
     }
 
     clientX(client) {
@@ -79,45 +161,55 @@ class Lanes {
         return this.rows[at].y + BASE;
     }
 
+    // Where arrows leave a row: under its words.
+    foot(at) {
+        return this.rows[at].y + this.rows[at].height - 3;
+    }
+
     // What stands beside the lanes in a step: of each replica that put something out, its lines with the outputs that each stands for.
     labelsOf(step) {
         const labels = new Map();
         step.outputs.forEach((output, place) => {
-            const words = output.split(" ");
-            const told = this.toldBy(words, step);
+            const told = this.toldBy(output.split(" "), step);
             if (told === null) return;
-            if (!labels.has(told.replica)) labels.set(told.replica, { replica: told.replica, lines: [] });
-            const lines = labels.get(told.replica).lines;
-            const last = lines[lines.length - 1];
+            if (!labels.has(told.replica)) labels.set(told.replica, { replica: told.replica, said: [] });
+            const said = labels.get(told.replica).said;
+            const last = said[said.length - 1];
             if (last && told.to !== "" && last.text === told.text) last.to += ` ${told.to}`;
-            else lines.push({ place, text: told.text, to: told.to, kind: told.kind });
+            else said.push({ place, ...told });
         });
-        for (const label of labels.values()) {
-            const more = label.lines.length - MOST_LINES;
-            if (more > 0) label.lines.splice(MOST_LINES - 1, more + 1, { ...label.lines[MOST_LINES - 1], text: `and ${more + 1} more`, to: "", kind: "more" });
-        }
-        return [...labels.values()];
+        return [...labels.values()].map((label) => ({ replica: label.replica, lines: this.linesOf(label.said) }));
+    }
+
+    // What was said, in lines that fit beside a lane.
+    linesOf(said) {
+        const lines = said.flatMap(({ place, text, to, kind, title }) => {
+            const words = wrapped(to === "" ? text : `${text} → ${to}`, this.letters);
+            return words.map((line, number) => ({ place, text: number > 0 ? ` ${cut(line, this.letters - 1)}` : line, kind, title }));
+        });
+        const more = said.filter(({ place }) => lines.findIndex((line) => line.place === place) >= MOST_LINES - 1).length;
+        return lines.length > MOST_LINES ? [...lines.slice(0, MOST_LINES - 1), { ...lines[MOST_LINES - 1], text: `and ${Math.max(more, 1)} more`, kind: "more" }] : lines;
     }
 
     toldBy(words, step) {
-        const replica = Number(words[1]);
+        const [replica, title] = [Number(words[1]), words.join(" ")];
         switch (words[0]) {
-            case "send": return { replica: Number(words[2]), text: shortly(words.slice(4)), to: words[3], kind: styleOf(words[4]) };
-            case "commit": return { replica, text: `✓ ${words[3]} ${words.slice(10).join(" ")}`, to: "", kind: "commit" };
-            case "reply": return { replica, text: `reply ${words[3]}: ${words.slice(6).join(" ")}`, to: "", kind: "client" };
-            case "choose": return { replica, text: `◆ chooses log to ${words[9]}, own ${words[11]}`, to: "", kind: "choose" };
-            case "wait": return { replica, text: `◇ waits for ${words[5]}`, to: "", kind: "wait" };
-            case "start": return { replica, text: `starts v${words[3]} log v${words[5]} ${words[7]}`, to: "", kind: "start" };
-            case "halt": return { replica, text: "halts", to: "", kind: "stop" };
+            case "send": return { replica: Number(words[2]), text: shortly(words.slice(4)), to: words[3], kind: styleOf(words[4]), title };
+            case "commit": return { replica, text: `✓ ${words[3]} ${words.slice(10).join(" ")}`, to: "", kind: "commit", title };
+            case "reply": return { replica, text: `reply ${this.shortNumbers.get(words[3])}: ${words.slice(6).join(" ")}`, to: "", kind: "client", title };
+            case "choose": return { replica, text: `◆ chooses log to ${words[9]}, own ${words[11]}`, to: "", kind: "choose", title };
+            case "wait": return { replica, text: `◇ waits for ${words[5]}`, to: "", kind: "wait", title };
+            case "start": return { replica, text: `starts v${words[3]} log v${words[5]} ${words[7]}`, to: "", kind: "start", title };
+            case "halt": return { replica, text: "halts", to: "", kind: "stop", title };
             default: {
                 const at = Number(step.line.split(" ")[1]);
-                return Number.isNaN(at) ? null : { replica: at, text: words.join(" "), to: "", kind: "fault" };
+                return Number.isNaN(at) ? null : { replica: at, text: title, to: "", kind: "fault", title };
             }
         }
     }
 
-    text(x, y, words, kind, mark = "") {
-        return `<text x="${x}" y="${y}" class="t ${kind}"${mark}>${escapeText(words)}</text>`;
+    text(x, y, words, kind, mark = "", title = "") {
+        return `<text x="${x}" y="${y}" class="t ${kind}"${mark}>${escapeText(words)}${title && `<title>${escapeText(title)}</title>`}</text>`;
     }
 
     mark(at, place = -1) {
@@ -134,7 +226,7 @@ class Lanes {
             marks.push(`<path class="lane ${role.split(" ")[0]}" d="M${this.x(index)} ${y}V${until}"/>`);
         };
         this.run.steps.forEach((step, at) => {
-            happen(world, step);
+            happen(world, step, this.run, this.messages);
             world.replicas.forEach((replica, index) => {
                 const role = roleOf(this.run, replica);
                 if (role === since[index].role) return;
@@ -149,31 +241,43 @@ class Lanes {
         return marks;
     }
 
-    arrow(fromX, fromY, toX, toY, kind, mark, title) {
-        const side = fromX < toX ? -5 : 5;
-        return `<path class="arrow ${kind}" d="M${fromX} ${fromY}L${toX + side} ${toY}" marker-end="url(#tip)"${mark}><title>${escapeText(title)}</title></path>`;
-    }
-
-    arrows() {
+    clientArrows() {
         const marks = [];
-        this.messages.forEach((message, number) => {
-            const kind = styleOf(message.words[0]);
-            const title = `message ${number}, from ${message.from} to ${message.to}: ${message.words.join(" ")}`;
-            const [x, y, to] = [this.x(message.from), this.y(message.sent), this.x(message.to)];
-            for (const at of message.arrivals) marks.push(this.arrow(x, y, to, this.y(at), kind, this.mark(at), title));
-            if (message.arrivals.length === 0) {
-                marks.push(`<path class="stub ${kind}" d="M${x} ${y}l${to > x ? 16 : -16} 7"${this.mark(message.sent)}><title>${escapeText(title)}: it doesn't arrive</title></path>`);
-            }
-        });
+        const draw = (from, to, y, mark, title) => marks.push(
+            `<path class="arrow client" d="M${from} ${y}H${to + (from < to ? -5 : 5)}" marker-end="url(#tip)"${mark}><title>${escapeText(title)}</title></path>`);
         this.run.steps.forEach((step, at) => {
             const words = step.line.split(" ");
-            if (words[0] === "request") marks.push(this.arrow(this.clientX(words[2]), this.y(at), this.x(Number(words[1])), this.y(at), "client", this.mark(at), step.line));
+            if (words[0] === "request") draw(this.clientX(words[2]), this.x(Number(words[1])), this.y(at), this.mark(at), step.line);
             step.outputs.forEach((output, place) => {
                 const parts = output.split(" ");
-                if (parts[0] === "reply") marks.push(this.arrow(this.x(Number(parts[1])), this.y(at), this.clientX(parts[3]), this.y(at) + 8, "client", this.mark(at, place), output));
+                if (parts[0] === "reply") draw(this.x(Number(parts[1])), this.clientX(parts[3]), this.y(at) + 8, this.mark(at, place), output);
             });
         });
         return marks;
+    }
+
+    // The arrows of messages, and short ones of those that never arrive.
+    messageArrows() {
+        const routes = new Routes(this);
+        return this.messages.flatMap((message, number) => {
+            const kind = styleOf(message.words[0]);
+            const title = `message ${number}, from ${message.from} to ${message.to}: ${message.words.join(" ")}`;
+            if (message.arrivals.length === 0) {
+                const [x, y] = [this.x(message.from), this.foot(message.sent)];
+                const lost = this.run.members ? "no line tells that it arrived" : "it never arrives";
+                return [`<path class="stub lost ${kind}" d="M${x} ${y}l${message.to > message.from ? 14 : -14} 5"${this.mark(message.sent)}><title>${escapeText(title)}: ${lost}</title></path>`];
+            }
+            return message.arrivals.map((at) => {
+                const again = this.repeats[number].has(at) ? " again" : "";
+                return `<path class="arrow ${kind}${again}" d="${routes.path(message, at)}" marker-end="url(#tip)"${this.mark(at)} data-message="${number}"><title>${escapeText(title)}</title></path>`;
+            });
+        });
+    }
+
+    // How many marks are hidden at first.
+    hidden() {
+        const lines = this.run.steps.filter((_, at) => !this.whole && this.rows[at].first !== at).length;
+        return this.messages.filter((message) => message.arrivals.length === 0).length + this.repeats.reduce((sum, some) => sum + some.size, 0) + lines;
     }
 
     // The form on the lane where a line happens.
@@ -184,7 +288,8 @@ class Lanes {
         if (event.at === null || Number.isNaN(event.at)) return "";
         const [x, y, mark] = [this.x(event.at), this.y(at), this.mark(at)];
         const title = `<title>${escapeText(step.line)}</title>`;
-        switch (words[0]) {
+        const kind = step.outputs.some((output) => output.startsWith("start ")) ? "start" : words[0];
+        switch (kind) {
             case "stop": return `<path class="form stop" d="M${x - 6} ${y - 6}l12 12m0 -12l-12 12"${mark}>${title}</path>`;
             case "start": return `<path class="form start" d="M${x} ${y - 7}l7 12h-14z"${mark}>${title}</path>`;
             case "fuse": return `<path class="form fault" d="M${x - 6} ${y - 6}h12v12h-12zm3 6h6"${mark}>${title}</path>`;
@@ -195,17 +300,14 @@ class Lanes {
         }
     }
 
-    // Of a delivery which message it is.
-    whatCame(step) {
-        if (step.came.length === 0 || !step.line.startsWith("deliver")) return "";
-        const message = this.messages[step.came[0]];
-        return ` ${message.words[0]} ${message.from}→${message.to}`;
-    }
-
-    // What stands at the margin of a step: its number and its line.
+    // What stands at the margin of a row: its number and its line; of lines that repeat the numbers of the first and the last.
     margin(at) {
-        const step = this.run.steps[at];
-        return this.text(44, this.y(at) + 4, String(at + 1), "number", ' text-anchor="end"') + this.text(54, this.y(at) + 4, cut(step.line + this.whatCame(step), LETTERS_OF_LINE), "line");
+        const { last } = this.rows[at];
+        const times = last > at ? ` ×${last - at + 1}` : "";
+        const number = last > at ? `${at + 1}–${last + 1}` : String(at + 1);
+        const room = this.lettersOfLine - 1 - times.length;
+        const line = cut(this.fitting(this.run.steps[at], room), room) + times;
+        return this.text(this.numbers, this.y(at) + 4, number, "number", ' text-anchor="end"') + this.text(this.numbers + 8, this.y(at) + 4, line, "line", "", this.run.steps[at].line);
     }
 
     row(at) {
@@ -216,32 +318,35 @@ class Lanes {
         const marks = [this.margin(at)];
         for (const label of this.labels[at]) {
             label.lines.forEach((line, place) => {
-                const words = line.to === "" ? line.text : `${line.text} → ${line.to}`;
-                marks.push(this.text(this.x(label.replica) + 15, this.y(at) + 4 + LINE * place, cut(words, this.letters), line.kind, this.mark(at, line.place)));
+                marks.push(this.text(this.x(label.replica) + 15, this.y(at) + 4 + LINE * place, line.text, line.kind, this.mark(at, line.place), line.title));
             });
         }
         return `<g id="words-${at}" class="words">${marks.join("")}</g>`;
     }
 
     heading() {
-        const names = [this.text(54, 18, "line", "line")];
-        if (this.clients.length === 0 && this.clientLanes > 0) names.push(this.text(this.clientX(""), 18, "clients", "name", ' text-anchor="middle"'));
-        for (const client of this.clients) names.push(this.text(this.clientX(client), 18, `client ${cut(client, 6)}`, "name", ' text-anchor="middle"'));
-        for (let replica = 0; replica < this.run.size; replica += 1) names.push(this.text(this.x(replica) - 8, 18, `replica ${replica}`, "name"));
-        return `<svg width="${this.width}" height="28" aria-hidden="true">${names.join("")}</svg>`;
+        const names = [this.text(this.numbers + 8, 22, "line", "line")];
+        const middle = ' text-anchor="middle"';
+        if (this.clients.length === 0 && this.clientLanes > 0) names.push(this.text(this.clientX(""), 22, "clients", "name", middle));
+        for (const client of this.clients) {
+            names.push(this.text(this.clientX(client), 13, "client", "name", middle, `client ${client}`));
+            names.push(this.text(this.clientX(client), 26, cut(this.shortNumbers.get(client), 8), "name", middle, `client ${client}`));
+        }
+        for (let replica = 0; replica < this.run.size; replica += 1) names.push(this.text(this.x(replica) - 8, 22, `replica ${replica}`, "name"));
+        return `<svg width="${this.width}" height="32" aria-hidden="true">${names.join("")}</svg>`;
     }
 
     svg() {
-        const steps = this.run.steps.map((_, at) => at);
+        const firsts = this.firsts();
         return [
             `<svg id="picture" width="${this.width}" height="${this.height}" role="img" aria-label="The run as a picture: its lines, replicas and messages. The panel beside it says the same of each line in words.">`,
             '<defs><marker id="tip" viewBox="0 0 8 8" refX="7" refY="4" markerWidth="9" markerHeight="9" markerUnits="userSpaceOnUse" orient="auto"><path d="M0 0L8 4L0 8z" fill="context-stroke"/></marker></defs>',
-            ...steps.map((at) => this.row(at)),
+            ...firsts.map((at) => this.row(at)),
             ...this.lanes(),
-            ...this.arrows(),
-            ...steps.map((at) => this.form(at)),
-            ...steps.map((at) => this.words(at)),
-            `<rect id="later" x="0" width="${this.width}" y="0" height="0"/>`,
+            ...this.clientArrows(),
+            ...this.messageArrows(),
+            ...firsts.map((at) => this.form(at)),
+            ...firsts.map((at) => this.words(at)),
             "</svg>",
         ].join("");
     }

@@ -8,8 +8,14 @@ const ELSE = "none of the rules of this event that stand before it applies";
 
 const run = JSON.parse(document.getElementById("run").textContent);
 const messages = messagesOf(run);
-const lanes = new Lanes(run, messages, document.getElementById("timeline").clientWidth - 20);
+let lanes = null;
 const shown = { at: 0, output: -1 };
+
+// What the letters of a log mean.
+const LETTERS = {
+    h: "here", l: "lost: it was accepted and can't be read", w: "wanted: its header alone is known", u: "unknown: it may have been accepted",
+    n: "none", "?": "asked for: lost or wanted",
+};
 
 const byId = (id) => document.getElementById(id);
 
@@ -28,10 +34,10 @@ function ruleText(html) {
     return element;
 }
 
-function ruleCard(name, fits) {
+function ruleCard(name, alone) {
     const rule = run.rules.rules[name];
     if (!rule) return make("p", {}, name);
-    const card = make("div", { class: fits ? "rule fits" : "rule", "data-rule": name }, make("b", {}, `Rule ${rule.no}, ${name}`), fits ? ": it fits what was put out" : "");
+    const card = make("div", { class: alone === null ? "rule" : "rule fits", "data-rule": name }, make("b", {}, `Rule ${rule.no}, ${name}`), alone ? ": the rule that fits" : "");
     card.append(make("p", {}, make("i", {}, "When "), ruleText(rule.when === "else" ? ELSE : rule.when)), make("p", {}, make("i", {}, "Then "), ruleText(rule.what)));
     return card;
 }
@@ -42,28 +48,44 @@ function wordCard(word) {
     return make("div", { class: "rule fits", "data-word": word }, make("b", {}, word), make("p", {}, ruleText(entry)));
 }
 
+const noteOf = (text) => make("p", { class: "note" }, text);
+
 function showWhy() {
     const step = run.steps[shown.at];
     const { fit, others, words, note } = explainStep(run, messages, shown.at);
-    const rules = fit.map((name) => ruleCard(name, step.outputs.length > 0));
+    const rules = fit.map((name) => ruleCard(name, fit.length === 1));
+    if (fit.length > 1) rules.unshift(noteOf("It can't be told which of these rules it was:"));
     if (shown.output >= 0) {
         const word = explainOutput(step, step.outputs[shown.output], fit);
         const cards = word ? [wordCard(word), ...rules] : [...rules, ...words.filter((name) => run.rules.words[name]).map(wordCard)];
-        byId("why").replaceChildren(make("p", { class: "note" }, "Of this output:"), ...cards);
+        byId("why").replaceChildren(noteOf("Of this output:"), ...cards);
         return;
     }
     const parts = [...words.map(wordCard), ...rules];
-    if (note) parts.unshift(make("p", { class: "note" }, note));
+    if (note) parts.unshift(noteOf(note));
     if (others.length > 0) {
         const summary = make("summary", {}, `the other rules of this event: ${others.map((name) => run.rules.rules[name].no).join(", ")}`);
-        parts.push(make("details", {}, summary, ...others.map((name) => ruleCard(name, false))));
+        parts.push(make("details", {}, summary, ...others.map((name) => ruleCard(name, null))));
     }
     byId("why").replaceChildren(...parts);
+}
+
+// The letters that an output has, each in words.
+function wordsOfLetters(output) {
+    const words = output.split(" ");
+    const own = words[0] === "choose";
+    if (!own && words[4] !== "do_view_change") return [];
+    const letters = words[words.length - 1];
+    if (letters === "-") return [noteOf("Above its commit number it knows of nothing.")];
+    const first = own ? null : numbersOf(words.slice(4)).c + 1;
+    const each = [...letters].map((letter, place) => `${first === null ? "" : `operation ${first + place}: `}${letter}, ${LETTERS[letter]}`);
+    return [make("p", { class: "note letters-words" }, `${own ? "Its own log above its commit number: " : ""}${each.slice(0, MOST_LETTERS).join("; ")}${each.length > MOST_LETTERS ? "; .." : ""}.`)];
 }
 
 function showStep() {
     const step = run.steps[shown.at];
     const parts = [make("p", { class: "thing", id: "line" }, step.line)];
+    if (step.time) parts.push(make("p", { class: "note", id: "time" }, `at ${step.time}`));
     for (const number of step.came) {
         const message = messages[number];
         parts.push(make("p", { class: "came" }, `message ${number} comes, ${message.from} to ${message.to}: ${message.words.join(" ")}`));
@@ -72,7 +94,7 @@ function showStep() {
     step.outputs.forEach((output, place) => {
         const button = make("button", { type: "button", class: "said", "aria-pressed": String(place === shown.output) }, output);
         button.addEventListener("click", () => choose(shown.at, place === shown.output ? -1 : place));
-        parts.push(button);
+        parts.push(button, ...wordsOfLetters(output));
     });
     if (step.outputs.length === 0) parts.push(make("p", { class: "note" }, "Nothing is put out."));
     byId("step").replaceChildren(...parts);
@@ -81,7 +103,10 @@ function showStep() {
 function lettersOf(replica) {
     const ops = [...replica.letters.keys()].sort((one, other) => one - other).slice(-MOST_LETTERS);
     if (ops.length === 0) return ["nothing is told"];
-    return ops.map((op) => make("span", {}, `${op}${replica.letters.get(op)}`));
+    return ops.map((op) => {
+        const words = `operation ${op}: ${LETTERS[replica.letters.get(op)]}`;
+        return make("span", { tabindex: "0", "data-words": words, "aria-label": words }, `${op}${replica.letters.get(op)}`);
+    });
 }
 
 function keyList(world, replica) {
@@ -117,18 +142,31 @@ function showWay() {
 }
 
 function showPicture() {
+    const { first, y, height } = lanes.rows[shown.at];
     for (const row of document.querySelectorAll(".row.chosen, .words.chosen")) row.classList.remove("chosen");
-    for (const arrow of document.querySelectorAll(".arrow.now")) arrow.classList.remove("now");
-    byId(`row-${shown.at}`).classList.add("chosen");
-    byId(`words-${shown.at}`).classList.add("chosen");
-    for (const arrow of document.querySelectorAll(`.arrow[data-step="${shown.at}"]`)) arrow.classList.add("now");
-    const { y, height } = lanes.rows[shown.at];
-    const later = byId("later");
-    later.setAttribute("y", y + height);
-    later.setAttribute("height", lanes.height - y - height);
+    for (const arrow of document.querySelectorAll(".arrow.now, .stub.now")) arrow.classList.remove("now");
+    byId(`row-${first}`).classList.add("chosen");
+    byId(`words-${first}`).classList.add("chosen");
+    for (const arrow of document.querySelectorAll(`.arrow[data-step="${shown.at}"], .stub[data-step="${shown.at}"]`)) arrow.classList.add("now");
     const timeline = byId("timeline");
     const room = timeline.clientHeight - byId("heading").offsetHeight;
     if (y < timeline.scrollTop || y + height > timeline.scrollTop + room) timeline.scrollTop = Math.max(0, y - room / 2);
+    const { at } = eventOf(run, messages, shown.at);
+    if (at === null || Number.isNaN(at)) return;
+    const x = lanes.x(at);
+    if (x - CHANNEL < timeline.scrollLeft || x + NARROWEST_LANE - CHANNEL > timeline.scrollLeft + timeline.clientWidth) {
+        timeline.scrollLeft = Math.max(0, x + NARROWEST_LANE - timeline.clientWidth);
+    }
+}
+
+// Draws the lanes for the width that there is: whole, or without what never arrives and what repeats.
+function draw() {
+    const whole = byId("whole").checked;
+    lanes = new Lanes(run, messages, byId("timeline").clientWidth - 18, whole);
+    byId("heading").innerHTML = lanes.heading();
+    byId("lanes").innerHTML = lanes.svg();
+    byId("picture").classList.toggle("whole", whole);
+    byId("picture").addEventListener("click", onMark);
 }
 
 // Shows a line, and of it an output where one is chosen.
@@ -164,25 +202,31 @@ function onMark(event) {
     if (mark) choose(Number(mark.dataset.step), Number(mark.dataset.output ?? -1));
 }
 
-function fromHash() {
-    const line = Number(location.hash.slice(1));
-    return Number.isInteger(line) && line > 0 ? line - 1 : 0;
+// The line that a page opens at: that of its address, else the one that its run is about, else the first choice of a log, else the first that puts something out.
+function opensAt() {
+    const line = Number(location.hash.slice(1)) || run.at;
+    if (Number.isInteger(line) && line > 0) return line - 1;
+    const choice = run.steps.findIndex((step) => step.outputs.some((output) => output.startsWith("choose ")));
+    return choice >= 0 ? choice : Math.max(0, run.steps.findIndex((step) => step.outputs.length > 0));
 }
 
 function begin() {
     byId("about").textContent = run.about;
-    byId("heading").innerHTML = lanes.heading();
-    byId("lanes").innerHTML = lanes.svg();
+    draw();
+    const hidden = lanes.hidden();
+    byId("hidden").textContent = String(hidden);
+    byId("hiding").hidden = hidden === 0;
+    byId("whole").addEventListener("change", () => { draw(); showPicture(); });
     byId("slider").max = String(run.steps.length);
     byId("slider").addEventListener("input", () => choose(Number(byId("slider").value) - 1));
     byId("first").addEventListener("click", () => choose(0));
     byId("back").addEventListener("click", () => choose(shown.at - 1));
     byId("on").addEventListener("click", () => choose(shown.at + 1));
     byId("last").addEventListener("click", () => choose(run.steps.length - 1));
-    byId("picture").addEventListener("click", onMark);
     document.addEventListener("keydown", onKey);
-    addEventListener("hashchange", () => choose(fromHash()));
-    choose(fromHash());
+    addEventListener("hashchange", () => choose(opensAt()));
+    addEventListener("resize", () => { draw(); showPicture(); });
+    choose(opensAt());
 }
 
 begin();

@@ -11,11 +11,21 @@ import time
 EXAMPLES = os.path.join(os.path.dirname(os.path.abspath(__file__)), "..")
 PROGRAM = os.environ.get("PROGRAM") or os.path.join(EXAMPLES, "..", "crates", "vr_app", "out", "vr_app")
 GROUP = re.compile(r"cluster ([1-6])( .*)?")
+AT = re.compile(r"# at ([1-9][0-9]*)")
+"""A comment that says at which of an example's lines its page opens."""
 MOST_OF_A_WORD = 72
 
 
 class BadRun(Exception):
     """What was given can't be shown; the text says why."""
+
+
+def opens_at(text, count):
+    """The number of the line that an example is about; 0 where it doesn't say."""
+    found = next((int(match[1]) for match in map(AT.fullmatch, text.split("\n")) if match), 0)
+    if found > count:
+        raise BadRun(f"`# at {found}`: it has {count} lines")
+    return found
 
 
 def step_of(line, note=""):
@@ -26,6 +36,8 @@ def read_example(text):
     """The comment at the head of an example, and its steps, each with the comment above it and the outputs under it."""
     about, notes, steps = "", [], []
     for line in text.split("\n"):
+        if AT.fullmatch(line):
+            continue
         if line.startswith("#"):
             notes.append(line.lstrip("# "))
         elif line.startswith("  ") and steps:
@@ -118,7 +130,8 @@ def shorten(line):
 def read_run(path):
     """The run of an example or a plain schedule, ready for the page."""
     with open(path, encoding="ascii") as file:
-        about, steps = read_example(file.read())
+        text = file.read()
+    about, steps = read_example(text)
     if not steps or not GROUP.fullmatch(steps[0]["line"]):
         raise BadRun("the first line of a schedule is `cluster N`")
     if not any(step["outputs"] for step in steps):
@@ -131,4 +144,4 @@ def read_run(path):
     for step in steps:
         step["line"] = shorten(step["line"])
         step["outputs"] = [shorten(output) for output in step["outputs"]]
-    return {"about": about, "size": int(GROUP.fullmatch(steps[0]["line"])[1]), "steps": steps}
+    return {"about": about, "size": int(GROUP.fullmatch(steps[0]["line"])[1]), "at": opens_at(text, len(steps)), "steps": steps}

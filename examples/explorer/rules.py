@@ -1,9 +1,11 @@
 """The rules of docs/RULES.md, as pieces of HTML by their names."""
 
+import json
 import os
 import re
 from html import escape
 
+TOLD = os.path.join(os.path.dirname(os.path.abspath(__file__)), "told.json")
 PAGE = os.path.join(os.path.dirname(os.path.abspath(__file__)), "..", "..", "docs", "RULES.md")
 FAULT_LINES = ("damage", "stale", "unread", "misdirect")
 BELOW = {"take a log": "Taking a log", "jump": "Jumping", "visit": "Visiting"}
@@ -46,8 +48,14 @@ def paragraph(text, front):
     return "" if at < 0 else " ".join(text[at:].split("\n\n")[0].split())
 
 
+def read_told():
+    """What each rule asks of the numbers and puts out, a row for each case: of an event, conditions that hold, the outputs as a pattern."""
+    with open(TOLD, encoding="utf-8") as file:
+        return json.load(file)
+
+
 def read_rules():
-    """`rules` by their names, each with number, condition and effect; `words` by the names that the page gives them."""
+    """`rules` by their names, each with number, condition and effect; `words` by the names that the page gives them; `told` (read_told)."""
     with open(PAGE, encoding="utf-8") as file:
         text = file.read()
     rules, words = {}, {}
@@ -66,4 +74,4 @@ def read_rules():
     words["start"] += f" {words['the opening']}"
     words["a cut"] = inline(paragraph(text, "*A cut*"))
     words["a fault"] = inline(paragraph(text, "*A fault*"))
-    return {"rules": rules, "words": words}
+    return {"rules": rules, "words": words, "told": read_told()}

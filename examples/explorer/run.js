@@ -23,16 +23,23 @@ function messagesOf(run) {
     return messages;
 }
 
-// What is told of a replica: `view`, whether it is `started` in it, `commit` number, last op `applied`, `head`, and of each op a letter.
+// What is told of a replica: `view`, whether it is `started` in it, `commit` number, last op `applied`, `head`, and of each op a letter. A log
+// may be taken over without a word: `silent` has what the logs say that may have been. `least` and `most` bound what is told by no line: the head,
+// and the last op applied after a start.
 function freshReplica(index) {
-    return { index, runs: true, view: 0, started: true, logView: 0, commit: 0, applied: 0, most: 0, head: 0, letters: new Map(), waits: "", asks: "" };
+    const silent = { view: 0, head: 0, checkpoint: 0 };
+    return { index, runs: true, view: 0, started: true, logView: 0, commit: 0, applied: 0, most: 0, sure: true, head: 0, least: 0, letters: new Map(), waits: "", asks: "", silent };
 }
 
 function enterView(replica, view, started) {
-    if (started && (view > replica.logView || !replica.started)) forgetAbove(replica, replica.commit);
+    if (started && (view > replica.logView || !replica.started)) {
+        forgetAbove(replica, replica.commit);
+        replica.least = Math.min(replica.least, replica.commit);
+    }
     if (view >= replica.view) {
         replica.view = view;
         replica.started = started;
+        if (view >= replica.silent.view) replica.silent.view = 0;
     }
     if (started) {
         replica.logView = Math.max(view, replica.logView);
@@ -50,6 +57,13 @@ function forgetAbove(replica, op) {
 function learn(replica, commit) {
     replica.commit = Math.max(replica.commit, commit);
     replica.head = Math.max(replica.head, commit);
+    replica.least = Math.max(replica.least, commit);
+}
+
+// Its head, where a line says it.
+function headIs(replica, head) {
+    replica.head = replica.least = head;
+    replica.silent.head = 0;
 }
 
 function holds(replica, op, letter) {
@@ -69,18 +83,20 @@ const SENDS = {
         enterView(replica, view, true);
         learn(replica, commit);
         holds(replica, op, "h");
+        replica.least = Math.max(replica.least, op);
     },
     prepare_ok(replica, words) {
         const [view, op] = fields(words, "view", "op");
         enterView(replica, view, true);
         holds(replica, op, "h");
+        replica.least = Math.max(replica.least, op);
         replica.asks = "";
     },
     commit(replica, words) {
         const [view, head] = fields(words, "view", "op");
         enterView(replica, view, true);
         learn(replica, Number(words[words.length - 1]));
-        replica.head = Math.max(replica.head, head);
+        headIs(replica, head);
     },
     start_view_change(replica, words) {
         enterView(replica, fields(words, "view")[0], false);
@@ -92,14 +108,14 @@ const SENDS = {
         learn(replica, commit);
         forgetAbove(replica, commit);
         state(replica, commit, words[words.length - 1]);
-        replica.head = head;
+        headIs(replica, head);
     },
     start_view(replica, words) {
         const [view, head, commit] = fields(words, "view", "op", "commit");
         enterView(replica, view, true);
         learn(replica, commit);
         forgetAbove(replica, head);
-        replica.head = head;
+        headIs(replica, head);
     },
     sync_view(replica, words) {
         SENDS.start_view(replica, words);
@@ -130,6 +146,8 @@ const OUTPUTS = {
         const [op, client, request] = fields(words, "op", "client", "request");
         world.log.set(op, { op, client, request, operation: words.slice(10) });
         replica.applied = op;
+        replica.sure = true;
+        replica.silent.checkpoint = 0;
         replica.most = Math.max(replica.most, op);
         replica.asks = "";
         learn(replica, op);
@@ -145,7 +163,7 @@ const OUTPUTS = {
         enterView(replica, view, true);
         learn(replica, commit);
         forgetAbove(replica, head);
-        replica.head = head;
+        headIs(replica, head);
     },
     wait(world, words) {
         const replica = world.replicas[words[1]];
@@ -155,10 +173,13 @@ const OUTPUTS = {
     },
     start(world, words) {
         const [view, log, commit] = fields(words, "view", "log_view", "commit");
-        const kept = world.replicas[words[1]].most;
+        const { most, head, silent } = world.replicas[words[1]];
         const replica = freshReplica(Number(words[1]));
         world.replicas[words[1]] = replica;
-        Object.assign(replica, { view, logView: log, started: view === log, most: kept });
+        Object.assign(replica, { view, logView: log, started: view === log, most, sure: false });
+        replica.head = Math.max(head, silent.head);
+        replica.silent.checkpoint = silent.checkpoint;
+        const kept = most;
         replica.applied = Math.floor(kept / CHECKPOINT_EVERY) * CHECKPOINT_EVERY;
         learn(replica, commit);
     },
@@ -167,18 +188,30 @@ const OUTPUTS = {
     },
 };
 
+// A log that came and of which nothing was said: it may have been taken over all the same.
+function hearSilently(run, world, message) {
+    const replica = world.replicas[message.to];
+    if (!replica.runs || !["start_view", "sync_view"].includes(message.words[0])) return;
+    const [view, head] = fields(message.words, "view", "op");
+    if (view < replica.view || view % run.size === replica.index || (view === replica.view && replica.started && head <= replica.least)) return;
+    replica.silent.view = Math.max(replica.silent.view, view);
+    replica.silent.head = Math.max(replica.silent.head, head);
+    if (message.words[0] === "sync_view") replica.silent.checkpoint = Math.max(replica.silent.checkpoint, Number(message.words[8]));
+}
+
 // Whether it sent that it is still changing its view: a tick at a replica that does always says so.
 const stillChanges = (step) => step.outputs.some((output) => output.split(" ")[4] === "start_view_change");
 
-function happen(world, step) {
+function happen(world, step, run, messages) {
     const words = step.line.split(" ");
+    for (const number of step.came) if (messages) hearSilently(run, world, messages[number]);
     if (words[0] === "stop") world.replicas[words[1]].runs = false;
     for (const output of step.outputs) {
         const parts = output.split(" ");
         const told = OUTPUTS[parts[0]];
         if (told) told(world, parts);
     }
-    if (words[0] === "tick" && world.replicas[words[1]].runs && !stillChanges(step)) {
+    if (words[0] === "tick" && world.replicas.length > 1 && world.replicas[words[1]].runs && !stillChanges(step)) {
         const replica = world.replicas[words[1]];
         enterView(replica, replica.view, true);
     }
@@ -187,7 +220,8 @@ function happen(world, step) {
 // What is told of the group after step `at`, the first being 0.
 function worldAfter(run, at) {
     const world = { replicas: Array.from({ length: run.size }, (_, index) => freshReplica(index)), log: new Map() };
-    for (let step = 0; step <= at; step += 1) happen(world, run.steps[step]);
+    const messages = at < 0 ? [] : messagesOf(run);
+    for (let step = 0; step <= at; step += 1) happen(world, run.steps[step], run, messages);
     return world;
 }
 

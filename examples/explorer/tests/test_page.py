@@ -196,7 +196,7 @@ class Page(unittest.TestCase):
         self.open(EXAMPLES / "view-change.txt")
         fits = "[...document.querySelectorAll('#why > .rule')].map(e => e.dataset.rule || e.dataset.word)"
         for line, wanted in (
-                (2, ["Made"]), (3, ["Known", "Next"]), (5, ["Counted"]), (7, ["stop"]), (8, ["TickedBackup"]), (12, ["TickedBackup"]), (13, ["ChangeLater"]),
+                (2, ["Made"]), (3, ["Next"]), (5, ["Counted"]), (7, ["stop"]), (8, ["TickedBackup"]), (12, ["TickedBackup"]), (13, ["ChangeLater"]),
                 (14, ["Stated"]), (15, ["Taken"]), (20, ["start"]), (21, ["Redirected"]), (22, ["ChangeDone"]), (23, ["Taken"])):
             self.go(line)
             with self.subTest(line=line):
@@ -290,9 +290,8 @@ class Rules(unittest.TestCase):
         sys.path.insert(0, str(EXAMPLES / "explorer"))
         from rules import read_rules
         rules = read_rules()
+        self.assertEqual({row["rule"] for row in rules["told"]}, set(rules["rules"]))
         script = (EXAMPLES / "explorer" / "explain.js").read_text()
-        table = script[script.index("const EVENT_RULES"):script.index("};", script.index("const EVENT_RULES"))]
-        self.assertEqual(sorted(re.findall(r'"(\w+)"', table)), sorted(rules["rules"]))
         words = script[script.index("const OUTPUT_WORDS"):script.index("// What happened to a replica")]
         for word in set(re.findall(r': "([^"]+)"', words)) | {"cluster", "stop", "start", "fuse", "damage", "stale", "unread", "misdirect"}:
             self.assertTrue(rules["words"].get(word), word)
