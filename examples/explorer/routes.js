@@ -48,7 +48,8 @@ class Routes {
         const [x, toX, toY] = [lanes.x(message.from), lanes.x(message.to), lanes.y(at)];
         const y = lanes.labels[message.sent].some((label) => label.replica === message.from) ? lanes.foot(message.sent) : lanes.y(message.sent);
         const right = x < toX;
-        if (x === toX || !this.meets(x, y, toX, toY, message.sent, at)) return `M${x} ${y}L${toX + (right ? -5 : 5)} ${toY}`;
+        const tip = toX + (right ? -5 : 5);
+        if (!this.meets(x, y, tip, toY, message.sent, at)) return `M${x} ${y}L${tip} ${toY}`;
         if (right) {
             const channel = this.track(message.to, y, toY);
             return `M${x} ${y}H${channel - 3}l3 3V${toY - 3}l2 3H${toX - 5}`;

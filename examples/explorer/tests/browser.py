@@ -11,7 +11,8 @@ import time
 
 NAMES = ("chromium", "chromium-browser", "google-chrome")
 PATIENCE = 120.0
-KEYS = {"ArrowRight": 39, "ArrowLeft": 37, "Home": 36, "End": 35, "PageDown": 34, "PageUp": 33, "Tab": 9, "Enter": 13}
+KEYS = {"ArrowRight": 39, "ArrowLeft": 37, "Home": 36, "End": 35, "PageDown": 34, "PageUp": 33, "Tab": 9, "Enter": 13, "Space": 32}
+TEXTS = {"Enter": "\r", "Space": " "}
 
 
 def find_browser():
@@ -98,11 +99,12 @@ class Browser:
         return made["result"].get("value")
 
     def press(self, key, times=1):
+        named = {"key": " " if key == "Space" else key, "code": key, "windowsVirtualKeyCode": KEYS[key]}
         for _ in range(times):
-            for kind in ("rawKeyDown", "keyUp"):
-                self.call("Input.dispatchKeyEvent", type=kind, key=key, code=key, windowsVirtualKeyCode=KEYS[key])
-            if key == "Enter":
-                self.call("Input.dispatchKeyEvent", type="char", key=key, text="\r")
+            self.call("Input.dispatchKeyEvent", type="rawKeyDown", **named)
+            if key in TEXTS:
+                self.call("Input.dispatchKeyEvent", type="char", text=TEXTS[key], **named)
+            self.call("Input.dispatchKeyEvent", type="keyUp", **named)
 
     def click(self, selector):
         """A click into the middle of an element that is in sight."""

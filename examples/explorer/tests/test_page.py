@@ -9,6 +9,7 @@ import unittest
 from pathlib import Path
 
 from browser import Browser, find_browser
+from contrasts import contrast, parts_of
 
 EXAMPLES = Path(__file__).resolve().parents[2]
 LIMIT = 2_000_000
@@ -148,8 +149,9 @@ class Page(unittest.TestCase):
             let gets = 0, starts = 0;
             run.steps.forEach((step, at) => step.outputs.forEach((output) => {
                 const words = output.split(" ");
-                const world = worldAfter(run, at);
-                const entry = words[0] === "reply" && words[6] === "op" ? world.log.get(Number(words[7])) : null;
+                const answers = words[0] === "reply" && words[6] === "op";
+                const world = answers ? worldAfter(run, at) : null;
+                const entry = answers ? world.log.get(Number(words[7])) : null;
                 if (entry && entry.operation[0] === "get") {
                     const value = keysOf(world, entry.op).keys.get(entry.operation[1]);
                     gets += 1;
@@ -231,16 +233,16 @@ class Page(unittest.TestCase):
             self.browser.scheme(scheme)
             grounds.add(self.browser.value("getComputedStyle(document.body).backgroundColor"))
             self.picture(f"damaged-copy-{scheme}")
-            for pair in (("--text", 7.0), ("--faint", 4.5), ("--normal", 4.5), ("--change", 4.5), ("--repair", 4.5), ("--client", 4.5), ("--commit", 4.5), ("--bad", 4.5)):
-                for ground in ("--ground", "--raised"):
-                    with self.subTest(scheme, colour=pair[0], ground=ground):
-                        self.assertGreaterEqual(contrast(self.colour(pair[0]), self.colour(ground)), pair[1])
+            for colour in ("--text", "--faint", "--normal", "--change", "--repair", "--client", "--commit", "--bad"):
+                for ground in ("--ground", "--raised", "--chosen"):
+                    with self.subTest(scheme, colour=colour, ground=ground):
+                        self.assertGreaterEqual(contrast(self.colour(colour), self.colour(ground)), 7.0 if colour == "--text" else 4.5)
+            self.assertEqual(self.browser.value(FAINT_WORDS), [])
         self.browser.scheme("light")
         self.assertEqual(len(grounds), 2)
 
     def colour(self, name):
-        text = self.browser.value(f"getComputedStyle(document.documentElement).getPropertyValue('{name}').trim()")
-        return [int(text[at:at + 2], 16) / 255 for at in (1, 3, 5)]
+        return parts_of(self.browser.value(f"getComputedStyle(document.documentElement).getPropertyValue('{name}').trim()"))
 
     def picture(self, name):
         if os.environ.get("PICTURES"):
@@ -268,21 +270,114 @@ class Page(unittest.TestCase):
             self.assertEqual(self.shown(replica)[5], "size = 3")
         self.picture("members")
 
-    def test_narrow(self):
-        self.browser.size(420, 900)
-        self.open(EXAMPLES / "damaged-copy.txt")
-        self.assertLessEqual(self.browser.value("document.documentElement.scrollWidth"), 420)
-        self.picture("narrow")
+    def test_widths(self):
+        """On a phone, a small and a large screen, light and dark: the page isn't wider than the screen, and what it is about is in sight."""
+        for width, height in ((390, 844), (1024, 768), (1600, 900)):
+            self.browser.size(width, height)
+            self.open(EXAMPLES / "damaged-copy.txt")
+            with self.subTest(width=width):
+                self.assertLessEqual(self.browser.value("document.documentElement.scrollWidth"), width)
+                self.assertTrue(self.browser.value(IN_SIGHT))
+                self.assertTrue(self.browser.value("document.querySelector('#key li').getClientRects().length > 0"))
+            for scheme in ("light", "dark"):
+                self.browser.scheme(scheme)
+                self.picture(f"damaged-copy-{width}-{scheme}")
+        self.browser.scheme("light")
         self.browser.size(1440, 900)
 
+    def test_opens_at_what_it_is_about(self):
+        place = "document.getElementById('place').textContent"
+        for name, wanted in (("view-change.txt", "14 of 23"), ("damaged-copy.txt", "18 of 19"), ("put-get.txt", "6 of 14"), ("redirect.txt", "2 of 2")):
+            self.open(EXAMPLES / name)
+            self.assertEqual(self.browser.value(place), wanted, name)
+            self.assertTrue(self.browser.value(IN_SIGHT), name)
+        example = Path(self.folder.name) / "at.txt"
+        example.write_text("# About.\n# at 9\ncluster 2\nrequest 1 7 0 register\n  reply 1 client 7 request 0 redirect 0\n")
+        with self.assertRaisesRegex(AssertionError, "# at 9"):
+            make_page(self.folder.name, example)
 
-def contrast(one, other):
-    """The ratio of two colours' brightness, as the accessibility guidelines define it."""
-    def brightness(colour):
-        parts = [part / 12.92 if part <= 0.03928 else ((part + 0.055) / 1.055) ** 2.4 for part in colour]
-        return 0.2126 * parts[0] + 0.7152 * parts[1] + 0.0722 * parts[2]
-    dark, light = sorted((brightness(one), brightness(other)))
-    return (light + 0.05) / (dark + 0.05)
+    def test_no_arrow_runs_through_words(self):
+        for name, width in (("view-change.txt", 1024), ("careful-random-1.txt", 1600), ("version-2-random-2.txt", 1024)):
+            self.browser.size(width, 900)
+            self.open(EXAMPLES / name)
+            for whole in ("false", "true"):
+                self.browser.value(f"byId('whole').checked = {whole}; byId('whole').dispatchEvent(new Event('change'))")
+                with self.subTest(name, width=width, whole=whole):
+                    self.assertEqual(self.browser.value(CROSSED), [])
+        self.browser.size(1440, 900)
+
+    def test_what_is_hidden_at_first(self):
+        self.open(EXAMPLES / "view-change.txt")
+        seen = "[...document.querySelectorAll('.stub, .arrow')].filter((e) => getComputedStyle(e).display !== 'none').length"
+        rows = "document.querySelectorAll('.row').length"
+        # Of the five ticks four put nothing out, and share a row. Each message that arrives does so once.
+        before = (self.browser.value(seen), self.browser.value(rows))
+        self.browser.value("byId('whole').focus()")
+        self.browser.press("Space")
+        after = (self.browser.value(seen), self.browser.value(rows))
+        sent = sum(output.startswith("send ") for _, outputs in read_text(EXAMPLES / "view-change.txt") for output in outputs)
+        arrived = sum(line.startswith("deliver ") for line, _ in read_text(EXAMPLES / "view-change.txt"))
+        now = self.browser.value("[...document.querySelectorAll('.stub.now')].length")
+        self.assertEqual((before[1], after[1]), (20, 23))
+        self.assertEqual(after[0] - before[0], sent - arrived - now)
+        self.assertEqual(self.browser.value("byId('hidden').textContent"), str(sent - arrived + 3))
+
+    def test_letters_have_words(self):
+        self.open(EXAMPLES / "damaged-copy.txt")
+        self.go(17)
+        self.assertIn("operation 1: h, here", self.browser.value("document.getElementById('step').textContent"))
+        for _ in range(40):
+            self.browser.press("Tab")
+            if self.browser.value("document.activeElement.dataset.words || ''"):
+                break
+        self.assertEqual(self.browser.value("document.activeElement.dataset.words"), "operation 1: here")
+        self.assertEqual(self.browser.value("getComputedStyle(document.activeElement, '::after').content"), '"operation 1: here"')
+
+    def test_long_numbers_of_clients(self):
+        clients = ("18446744073709551615", "18446744073709551614", "7")
+        example = Path(self.folder.name) / "clients.txt"
+        example.write_text("cluster 2\n" + "".join(f"request 1 {client} 0 register\n  reply 1 client {client} request 0 redirect 0\n" for client in clients))
+        self.open(example)
+        boxes = self.browser.value("[...document.querySelectorAll('#heading text')].map((e) => e.getBBox()).map((b) => [b.x, b.y, b.x + b.width, b.y + b.height])")
+        for place, one in enumerate(boxes):
+            for other in boxes[place + 1:]:
+                self.assertTrue(one[2] <= other[0] or other[2] <= one[0] or one[3] <= other[1] + 4 or other[3] <= one[1] + 4, (one, other))
+        names = self.browser.value("[...document.querySelectorAll('#heading text')].map((e) => e.firstChild.textContent)")
+        self.assertEqual([name for name in names if "…" in name], ["18…615", "18…614"])
+
+
+IN_SIGHT = """(() => {
+    const row = document.querySelector('.row.chosen').getBoundingClientRect();
+    const room = document.getElementById('timeline').getBoundingClientRect();
+    return row.top >= room.top && row.bottom <= room.bottom;
+})()"""
+
+# Words that an arrow which can be seen runs through: each arrow is followed in steps of four pixels.
+CROSSED = """(() => {
+    const boxes = new Map();
+    for (const text of document.querySelectorAll('.t[data-output]')) {
+        const box = text.getBBox();
+        const found = { left: box.x, right: box.x + box.width, top: box.y + 3, bottom: box.y + box.height - 3, words: text.textContent };
+        for (let at = Math.floor(found.top / 50); at <= Math.floor(found.bottom / 50); at += 1) boxes.set(at, [...(boxes.get(at) || []), found]);
+    }
+    const crossed = [];
+    for (const arrow of document.querySelectorAll('.arrow:not(.client)')) {
+        if (getComputedStyle(arrow).display === 'none') continue;
+        const length = arrow.getTotalLength();
+        for (let at = 0; at < length; at += 4) {
+            const { x, y } = arrow.getPointAtLength(at);
+            const box = (boxes.get(Math.floor(y / 50)) || []).find((one) => x > one.left && x < one.right && y > one.top && y < one.bottom);
+            if (box) { crossed.push([arrow.getAttribute('d'), box.words]); break; }
+        }
+    }
+    return crossed;
+})()"""
+
+# Words of the page that are fainter than their colour says, by an opacity of their own or of what they stand in.
+FAINT_WORDS = """[...document.querySelectorAll('p, li, dt, dd, button, .t')].filter((e) => {
+    for (let one = e; one; one = one.parentElement) if (getComputedStyle(one).opacity !== '1') return true;
+    return false;
+}).map((e) => e.textContent)"""
 
 
 class Rules(unittest.TestCase):
