@@ -5,6 +5,7 @@
 const WINDOW = 64;
 const BEGIN = "choose (?:start_view )*(?:prepare )*(?:apply (?:reply )?)*";
 const ANY = [0, Infinity];
+const VIEW_CHANGE = { 1: 1, 2: 2, 3: 2, 4: 3, 5: 3, 6: 4 };
 
 // What stands in the texts of told.json for an output.
 function tokenOf(words, before) {
@@ -72,6 +73,8 @@ function knownOf(run, replica) {
         started: moved ? undefined : replica.started,
         leads: moved && leads ? undefined : leads && !moved,
         alone: run.size === 1,
+        waited: replica.waits !== "",
+        quorum: [VIEW_CHANGE[run.size], VIEW_CHANGE[run.size]],
     };
 }
 
@@ -147,7 +150,10 @@ function explainStep(run, messages, at) {
     if (step.outputs.some((output) => output.startsWith("halt "))) {
         return { ...nothing, words: ["a cut"], note: "Its fuse fired in this step: of all that it would have put out, this line alone." };
     }
-    if (step.rules) return { ...nothing, fit: step.rules, words: step.words || [] };
+    if (step.rules) {
+        const note = step.rules.length + (step.words || []).length > 0 ? "" : "No rule can be told: too much of what went before is missing.";
+        return { ...nothing, fit: step.rules, words: step.words || [], note };
+    }
     const rules = rulesOf(run, event.kind);
     if (rules.length > 0 && before && !before.runs) return { ...nothing, note: `Replica ${event.at} is stopped: it hears nothing.` };
     if (event.kind === "member") return { ...nothing, note: "No line tells what happened." };

@@ -119,12 +119,13 @@ class Lanes {
     // The same in so many letters, as far as it may be left out: which message a delivery is, and a number of a client.
     fitting(step, room) {
         const line = this.lineOf(step);
-        return line.length <= room ? line : line.replace(/^(deliver \d+) .*/, "$1").replace(/^(request \d+) \S+ \d+ /, "$1 ");
+        return line.length <= room ? line : line.replace(/^(deliver \d+) .*/, "$1").replace(/^(request \d+) \S+ \d+ /, "$1 ").replace(" member ", " ");
     }
 
     // Whether a step says again what the one before it says: the same line, of which nothing comes.
     repeatsLine(at) {
         const [step, before] = [this.run.steps[at], this.run.steps[at - 1]];
+        if (step.again && !this.whole && at > 0) return true;
         return !this.whole && at > 0 && !step.note && [step, before].every((one) => one.outputs.length === 0) && step.line === before.line && !step.line.startsWith("deliver");
     }
 
@@ -303,7 +304,7 @@ class Lanes {
     // What stands at the margin of a row: its number and its line; of lines that repeat the numbers of the first and the last.
     margin(at) {
         const { last } = this.rows[at];
-        const times = last > at ? ` ×${last - at + 1}` : "";
+        const times = last > at && !this.run.members ? ` ×${last - at + 1}` : "";
         const number = last > at ? `${at + 1}–${last + 1}` : String(at + 1);
         const room = this.lettersOfLine - 1 - times.length;
         const line = cut(this.fitting(this.run.steps[at], room), room) + times;

@@ -1,383 +1,345 @@
 """What running members wrote, put together as one run.
 
-A member writes what it puts out, and neither when nor what it received. So the lines of each member stay in their order, and between
-members a line stands after the messages that it answers: an acknowledgement after its prepare, a commit after what tells it, a chosen log
-after the statements, a gift after the asking. Where several orders are left, one of them is taken; it needn't be that of the clock.
+A member writes what it puts out, and not what it received. So its lines stay in their order and are cut into events by the rules (cutting.py), and
+between members an event stands after the messages that it answers (causes.py): an acknowledgement after its prepare, a chosen log after the
+statements. Times, where a keeper wrote some, order what is left open; without them one of the orders that fit is taken.
 """
 
+import re
+from typing import Dict, Iterator, List, Optional, Tuple
+
+from atoms import Atom, Message, atoms_of
+from causes import SKEW, Clocks, Group, Need, Past, senders_of
+from cutting import TWO, UNSURE, Cutter
+from memberlines import MOST_LINES, Line, lines_of, owner_of, read_members, read_texts
+from naming import EVENTS, Namer
 from reading import BadRun, shorten, step_of
 
 MOST_STEPS = 5_000
-WINDOW = 64
 ANSWERS, SPEAKS, GOES_WITHOUT, STARTS, WAITS = range(5)
-"""Which groups come first: one that answers something, one that needs nothing, one that can go without what would explain it, a start, which is
+"""Which steps come first: one that answers something, one that needs nothing, one that can go without what would explain it, a start, which is
 as late as can be, and last one that waits for a message that never came to be written."""
-REPLICATION = {2: 2, 3: 2, 4: 2, 5: 3, 6: 3}
-VIEW_CHANGE = {2: 2, 3: 2, 4: 3, 5: 3, 6: 4}
+MOST_REPLICAS = 6
 ENDED = "It was started again later on, so it had ended by then; when, no line tells."
-CARRIES_COMMIT = ("prepare", "commit", "start_view", "sync_view")
+TOGETHER = "One event with this member's step before, or two: no line tells."
 
 
-def field(words, name):
-    """The number behind a word where it last stands; 0 where it isn't there."""
-    at = max((place for place, word in enumerate(words) if word == name), default=-1)
-    return int(words[at + 1]) if at >= 0 else 0
+class Step:
+    """Atoms of one event; `unsure` where it can't be told whether they are of one with those before."""
 
+    def __init__(self, atoms: List[Atom], needs: List[Optional[Need]], unsure: bool = False) -> None:
+        self.atoms, self.unsure = atoms, unsure
+        self.needs = [need for need in needs if need is not None]
+        self.kind, self.member = atoms[0].kind, atoms[0].member
+        self.rules: List[str] = []
+        self.events: set = set()  # the events that its rules are of
+        self.view = 0
+        applied = [atom.op for atom in atoms if atom.kind == "apply"]
+        if applied and len(self.needs) > 1:
+            self.needs = [self.telling(self.needs[0], applied[-1])] + self.needs[1:]
 
-class Message:
-    """What a `send` line says, without its number at its member."""
+    @staticmethod
+    def telling(need: Need, commit: int) -> Need:
+        """Of the messages of a need those that told the commit number that was applied; all where none did."""
+        fitting = [message for message in need.messages if message.commit is not None and message.commit >= commit]
+        return need._replace(messages=fitting) if fitting else need
 
-    def __init__(self, words):
-        self.sender, self.to, self.words = int(words[2]), int(words[3]), words[4:]
-        self.kind, self.view, self.op, self.commit = self.words[0], field(self.words, "view"), field(self.words, "op"), field(self.words, "commit")
-        self.number = None
-        self.came = False
+    def messages(self) -> List[Message]:
+        return [message for atom in self.atoms for message in atom.messages]
 
+    def lines(self) -> List[Line]:
+        return [line for atom in self.atoms for line in atom.lines]
 
-class Group:
-    """Lines that one step put out, as far as they tell: the first says what they answer."""
+    def seconds(self) -> Optional[float]:
+        return self.atoms[0].lines[0].seconds()
 
-    def __init__(self, line, view):
-        self.lines = [line]
-        self.words = line.split()
-        self.messages = []
-        self.view = view
-        self.add_message(self.words)
-
-    def add_message(self, words):
-        if words[0] == "send":
-            self.messages.append(Message(words))
-
-    def add(self, line):
-        self.lines.append(line)
-        self.add_message(line.split())
-
-    def kind(self):
-        return "send " + self.words[4] if self.words[0] == "send" else self.words[0]
-
-    def text(self):
-        """Its lines without the messages' numbers."""
-        return [line.split()[:1] + line.split()[2:] if line.startswith("send ") else line.split() for line in self.lines]
-
-
-def goes_on(group, words):
-    """Whether a line belongs to the step of the lines before it."""
-    last = group.lines[-1].split()
-    if words[0] == "reply":
-        return last[0] == "commit" and last[2:4] == words[6:8]
-    if group.words[0] == "choose":
-        return words[0] == "send" and words[4] in ("start_view", "prepare") and field(words, "view") == group.view
-    if group.words[0] == "start":
-        return words[0] == "commit" or words[0] == "send" and words[4] == "start_view_change"
-    return last[0] == words[0] == "send" and last[4:] == words[4:] and int(last[3]) < int(words[3])
-
-
-def may_repeat(kind, words):
-    """Whether such lines are left out where they say again what was said."""
-    return kind.startswith("send ") or kind == "reply" and words[6] in ("redirect", "busy")
-
-
-def owner_of(words):
-    """The replica that a line is of."""
-    return int(words[2] if words[0] == "send" else words[1])
-
-
-def groups_of(lines):
-    """The steps that put out these lines, as far as they tell."""
-    groups, views = [], {}
-    for line in lines:
-        words = line.split()
-        owner = owner_of(words)
-        views[owner] = max(views.get(owner, 0), field(words, "view") if words[0] != "commit" else 0)
-        if groups and owner_of(groups[-1].words) == owner and goes_on(groups[-1], words):
-            groups[-1].add(line)
-        else:
-            groups.append(Group(line, views[owner]))
-    return groups
-
-
-def without_repeats(groups):
-    """Of one member's steps those that say something new, and how many lines are left out."""
-    kept, latest, left_out = [], {}, 0
-    for group in groups:
-        kind = group.kind()
-        if may_repeat(kind, group.words) and latest.get(kind) == group.text():
-            left_out += len(group.lines)
-            continue
-        latest[kind] = group.text()
-        kept.append(group)
-    return kept, left_out
+    def said(self) -> tuple:
+        """What it said, but for the numbers of messages; heartbeats all say the same."""
+        return tuple("beat" if atom.kind == "beat" else re.sub(r"^send \d+", "send", line.text) for atom in self.atoms for line in atom.lines)
 
 
 class Member:
-    """The lines of one member, and how far they are taken."""
+    """The steps of one member, and how far they are taken."""
 
-    def __init__(self, index, groups, left_out=0):
-        self.index, self.groups, self.left_out = index, groups, left_out
+    def __init__(self, index: int, steps: List[Step]) -> None:
+        self.index, self.steps = index, steps
         self.at = 0
-        self.leads = self.index == 0
-        self.known = 0
         self.since = 0
+        view = 0
+        for step in steps:
+            view = max([view] + [atom.view for atom in step.atoms if atom.view is not None and atom.kind != "apply"])
+            step.view = view
 
-    def next(self):
-        return self.groups[self.at] if self.at < len(self.groups) else None
+    def next(self) -> Optional[Step]:
+        return self.steps[self.at] if self.at < len(self.steps) else None
 
-    def take(self):
-        group = self.groups[self.at]
-        self.at += 1
-        if group.words[0] == "choose":
-            self.leads = True
-        if group.kind() in ("send start_view_change", "send prepare_ok", "send do_view_change") or group.words[0] == "start":
-            self.leads = False
-        if group.words[0] == "start":
-            self.known = field(group.words, "commit")
-        return group
-
-    def share(self):
-        return self.at / max(len(self.groups), 1)
-
-
-def repeats_own(member, group):
-    """Whether this member said so before: a tick says a change of view again."""
-    return any(earlier.words[0] == "send" and earlier.words[4:] == group.words[4:] for earlier in member.groups[:member.at])
-
-
-def places_of(message):
-    """Under which keys a message is found: its kind with its op, its view, its block; and its commit number."""
-    yield message.kind, "op", message.op
-    yield message.kind, "view", message.view
-    if message.kind == "get_block":
-        yield message.kind, "block", int(message.words[1])
-    if message.kind in CARRIES_COMMIT:
-        yield "commit", message.commit
-
-
-class Answer:
-    """What a group answers: messages to its member that stand under these keys and pass the test, from so many senders."""
-
-    def __init__(self, keys, how_many="one", test=lambda message: True):
-        self.keys, self.how_many, self.test = keys, how_many, test
-
-
-def views_to(view, *kinds):
-    """The keys of messages of these kinds in this view, and in some before it."""
-    return [(kind, "view", earlier) for kind in kinds for earlier in range(max(0, view - WINDOW), view + 1)]
-
-
-def answer_of_commit(member, op):
-    if op <= member.known:
-        return None
-    if member.leads:
-        return Answer([("prepare_ok", "op", op)], "replication")
-    return Answer([("give_prepare", "op", op)] + [("commit", commit) for commit in range(op, op + WINDOW + 1)])
-
-
-def answer_of_send(member, group):
-    """That of messages; None of those that answer nothing, or nothing that is told."""
-    words, kind = group.words, group.words[4]
-    view, op = field(words, "view"), field(words, "op")
-
-    def from_there(message):
-        return message.sender == int(words[3])
-    if kind == "start_view_change" and repeats_own(member, group) or kind == "start_view" and len(group.messages) > 1:
-        return None
-    if kind == "prepare_ok":
-        logs = [("start_view", "view", view), ("sync_view", "view", view)]
-        return Answer([("prepare", "op", op), ("give_prepare", "op", op)] + logs, test=lambda message: message.view == view and message.op >= op or message.kind == "give_prepare")
-    answers = {
-        "start_view_change": Answer([("start_view_change", "view", view), ("do_view_change", "view", view)], "any"),
-        "do_view_change": Answer([("start_view_change", "view", view)]),
-        "start_view": Answer(views_to(view, "get_view", "start_view_change", "do_view_change"), test=from_there),
-        "get_view": Answer([("prepare", "view", view), ("commit", "view", view)], test=from_there),
-        "get_sync": Answer([("start_view", "view", view)], test=from_there),
-        "sync_view": Answer(views_to(view, "get_sync"), test=from_there),
-        "give_prepare": Answer([("get_prepare", "op", op)], test=from_there),
-        "give_block": Answer([("get_block", "block", field(words, "give_block"))], test=from_there),
-    }
-    return answers.get(kind)
-
-
-def answer_of(member, group):
-    """What a group answers, by its first line; None where it answers nothing."""
-    words = group.words
-    if words[0] == "send":
-        return answer_of_send(member, group)
-    if words[0] == "commit":
-        return answer_of_commit(member, field(words, "op"))
-    if words[0] in ("choose", "wait"):
-        return Answer([("do_view_change", "view", field(words, "view"))], "view change")
-    return None
-
-
-def rank_of(group, causes, free):
-    """How soon a group may come, by what it answers and whether it may go without."""
-    if group.words[0] == "start":
-        return STARTS
-    if causes is not None:
-        return ANSWERS if causes else SPEAKS
-    return GOES_WITHOUT if free else WAITS
+    def share(self) -> float:
+        return self.at / max(len(self.steps), 1)
 
 
 class Merge:
-    """Takes the members' groups one after the other."""
+    """Takes the members' steps one after the other."""
 
-    def __init__(self, members, size):
-        self.members, self.size = members, size
-        self.arrived = {member.index: [] for member in members}
-        self.coming = {index: {} for index in range(size)}
-        for message in (message for member in members for group in member.groups for message in group.messages):
-            for key in places_of(message):
-                self.coming[message.to].setdefault(key, []).append(message)
+    def __init__(self, group: Group, members: List[Member]) -> None:
+        self.group, self.members = group, members
+        for message in (message for member in members for step in member.steps for message in step.messages()):
+            message.number, message.came = None, False
+        self.timed = all(step.seconds() is not None for member in members for step in member.steps)
         self.sent = 0
-        self.steps = []
-        self.last = None
 
-    def wanted(self, how_many):
-        """From how many senders a group has to have heard before it comes."""
-        return {"replication": REPLICATION[self.size] - 1, "view change": VIEW_CHANGE[self.size] - 1}.get(how_many, 1)
+    def expected(self, need: Need, step: Step) -> set:
+        """Who sent messages that a step would have to wait for; with times none that was sent later, but for clocks that differ where all is known that was sent."""
+        if not self.timed:
+            return senders_of(need.messages)
+        least = step.seconds() + (SKEW if self.group.is_known(step.member, heartbeats=step.kind == "apply") else 0)
+        return {message.sender for message in need.messages if message.atom.lines[0].seconds() <= least}
 
-    def causes(self, member, group):
-        """The messages that a group answers, None where it has to wait for one, and whether it may go without."""
-        answer = answer_of(member, group)
-        if answer is None:
-            return [], True
-        how_many, coming = answer.how_many, self.coming[member.index]
-        found = [message for key in answer.keys for message in coming.get(key, ()) if answer.test(message)]
-        heard = [message for message in found if message.number is not None]
-        senders, all_senders = {m.sender for m in heard}, {m.sender for m in found}
-        if len(senders) < min(self.wanted(how_many), len(all_senders)):
-            return None, how_many == "any"
-        heard.sort(key=lambda message: message.number)
-        fresh = [message for message in heard if not message.came and message.number >= member.since]
-        gifts = [message for message in fresh if message.kind == "give_prepare"]
-        return (gifts or fresh or heard)[:1] if how_many in ("one", "any") else self.one_each(fresh or heard)[:self.wanted(how_many)], False
+    def heard(self, need: Need, step: Step) -> Optional[List[Message]]:
+        """The messages of a need that were sent by now, those that fit best first; None where the step has to wait."""
+        sent = [message for message in need.messages if message.number is not None]
+        if len(senders_of(sent)) < min(need.members, len(self.expected(need, step))):
+            return None
+        applied = max([atom.op for atom in step.atoms if atom.kind == "apply"], default=0)
+        return sorted(sent, key=lambda message: (message.commit is not None and message.commit < applied, message.kind != "give_prepare",
+                                                 message.commit or 0 if step.kind == "apply" else 0, message.number))
+
+    def causes(self, member: Member, step: Step) -> Tuple[Optional[List[Message]], bool]:
+        """The messages that a step answers, None where it has to wait for one, and whether it may go without."""
+        chosen: Optional[List[Message]] = None
+        for need in step.needs:
+            sent = self.heard(need, step)
+            if sent is None:
+                return None, need.soft
+            if not chosen:
+                fitting = [message for message in sent if not step.events or message.kind in step.events]
+                fresh = [message for message in fitting if not message.came and message.number >= member.since]
+                chosen = self.one_each(fresh or fitting)[:need.members]
+        return chosen or [], not step.needs
 
     @staticmethod
-    def one_each(messages):
-        """Of messages in the order in which they were sent the first of each sender."""
-        first = {message.sender: message for message in reversed(messages)}
-        return sorted(first.values(), key=lambda message: message.number)
+    def one_each(messages: List[Message]) -> List[Message]:
+        """Of messages the first of each sender."""
+        first: Dict[int, Message] = {}
+        for message in messages:
+            first.setdefault(message.sender, message)
+        return list(first.values())
 
-    def choice(self):
-        """Whose group comes next, and what it answers; of those that are alike, the one of the earliest view."""
-        ranked = []
-        for member in self.members:
-            group = member.next()
-            if group is None:
-                continue
-            causes, free = self.causes(member, group)
-            ranked.append((rank_of(group, causes, free), group.view, member.share(), member.index, member, causes or []))
-        return min(ranked, key=lambda entry: entry[:4])[4:] if ranked else None
+    def rank(self, member: Member, step: Step) -> Tuple[tuple, List[Message]]:
+        """How soon a step comes, and what it answers."""
+        causes, free = self.causes(member, step)
+        if self.timed:
+            return (causes is None and not free, step.seconds(), member.index), causes or []
+        if step.kind == "start":
+            rank = STARTS
+        elif causes is None:
+            rank = GOES_WITHOUT if free else WAITS
+        else:
+            rank = ANSWERS if causes else SPEAKS
+        return (rank, step.view, member.share(), member.index), causes or []
 
-    def emit(self, member, causes):
-        group = member.take()
-        if group.words[0] == "start":
-            member.since = self.sent
-        again = self.last is not None and self.last[0] is member and causes and causes == self.last[1] and group.words[0] == "commit"
-        if not again:
-            self.steps.append(step_of(f"member {member.index}"))
-        step = self.steps[-1]
-        step["outputs"] += [shorten(line) for line in group.lines]
-        if not again:
-            step["came"] = [message.number for message in causes]
-        for message in causes:
-            message.came = True
-        for message in group.messages:
-            message.number = self.sent
-            self.sent += 1
-        self.last = (member, causes)
-        self.note_end(member)
+    def choice(self) -> Optional[Tuple[Member, List[Message]]]:
+        """Whose step comes next, and what it answers; of those that are alike, the one of the earliest view."""
+        ranked = [(*self.rank(member, step), member) for member in self.members for step in [member.next()] if step is not None]
+        if not ranked:
+            return None
+        _, causes, member = min(ranked, key=lambda entry: entry[0])
+        return member, causes
 
-    def note_end(self, member):
-        """Where its next line is a start, it had ended before."""
-        group = member.next()
-        if group is not None and group.words[0] == "start":
-            self.steps.append(step_of(f"stop {member.index}", ENDED))
-            self.last = None
-
-    def run(self):
-        """Takes all, or the first steps; whether that was all."""
-        while (choice := self.choice()) is not None and len(self.steps) < MOST_STEPS:
-            self.emit(*choice)
-        return choice is None
+    def run(self) -> Iterator[Tuple[Member, Step, List[Message]]]:
+        """Each step in its order, with what it answers."""
+        while (choice := self.choice()) is not None:
+            member, causes = choice
+            step = member.next()
+            member.at += 1
+            if step.kind == "start":
+                member.since = self.sent
+            for message in causes:
+                message.came = True
+            for message in step.messages():
+                message.number = self.sent
+                self.sent += 1
+            yield member, step, causes
 
 
 class Played(Merge):
     """The same of lines that stand in their true order."""
 
-    def __init__(self, members, size, order):
-        super().__init__(members, size)
+    def __init__(self, group: Group, members: List[Member], order: List[int]) -> None:
+        super().__init__(group, members)
         self.order = iter(order)
 
-    def choice(self):
-        """Whose group comes next, and what it answers."""
-        member = next(self.order, None)
-        return None if member is None else (member, self.causes(member, member.next())[0] or [])
+    def choice(self) -> Optional[Tuple[Member, List[Message]]]:
+        index = next(self.order, None)
+        if index is None:
+            return None
+        member = next(member for member in self.members if member.index == index)
+        return member, self.causes(member, member.next())[0] or []
 
 
-def read_lines(path):
-    with open(path, encoding="ascii") as file:
-        return file.read().splitlines()
+def needs_of(group: Group) -> Dict[int, List[Optional[Need]]]:
+    """What each atom of each member needs; and each atom gets its clock, in an order that fits."""
+    needs = {}
+    for index, atoms in group.members.items():
+        past = Past(group, index)
+        needs[index] = [past.read(atom) for atom in atoms]
+    clocks = Clocks(group)
+    members = [Member(index, [Step([atom], [need]) for atom, need in zip(atoms, needs[index])]) for index, atoms in group.members.items()]
+    for _, step, _ in Merge(group, members).run():
+        clocks.take(step.atoms[0], needs[step.member][step.atoms[0].place])
+    return needs
 
 
-def size_of(members):
-    """How many replicas a group has that put such lines out."""
-    named = [message.to for member in members for group in member.groups for message in group.messages]
-    size = max(2, max(named + [member.index for member in members]) + 1)
-    if size not in REPLICATION:
-        raise BadRun(f"a group has no replica {size - 1}")
-    return size
+def steps_of(group: Group, index: int, needs: List[Optional[Need]], apart: frozenset = frozenset()) -> List[Step]:
+    """The events of a member, each with its rules. Before the places that are `apart` an event surely begins."""
+    atoms = group.members[index]
+    cutter, steps = Cutter(group, index), []
+    cutter.apart = apart
+    for atom, between in zip(atoms, cutter.cut(atoms)):
+        if between in (TWO, UNSURE) or not steps:
+            steps.append(([], between == UNSURE))
+        steps[-1][0].append(atom)
+    made = [Step(some, [needs[atom.place] for atom in some], unsure) for some, unsure in steps]
+    names = Namer(group, index, atoms).of_steps([step.atoms for step in made], [step.unsure for step in made])
+    for step, rules in zip(made, names):
+        step.rules, step.events = rules, {EVENTS[rule] for rule in rules}
+    return made
 
 
-def read_member(path):
-    lines = read_lines(path)
-    if not lines:
-        raise BadRun(f"{path} is empty")
-    try:
-        return Member(owner_of(lines[0].split()), *without_repeats(groups_of(lines)))
-    except (IndexError, ValueError) as error:
-        raise BadRun(f"{path} isn't what a member writes") from error
+def shown(step: Step, causes: List[Message]) -> dict:
+    """A step, ready for the page."""
+    made = step_of(f"member {step.member}", TOGETHER if step.unsure else "")
+    made["outputs"] = [shorten(line.text) for line in step.lines()]
+    made["came"] = [message.number for message in causes]
+    made["rules"] = step.rules
+    made["unsure"] = step.unsure
+    stamp = step.atoms[0].lines[0].stamp
+    if stamp is not None:
+        made["time"] = stamp
+    if step.kind in ("start", "halt"):
+        made["words"] = [step.kind]
+    return made
 
 
-def merge_members(paths):
+def end_before(step: Step) -> dict:
+    """The end of a member before it started again, as its keeper tells it."""
+    remarks = [(stamp, text) for stamp, text in step.atoms[0].lines[0].remarks if " ended" in text or "is stopped and started" in text]
+    made = step_of(f"stop {step.member}", remarks[-1][1] if remarks else ENDED)
+    if remarks and remarks[-1][0]:
+        made["time"] = remarks[-1][0]
+    return made
+
+
+def is_start(step: Optional[Step]) -> bool:
+    return step is not None and step.kind == "start"
+
+
+class Shown:
+    """The steps of the page, as they are taken; at most MOST_STEPS, and then without those that say again what their member said."""
+
+    def __init__(self, merge: Merge, thin: bool) -> None:
+        self.steps: List[dict] = []
+        self.ends: List[dict] = []  # of members that ended and whose time hasn't come
+        self.left_out, self.whole = 0, True
+        said: Dict[int, Dict[str, tuple]] = {member.index: {} for member in merge.members}
+        for member, step, causes in merge.run():
+            again = not step.unsure and not step.atoms[0].kind == "apply" and said[member.index].get(step.kind) == step.said()
+            said[member.index][step.kind] = step.said()
+            if again and thin and not (member.next() and member.next().unsure):
+                self.left_out += len(step.lines())
+                self.drop(step, merge)
+                continue
+            if len(self.steps) >= MOST_STEPS:
+                self.whole = False
+                break
+            self.tell_ends(step.atoms[0].lines[0].stamp)
+            self.steps.append(shown(step, causes) | ({"again": True} if again and not causes else {}))
+            if is_start(member.next()):
+                self.ends.append(end_before(member.next()))
+                self.tell_ends(None)
+        self.tell_ends("9")
+
+    def tell_ends(self, stamp: Optional[str]) -> None:
+        """The ends of members of which no line tells when they were, and those up to a time."""
+        due = [end for end in self.ends if "time" not in end or stamp is not None and end["time"] <= stamp]
+        self.ends = [end for end in self.ends if end not in due]
+        self.steps += due
+
+    @staticmethod
+    def drop(step: Step, merge: Merge) -> None:
+        """Its messages aren't shown: the others count on without them."""
+        merge.sent -= len(step.messages())
+        for message in step.messages():
+            message.number = None
+
+
+def absent(group: Group) -> List[int]:
+    """The members that aren't known to run at first: those of which there is no line, and those that begin with a start."""
+    return [index for index in range(group.size) if not group.members.get(index) or group.members[index][0].kind == "start"]
+
+
+def check_size(group: Group) -> None:
+    if group.size > MOST_REPLICAS:
+        raise BadRun(f"a group has no replica {group.size - 1}")
+
+
+def merge_members(paths: List[str]) -> dict:
     """The run that the files of members tell, ready for the page."""
-    members = sorted((read_member(path) for path in paths), key=lambda member: member.index)
-    if len({member.index for member in members}) < len(members):
-        raise BadRun("two files are of the same member")
-    size = size_of(members)
-    merge = Merge(members, size)
-    whole = merge.run()
-    left_out = sum(member.left_out for member in members)
-    about = "What running members wrote, in an order that fits what was sent and answered; it needn't be that of the clock."
-    about += f" {left_out} lines that say again what was said are left out." if left_out else ""
-    about += "" if whole else f" Only the first {MOST_STEPS:,} steps are shown."
-    return {"about": about, "size": size, "steps": merge.steps}
+    lines, silent = read_members(paths)
+    cut = any(len(of_member) > MOST_LINES for of_member in lines.values())
+    group = Group({index: atoms_of(of_member[-MOST_LINES:]) for index, of_member in lines.items()}, silent)
+    check_size(group)
+    needs = needs_of(group)
+    steps = {index: steps_of(group, index, needs[index]) for index in group.members}
+    merge = Merge(group, [Member(index, of_member) for index, of_member in steps.items()])
+    made = Shown(merge, sum(map(len, steps.values())) > MOST_STEPS)
+    about = "What running members wrote, in the order of their times, as far as what was sent and answered allows." if merge.timed else \
+        "What running members wrote, in an order that fits what was sent and answered; it needn't be that of the clock."
+    about += f" Of each member the last {MOST_LINES:,} lines are read." if cut else ""
+    about += f" {made.left_out:,} lines that say again what was said are left out." if made.left_out else ""
+    about += "" if made.whole else f" Only the first {MOST_STEPS:,} steps are shown."
+    return {"about": about, "size": group.size, "members": True, "absent": absent(group), "at": 0, "steps": made.steps}
 
 
-def read_outputs(path):
+def read_outputs(path: str) -> dict:
     """The run that the outputs of a `replay` tell without its schedule, ready for the page: who sent what, and what it answers, but no line."""
-    lines = read_lines(path)
-    try:
-        groups = groups_of([line for line in lines if line not in ("done", "kept out")])
-    except (IndexError, ValueError) as error:
-        raise BadRun(f"{path} isn't what `replay` writes") from error
-    members = {}
-    for group in groups:
-        owner = owner_of(group.words)
-        members.setdefault(owner, Member(owner, [])).groups.append(group)
-    size = size_of(list(members.values()))
-    merge = Played(list(members.values()), size, [members[owner_of(group.words)] for group in groups])
-    whole = merge.run()
+    texts = [text for text in read_texts(path) if text not in ("done", "kept out") and not text.startswith("migrated ")]
+    by_member: Dict[int, List[Line]] = {}
+    places: Dict[int, List[int]] = {}
+    for place, text in enumerate(texts):
+        line = lines_of(path, [text])[0]
+        owner = owner_of(text.split(" "))
+        by_member.setdefault(owner, []).append(line)
+        places.setdefault(owner, []).append(place)
+    group = Group({owner: atoms_of(lines) for owner, lines in by_member.items()})
+    check_size(group)
+    needs = needs_of(group)
+    steps, order = {}, []
+    for owner, atoms in group.members.items():
+        firsts = first_places(atoms, places[owner])
+        apart = frozenset(at for at in range(1, len(atoms)) if firsts[at] != places[owner][places[owner].index(firsts[at]) - 1] + 1)
+        steps[owner] = steps_of(group, owner, needs[owner], apart)
+        order += [(firsts[step.atoms[0].place], owner) for step in steps[owner]]
+    merge = Played(group, [Member(owner, of_member) for owner, of_member in steps.items()], [owner for _, owner in sorted(order)])
+    made = Shown(merge, False)
     about = "What `replay` wrote, without the lines of its schedule: what came is told as far as the outputs tell it."
-    about += "" if whole else f" Only the first {MOST_STEPS:,} steps are shown."
-    return {"about": about, "size": size, "steps": merge.steps}
+    about += "" if made.whole else f" Only the first {MOST_STEPS:,} steps are shown."
+    return {"about": about, "size": group.size, "members": True, "at": 0, "steps": made.steps}
+
+
+def first_places(atoms: List[Atom], places: List[int]) -> List[int]:
+    """Of each atom where its first line stands among all."""
+    firsts, at = [], 0
+    for atom in atoms:
+        firsts.append(places[at])
+        at += len(atom.lines)
+    return firsts
 
 
 OUTPUTS = ("send", "commit", "reply", "choose", "wait", "start", "halt", "done", "kept")
 """The words with which an output begins; no line of a schedule but `start` does so, and none begins a schedule."""
 
 
-def is_outputs(path):
+def is_outputs(path: str) -> bool:
     """Whether a file has outputs alone."""
     with open(path, encoding="ascii") as file:
         return file.readline().split(" ")[0] in OUTPUTS

@@ -196,6 +196,7 @@ function hearSilently(run, world, message) {
     if (view < replica.view || view % run.size === replica.index || (view === replica.view && replica.started && head <= replica.least)) return;
     replica.silent.view = Math.max(replica.silent.view, view);
     replica.silent.head = Math.max(replica.silent.head, head);
+    replica.least = Math.min(replica.least, head);
     if (message.words[0] === "sync_view") replica.silent.checkpoint = Math.max(replica.silent.checkpoint, Number(message.words[8]));
 }
 
@@ -220,6 +221,7 @@ function happen(world, step, run, messages) {
 // What is told of the group after step `at`, the first being 0.
 function worldAfter(run, at) {
     const world = { replicas: Array.from({ length: run.size }, (_, index) => freshReplica(index)), log: new Map() };
+    for (const index of run.absent || []) world.replicas[index].runs = false;
     const messages = at < 0 ? [] : messagesOf(run);
     for (let step = 0; step <= at; step += 1) happen(world, run.steps[step], run, messages);
     return world;

@@ -1,17 +1,21 @@
 """What running members wrote, put together: the files in `members` are of a run in which member 0 was stopped and started again."""
 
+import os
 import random
 import sys
 import tempfile
 import unittest
 from pathlib import Path
 
-sys.path.insert(0, str(Path(__file__).resolve().parents[1]))
+sys.path[:0] = [str(Path(__file__).resolve().parents[1]), str(Path(__file__).resolve().parents[3] / "operate")]
 
+from memberlines import seconds_of  # noqa: E402
 from members import is_outputs, merge_members, read_outputs  # noqa: E402
+from parts import lines, log, playing  # noqa: E402
 from reading import BadRun  # noqa: E402
 
 EXAMPLES = Path(__file__).resolve().parents[2]
+PROGRAM = os.environ.get("PROGRAM") or str(EXAMPLES.parent / "crates" / "vr_app" / "out" / "vr_app")
 FILES = [Path(__file__).with_name("members") / f"out.{member}" for member in range(3)]
 
 
@@ -103,6 +107,100 @@ class Members(unittest.TestCase):
                     merge_members([path])
         with self.assertRaises(BadRun):
             merge_members([FILES[0], FILES[0]])
+
+
+class Kept:
+    """What the keepers of a group of three write, in counted time: the group is asked, and its first member stopped and started again."""
+
+    EPOCH = 1_800_000_000
+
+    def __init__(self):
+        self.texts = [[f"{log.stamp(self.EPOCH)} keep: member {member} started, process 1"] for member in range(3)]
+        self.thinners = [log.Thinner(100) for _ in range(3)]
+        self.numbers = [0] * 3
+        replay = playing.Replay(PROGRAM)
+        group = playing.Group(replay, self.hear)
+        group.begin(3)
+        group.start_all()
+        group.add(playing.Client(7, 3, 0.3))
+        group.go_on(2)
+        group.stop(0)
+        group.go_on(2)
+        self.texts[0].append(f"{log.stamp(self.EPOCH + group.now)} keep: member 0 ended by signal 9, and is started again")
+        group.start(0)
+        group.go_on(2)
+        replay.end()
+
+    def hear(self, now, member, output):
+        words = output.split(" ")
+        if words[0] == "start":
+            self.numbers[member] = 0
+        if words[0] == "send":
+            words[1] = str(self.numbers[member])
+            self.numbers[member] += 1
+        text = " ".join(words)
+        if self.thinners[member].keeps(now, text.encode(), lines.parse(text.encode())):
+            self.texts[member].append(f"{log.stamp(self.EPOCH + now)} {text}")
+
+
+@unittest.skipUnless(os.access(PROGRAM, os.X_OK), "no program: rt ci makes it, or PROGRAM names one")
+class WhatKeepersWrite(unittest.TestCase):
+    @classmethod
+    def setUpClass(cls):
+        cls.kept = Kept()
+
+    def merged(self, texts):
+        """The run of such files, by their names; None for one that has a line that is no member's."""
+        with tempfile.TemporaryDirectory() as folder:
+            for name, text in texts.items():
+                (Path(folder) / name).write_text("".join(line + "\n" for line in text))
+            return merge_members([Path(folder) / name for name in texts])
+
+    def said(self, text):
+        """The lines of a log that a member put out."""
+        return [line.split(" ", 1)[1] for line in text if " keep: " not in line]
+
+    def check(self, texts, run):
+        """Each line once, in its member's order, and nothing received before it was sent."""
+        found, sent = {member: [] for member in texts}, 0
+        for step in run["steps"]:
+            self.assertTrue(all(number < sent for number in step["came"]))
+            found[int(step["line"].split()[1])] += step["outputs"]
+            sent += sum(output.startswith("send ") for output in step["outputs"])
+        self.assertEqual(found, {member: self.said(text) for member, text in texts.items()})
+
+    def test_times(self):
+        run = self.merged({f"log.{member}": text for member, text in enumerate(self.kept.texts)})
+        self.check(dict(enumerate(self.kept.texts)), run)
+        times = [seconds_of(step["time"]) for step in run["steps"]]
+        self.assertEqual(len(times), len(run["steps"]))
+        self.assertTrue(all(after >= before for before, after in zip(times, times[1:])), "the clock goes back")
+        stop = next(step for step in run["steps"] if step["line"] == "stop 0")
+        self.assertEqual(stop["note"], "member 0 ended by signal 9, and is started again")
+        ticked = [step for step in run["steps"] if step["outputs"] and " commit view " in step["outputs"][0]]
+        self.assertTrue(ticked and all(step["rules"] == ["TickedPrimary"] for step in ticked))
+
+    def test_parts_of_a_log(self):
+        """A log that was put aside is put before the one that goes on."""
+        whole = self.merged({f"log.{member}": text for member, text in enumerate(self.kept.texts)})
+        zero, one, two = self.kept.texts
+        parts = self.merged({"zero": zero, "one": one[60:], "one.1": one[30:60], "one.2": one[:30], "two": two})
+        self.assertEqual(parts["steps"], whole["steps"])
+        plain = {"zero": self.said(zero), "one": self.said(one)[50:], "one.1": self.said(one)[:50], "two": self.said(two)}
+        self.check(dict(enumerate(self.kept.texts)), self.merged(plain))
+        with self.assertRaisesRegex(BadRun, "same member"):
+            self.merged({"a": self.said(one), "b": self.said(one)})
+
+    def test_logs_that_begin_in_the_midst(self):
+        cut = {member: text[len(text) // 3:] for member, text in enumerate(self.kept.texts)}
+        self.check(cut, self.merged({f"log.{member}": text for member, text in cut.items()}))
+        self.check(cut, self.merged({f"out.{member}": self.said(text) for member, text in cut.items()}))
+
+    def test_a_member_of_which_there_is_no_log(self):
+        some = {member: self.kept.texts[member] for member in (0, 2)}
+        run = self.merged({f"log.{member}": text for member, text in some.items()})
+        self.check(some, run)
+        self.assertEqual((run["size"], run["absent"]), (3, [1]))
 
 
 if __name__ == "__main__":
