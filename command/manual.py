@@ -48,7 +48,8 @@ def of_command(command: Command) -> List[str]:
 
 
 def man(home: str) -> str:
-    made = time.strftime("%Y-%m-%d", time.gmtime(os.stat(os.path.join(home, "VERSION")).st_mtime))
+    moment = os.environ.get("SOURCE_DATE_EPOCH") or os.stat(os.path.join(home, "VERSION")).st_mtime
+    made = time.strftime("%Y-%m-%d", time.gmtime(float(moment)))
     lines = [f'.TH NOZHGIVA 1 {made} "nozhgiva {helping.read_line(home, "VERSION")}"', ".SH NAME", "nozhgiva \\- look after a proved replicated table of keys and values"]
     lines += [".SH SYNOPSIS", ".B nozhgiva", "COMMAND [WORD..]", ".br", ".B nozhgiva", "COMMAND \\-\\-help", ".br", ".B nozhgiva", "\\-\\-version", ".SH DESCRIPTION", *filled(f"nozhgiva is {helping.ABOUT}."), ".SH COMMANDS"]
     for one in commands.all_there(home):
