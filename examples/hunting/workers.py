@@ -27,6 +27,8 @@ class Board:
     def __init__(self) -> None:
         self.version = 1
         self.going = True
+        self.over = False
+        """Whether clients are ended, whatever they do."""
         self.pause = SLOW
         """How long a client rests between two operations, in seconds, on average."""
         self.history: List[Operation] = []
@@ -63,7 +65,8 @@ class Worker(threading.Thread):
                 self.settle(1)
             self.give_up()
         except (OSError, ValueError) as error:
-            self.board.faults.append(f"{self.name}: {error}")
+            if not self.board.over:
+                self.board.faults.append(f"{self.name}: {error}")
         finally:
             self.process.kill()
             self.process.communicate()
