@@ -83,15 +83,19 @@ class Members(Group):
             raise Stuck(f"the migration of member {r} fails")
         self.start(r)
 
-    def spoil(self, seconds: float) -> None:
-        """Does what the promises forbid: puts files back that were copied some seconds before."""
-        for step in ("copy", "put back"):
-            for r in range(SIZE):
-                self.kill(r)
-            for r in range(SIZE):
-                shutil.copy(*(self.file(r), self.file(r) + ".copy")[::1 if step == "copy" else -1])
-                self.start(r)
-            time.sleep(seconds)
+    def spoil(self, work: Callable[[], None]) -> None:
+        """Does what the promises forbid: puts files back that were copied before some work."""
+        self.replace_files("", ".copy")
+        work()
+        self.replace_files(".copy", "")
+
+    def replace_files(self, old: str, new: str) -> None:
+        """Starts all members again, once their files are copied from one name to another."""
+        for r in range(SIZE):
+            self.kill(r)
+        for r in range(SIZE):
+            shutil.copy(self.file(r) + old, self.file(r) + new)
+            self.start(r)
 
     def wait_until_level(self) -> None:
         """Waits until no member is more than a checkpoint's worth behind another."""
