@@ -169,7 +169,7 @@ func TestAnotherVersionOrCluster(t *testing.T) {
 // and started again a second later, as a keeper does.
 func TestFailover(t *testing.T) {
 	if *failover == 0 {
-		t.Skip("it takes a while: go test -run Failover -failover 1m")
+		t.SkipNow() // it takes a while
 	}
 	for scheme, name := range map[string]string{"": "datagrams", "tcp:": "streams"} {
 		r := start(t, scheme, "127.0.0.1")
