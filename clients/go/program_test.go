@@ -39,7 +39,7 @@ func programOrSkip(t *testing.T) string {
 		_, err = exec.LookPath(program)
 	}
 	if err != nil {
-		t.Skipf("no program: %v", err)
+		t.Skipf("no program at %s", program)
 	}
 	return program
 }
