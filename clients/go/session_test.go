@@ -190,6 +190,36 @@ func TestWhatIsUnknownIsSettledAndExecutedOnce(t *testing.T) {
 	}
 }
 
+// Over UDP what others send isn't heard, though it may spell an answer to the very request that is open.
+func TestStrangersArentHeard(t *testing.T) {
+	s := newState()
+	session := register(t, dial(t, overDatagrams(t, 2, s.script)))
+	stranger, err := net.ListenPacket("udp", "127.0.0.1:0")
+	if err != nil {
+		t.Fatal(err)
+	}
+	defer stranger.Close()
+	s.hush(true)
+	answered := make(chan error)
+	go func() { answered <- session.Put(background, "color", "green") }()
+	for !strings.Contains(s.said(), "put") {
+		time.Sleep(time.Millisecond)
+	}
+	asked := request{cluster, session.client, 1, Operation{OperationPut, "color", "green"}, 1}
+	forged := answer(asked, 0, replyEvicted, lastView, Outcome{}).encode()
+	for count := 0; count < 300; count++ {
+		for _, place := range session.link.places {
+			to := place.(*datagrams).socket.LocalAddr()
+			stranger.WriteTo(forged, to)
+			stranger.WriteTo(bytes.Repeat([]byte{byte(count)}, 1000), to)
+		}
+	}
+	s.hush(false)
+	if err := <-answered; err != nil {
+		t.Error(err)
+	}
+}
+
 func TestALostSessionStaysLost(t *testing.T) {
 	for kind, reason := range map[replyKind]string{replyOld: "old", replyGap: "gap", replyEvicted: "evicted"} {
 		s, kind := newState(), kind
