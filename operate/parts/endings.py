@@ -2,6 +2,8 @@
 
 from typing import Dict
 
+DISK_FAULT, LINK_FAULT, LOST = 7, 8, 9
+PASSING = 5  # so often a member that ends with 7 before its file is open is started again
 AGAIN = {0: "its turns are done", 8: "link fault", 11: "no memory"}
 LOOK: Dict[int, str] = {
     2: "its words are none of a member's: look at the number of the group, the member's number, and the addresses",

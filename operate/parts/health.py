@@ -2,7 +2,10 @@
 
 from typing import Dict, List, NamedTuple, Optional
 
+from .datafile import Report
 from .policy import PATIENCE, Policy
+from .pulse import HANGS
+from .tally import Tally
 
 LONG_CHANGE = 5.0  # seconds; a view change that takes longer is no ordinary one
 
@@ -16,6 +19,14 @@ class Life(NamedTuple):
     ends: int  # by itself, or by a signal that wasn't the keeper's
     lines: int
     dropped: int  # lines that weren't written, for want of room or of a disk
+    silent: float = 0.0  # seconds in which its process took no turn
+    report: Optional[Report] = None  # of the last look at its file
+    tally: Optional[Tally] = None  # of its keys and sessions
+
+
+def unsure(report: Optional[Report]) -> int:
+    """Of how many slots a file can't tell whether they held an operation."""
+    return len(report.places.unsure) if report is not None else 0
 
 
 def state(policy: Policy, now: float, runs: bool) -> str:
@@ -30,14 +41,35 @@ def troubles(policy: Policy, now: float, life: Life) -> List[str]:
     """Why a member isn't well, a word each; none where it is."""
     if life.since is None:
         return ["down"]
-    found = []
+    found = ["hangs"] if life.silent > HANGS else []
     if policy.seen.changes(now) and now - policy.seen.changing_since > LONG_CHANGE:
         found.append("changes")
     if policy.standing(now) > (policy.patience or PATIENCE) / 2:
         found.append("stands")
     if policy.seen.lacks:
         found.append("lacks_blocks")
+    if unsure(life.report):
+        found.append("unsure")
     return found
+
+
+def told(value: object) -> object:
+    """What is written of a value that may not be known."""
+    return "-" if value is None else value
+
+
+def of_file(life: Life) -> Dict[str, object]:
+    """What its file and its state hold, as far as that is known."""
+    report, tally = life.report, life.tally
+    value = report.value if report is not None else None
+    return {
+        "unsure": told(unsure(report) if value else None),
+        "damaged": told(report.damaged() if value else None),
+        "version": told(value.version if value else None),
+        "mode": told(value.mode if value else None),
+        "keys": told(tally.keys if tally else None),
+        "sessions": told(tally.sessions if tally else None),
+    }
 
 
 def line(policy: Policy, now: float, life: Life) -> str:
@@ -60,6 +92,7 @@ def line(policy: Policy, now: float, life: Life) -> str:
         "ends": life.ends,
         "lines": life.lines,
         "dropped": life.dropped,
+        **of_file(life),
     }
     return " ".join(f"{name}={value}" for name, value in words.items())
 

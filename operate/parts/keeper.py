@@ -9,12 +9,18 @@ import signal
 import socket
 import subprocess
 import time
-from typing import Callable, List, NamedTuple, Optional
+from collections import Counter
+from typing import Callable, Dict, List, NamedTuple, Optional
 
-from . import endings, health
+from . import datafile, doors, endings, health
+from .health import Life
 from .lines import Splitter, parse
 from .log import Thinner, Writer
+from .looking import Looker
 from .policy import Policy
+from .pulse import Pulse
+from .renewal import GETS, Asking, Renewal
+from .tally import Tally
 
 PIECE = 1 << 16  # bytes that are read at once
 PIECES = 16  # that are read before anything else is looked at
@@ -23,9 +29,32 @@ F_SETPIPE_SZ = 1031  # Linux
 SHORT = 10.0  # seconds; after a shorter life the pause before the next start is doubled
 MOST_PAUSE = 60.0  # seconds
 MINUTE = 60.0
+BEAT = 0.5  # seconds from one look at whether the member goes on to the next
+FIRST_LOOK = 1.0  # seconds from a start to the first look at the data file
+UNSURE_LOOK = 5.0  # seconds from look to look while the file can't tell of some slots; else a minute
 KILLED = 5.0  # seconds after which a member that doesn't end is killed
 HELD = 20  # exit code: another keeper, or a member that it left, has the file
 TURNS = str(2 ** 64 - 1)
+
+
+class Unfit(Exception):
+    """FILE is none that a member can be started on; the code is the one that its keeper ends with."""
+
+    def __init__(self, code: int, text: str) -> None:
+        super().__init__(text)
+        self.code = code
+
+
+def check_file(path: str) -> None:
+    """A member is never made by its keeper: a volume that isn't mounted, or a mistyped path, must not become a new member."""
+    if not os.path.lexists(path):
+        folder = os.path.dirname(os.path.abspath(path))
+        where = f"the folder {folder} is there" if os.path.isdir(folder) else f"the folder {folder} isn't there either"
+        raise Unfit(endings.LOST, f"there is no file {path} ({where}): look whether its volume is mounted and its path is right; a member is made once, by hand, by operate/make-member")
+    if not os.path.isfile(path):
+        raise Unfit(endings.DISK_FAULT, f"{path} is no plain file")
+    if os.path.getsize(path) == 0:
+        raise Unfit(endings.LOST, f"the file {path} is empty: no member was made in it")
 
 
 class Held(Exception):
@@ -91,12 +120,19 @@ class Words(NamedTuple):
         return self.tie + [self.program, "node", str(self.cluster), str(self.replica), self.file, TURNS] + self.addresses
 
 
+class Pauses(NamedTuple):
+    """Seconds: from an end of the member to its next start, at least; from one get to the next where slots are written anew, 0 for never."""
+
+    start: float
+    renew: float
+
+
 class Keeper:
     """The loop around one member. It never waits for anything but what the selector tells, so its member's lines are always read."""
 
-    def __init__(self, words: Words, policy: Policy, writer: Writer, thinner: Thinner, lock: Lock, pause: float) -> None:
+    def __init__(self, words: Words, policy: Policy, writer: Writer, thinner: Thinner, lock: Lock, pauses: Pauses) -> None:
         self.words, self.policy, self.writer, self.thinner, self.lock = words, policy, writer, thinner, lock
-        self.least_pause = self.pause = pause
+        self.pause, self.pauses = pauses.start, pauses
         self.clock: Callable[[], float] = time.monotonic
         self.selector = selectors.DefaultSelector()
         self.child: Optional[subprocess.Popen] = None
@@ -106,6 +142,18 @@ class Keeper:
         self.kill_at: Optional[float] = None
         self.minute = self.clock() + MINUTE
         self.restarts = self.ends = self.lines = 0
+        self.codes: "Counter[int]" = Counter()  # how often the member ended with which code
+        self.passing = 0  # starts in a row that ended with 7 before the file was opened
+        self.opened = False  # whether this life of the member has opened its file
+        self.looker = Looker(words.file)
+        self.look_at: Optional[float] = None
+        self.report: Optional[datafile.Report] = None
+        self.tally = Tally()
+        self.pulse: Optional[Pulse] = None
+        self.beat_at = self.clock()
+        self.renewal: Optional[Renewal] = None
+        self.renewed = self.waiting = False  # whether this life of the member had its slots written anew; whether that waits for room
+        self.doors: List[doors.Door] = []
         self.wanted: Optional[str] = None  # why the member is being ended by its keeper
         self.leaving = False
         self.code: Optional[int] = None  # with what the keeper ends
@@ -116,23 +164,27 @@ class Keeper:
         self.writer.put(f"keep: {text}".encode("ascii", "replace"), said=True)
 
     def health(self) -> str:
-        life = health.Life(self.words.replica, self.since, self.restarts, self.ends, self.lines, self.writer.dropped)
-        return health.line(self.policy, self.clock(), life)
+        return health.line(self.policy, self.clock(), self.life())
+
+    def life(self) -> Life:
+        silent = self.pulse.silent(self.clock()) if self.pulse is not None else 0.0
+        return Life(self.words.replica, self.since, self.restarts, self.ends, self.lines, self.writer.dropped, silent, self.report, self.tally)
 
     def say_health(self) -> None:
         self.say(f"{self.health()} left_out={self.thinner.left_out}")
 
     # The loop.
 
-    def run(self, doors: Optional[socket.socket] = None) -> int:
+    def run(self) -> int:
         """Keeps the member until a signal ends this, or the member ends in a way that somebody has to look at. It gives the exit code."""
         self.take_signals()
-        if doors is not None:
-            self.selector.register(doors, selectors.EVENT_READ, lambda: self.answer(doors))
+        self.selector.register(self.looker.told, selectors.EVENT_READ, self.hear_look)
         while self.code is None:
             for key, _ in self.selector.select(self.next_time()):
                 key.data()
             self.look_at_clock()
+        if self.renewal is not None:
+            self.renewal.end()
         return self.code
 
     def take_signals(self) -> None:
@@ -149,13 +201,19 @@ class Keeper:
         if signal.SIGTERM in numbers or signal.SIGINT in numbers:
             self.leave()
         elif signal.SIGHUP in numbers:
-            self.restart("it was asked to")
+            self.writer.reopen()
+            self.say("the log is opened anew")
         if signal.SIGUSR1 in numbers:
             self.say_health()
 
+    def add_door(self, listener: socket.socket, answer: doors.Answer) -> None:
+        """Where it is asked, besides."""
+        self.doors.append(doors.Door(self.selector, self.clock, listener, answer))
+
     def next_time(self) -> float:
         """Seconds until the clock is to be looked at."""
-        times = [self.minute] + [at for at in (self.start_at, self.kill_at) if at is not None]
+        times = [self.minute] + [at for door in self.doors for at in door.next_time()]
+        times += [at for at in (self.start_at, self.kill_at, self.look_at, self.beat_at, self.renewal and self.renewal.due) if at is not None]
         return max(0.0, min(times) - self.clock())
 
     def look_at_clock(self) -> None:
@@ -167,6 +225,17 @@ class Keeper:
         if self.kill_at is not None and now >= self.kill_at and self.child is not None:
             self.kill_at = None
             self.child.kill()
+        if self.look_at is not None and now >= self.look_at:
+            self.look_at = None
+            self.looker.ask()
+        if self.renewal is not None:
+            self.renewal.look_at_clock(now)
+        for door in self.doors:
+            door.look_at_clock(now)
+        if now >= self.beat_at:
+            self.beat_at = now + BEAT
+            if self.pulse is not None:
+                self.pulse.silent(now)
         if now >= self.minute:
             self.minute = now + MINUTE
             self.say_health()
@@ -177,12 +246,20 @@ class Keeper:
         """Starts the member, or tries again after a pause where the system has no process for it, or the program is just being replaced."""
         self.start_at = None
         try:
+            check_file(self.words.file)
+        except Unfit as why:
+            self.say(f"member {self.words.replica} isn't started: {why}")
+            self.code = why.code
+            return
+        try:
             self.child = subprocess.Popen(self.words.command(), stdin=subprocess.DEVNULL, stdout=subprocess.PIPE, stderr=subprocess.PIPE, pass_fds=[self.lock.file.fileno()])
         except OSError as error:
             self.say(f"the member couldn't be started: {error}")
             self.start_later()
             return
         self.since = self.clock()
+        self.pulse = Pulse(self.child.pid, self.since)
+        self.look_at, self.renewed, self.waiting, self.opened = self.since + FIRST_LOOK, False, False, False
         self.policy.begin(self.since)
         self.splitter = Splitter()
         self.lock.tell(f"keeper {os.getpid()}, member {self.child.pid}")
@@ -199,9 +276,10 @@ class Keeper:
         except OSError:
             pass  # The system's own size does too.
 
-    def start_later(self) -> None:
+    def start_later(self, grows: bool = True) -> None:
         self.start_at = self.clock() + self.pause
-        self.pause = min(2 * self.pause, MOST_PAUSE)
+        if grows:
+            self.pause = min(2 * self.pause, MOST_PAUSE)
 
     def restart(self, why: str) -> None:
         """Ends the member, and starts it again as soon as it has ended."""
@@ -231,7 +309,8 @@ class Keeper:
         code = self.child.returncode
         lived = self.clock() - self.since
         self.close_streams()
-        self.child = self.since = self.kill_at = None
+        self.child = self.since = self.kill_at = self.pulse = self.look_at = None
+        self.end_renewal()
         wanted, self.wanted = self.wanted, None
         if self.leaving:
             self.code = 0
@@ -239,16 +318,25 @@ class Keeper:
             self.start_at = self.clock()
         else:
             self.ends += 1
-            self.say(f"member {self.words.replica} {endings.sentence(code)}")
+            self.codes[code] += 1
             self.go_on_after(code, lived)
 
     def go_on_after(self, code: int, lived: float) -> None:
+        """A start, later, or the keeper's end. A fault of the disk is passing where the file was never opened, as while a copy of it is read."""
+        if lived >= SHORT or self.opened:
+            self.passing = 0
+        if lived >= SHORT:
+            self.pause = self.pauses.start
+        if code == endings.DISK_FAULT and not self.opened and self.passing < endings.PASSING:
+            self.passing += 1
+            self.say(f"member {self.words.replica} ended with 7 before its file was open, and is started again ({self.passing} of {endings.PASSING} times): another process may have it")
+            self.start_later()
+            return
+        self.say(f"member {self.words.replica} {endings.sentence(code)}")
         if not endings.is_again(code):
             self.code = code
             return
-        if lived >= SHORT:
-            self.pause = self.least_pause
-        self.start_later()
+        self.start_later(grows=code != endings.LINK_FAULT)
 
     def close_streams(self) -> None:
         for stream in (self.child.stdout, self.child.stderr):
@@ -298,6 +386,10 @@ class Keeper:
     def hear(self, text: bytes) -> None:
         now, line = self.clock(), parse(text)
         self.lines += 1
+        if line.kind == "start":
+            self.opened = True
+        elif line.kind == "applied":
+            self.tally.hear(line)
         if self.thinner.keeps(now, text, line):
             self.writer.put(text)
         reason = self.policy.hear(now, line)
@@ -311,22 +403,60 @@ class Keeper:
             if text:
                 self.say(f"member {self.words.replica} says: {text.decode('ascii', 'replace')}")
 
+    # The data file.
+
+    def hear_look(self) -> None:
+        """The data file was looked at: what of it is damaged, and what of it a further start couldn't tell of."""
+        self.report = self.looker.take()
+        self.tally.begin(self.report)
+        if self.child is None or self.look_at is not None:
+            return
+        unsure = health.unsure(self.report)
+        self.look_at = self.clock() + (UNSURE_LOOK if unsure else MINUTE)
+        if unsure and not self.renewed and self.opened and self.renewal is None and self.pauses.renew > 0:
+            self.renew(unsure)
+
+    def renew(self, unsure: int) -> None:
+        """Has the group write all slots anew, unless another session would end one that may be at work."""
+        held, most = self.tally.sessions, self.tally.most
+        if held is None or held >= most - 1:
+            if not self.waiting and held is not None:
+                self.say(f"the file can't tell of {unsure} of its slots; further operations of the group write them anew, and none are asked: {held} of {most} sessions are in use")
+            self.waiting = held is not None
+            return
+        self.renewed = True
+        self.say(f"the file can't tell of {unsure} of its slots: the group is asked {GETS} gets, {self.pauses.renew:g} s apart, which have all slots written anew")
+        asking = Asking(self.words.program, self.words.cluster, self.words.addresses)
+        self.renewal = Renewal(asking, self.report.value.version, self.pauses.renew, self.clock(), self.hear_client, self.forget_client)
+
+    def hear_client(self, client: subprocess.Popen) -> None:
+        self.selector.register(client.stdout, selectors.EVENT_READ, self.read_client)
+
+    def forget_client(self, client: subprocess.Popen) -> None:
+        self.selector.unregister(client.stdout)
+
+    def read_client(self) -> None:
+        if self.renewal is None or self.renewal.child is None:
+            return
+        self.renewal.read(self.clock())
+        if self.renewal.is_done:
+            self.renewal = None
+            self.look_at = self.clock() + FIRST_LOOK
+            self.say(f"{GETS} gets were answered: all slots are written anew")
+
+    def end_renewal(self) -> None:
+        if self.renewal is not None:
+            self.renewal.end()
+            self.renewal = None
+
     # Who asks.
 
-    def answer(self, doors: socket.socket) -> None:
-        """One question on the socket: `health` is answered by the line of health, `restart` by `restarting` or `down`."""
-        try:
-            one, _ = doors.accept()
-        except OSError:
-            return
-        with one:
-            one.settimeout(0.2)
-            try:
-                one.sendall((self.reply(one.recv(100).decode("ascii", "replace").strip()) + "\n").encode())
-            except OSError:
-                return
+    def reply(self, asked: bytes) -> Optional[bytes]:
+        """The answer to a question on its socket: to `health` the line of health, to `restart` `restarting` or `down`."""
+        question = doors.line_asked(asked)
+        return None if question is None else (self.answer(question) + "\n").encode()
 
-    def reply(self, question: str) -> str:
+    def answer(self, question: str) -> str:
         if question == "health":
             return self.health()
         if question != "restart":
@@ -337,28 +467,22 @@ class Keeper:
         return "restarting"
 
 
-def open_doors(path: str) -> socket.socket:
-    """A socket at this path, for its owner alone. What an earlier keeper left there is removed: the lock is held."""
-    try:
-        os.unlink(path)
-    except FileNotFoundError:
-        pass
-    doors = socket.socket(socket.AF_UNIX, socket.SOCK_STREAM)
-    mask = os.umask(0o177)
-    try:
-        doors.bind(path)
-    finally:
-        os.umask(mask)
-    doors.listen(8)
-    doors.setblocking(False)
-    return doors
+def knock(one: socket.socket, path: str, until: float) -> None:
+    """Connects, again and again while too many others wait there."""
+    while True:
+        try:
+            return one.connect(path)
+        except BlockingIOError:
+            if time.monotonic() > until:
+                raise
+            time.sleep(0.05)
 
 
 def ask(path: str, question: str, wait: float = 5.0) -> str:
     """What the keeper at this socket answers; OSError where none does."""
     with socket.socket(socket.AF_UNIX, socket.SOCK_STREAM) as one:
         one.settimeout(wait)
-        one.connect(path)
+        knock(one, path, time.monotonic() + wait)
         one.sendall(question.encode() + b"\n")
         answer = b""
         while not answer.endswith(b"\n"):

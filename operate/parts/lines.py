@@ -13,6 +13,9 @@ class Line(NamedTuple):
     op: Optional[int] = None
     commit: Optional[int] = None
     asked: Optional[Tuple[str, ...]] = None  # of a question to the others: what it asks for
+    client: Optional[int] = None  # of an operation that is applied: whose request it is
+    request: Optional[int] = None  # and its number
+    what: Tuple[str, ...] = ()  # and what it does: `register`, or `put`, `get`, `del` with the key
 
 
 QUESTIONS = ("get_prepare", "get_block", "get_view", "get_sync")
@@ -52,7 +55,9 @@ def read_send(words: List[str]) -> Line:
 
 def read_commit(words: List[str]) -> Line:
     """`commit R op K view W client C request Q OP`."""
-    return Line("applied", view=value(words, "view"), op=value(words, "op"))
+    whole = len(words) > 10 and words[6] == "client" and words[8] == "request"
+    return Line("applied", view=value(words, "view"), op=value(words, "op"), client=int(words[7]) if whole else None,
+                request=int(words[9]) if whole else None, what=tuple(words[10:12]) if whole else ())
 
 
 def read_reply(words: List[str]) -> Line:

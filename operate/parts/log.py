@@ -6,12 +6,14 @@ import sys
 import threading
 import time
 from collections import OrderedDict
-from typing import Callable, List, NamedTuple, Optional
+from typing import BinaryIO, Callable, List, NamedTuple, Optional
 
 from .lines import Line
 
 REPEAT = 60.0  # seconds; a line that says the same again sooner is left out
 REMEMBERED = 256  # lines whose last time is kept
+AGAIN = 5.0  # seconds after which a log that couldn't be opened is tried again
+NEVER = float("-inf")
 MOST_WAITING = 20_000  # lines that wait to be written; more are dropped, and counted
 
 
@@ -61,21 +63,41 @@ class Thinner:
 
 
 class Rotating:
-    """A file that lines are added to. Once it has `most` bytes it is put aside as FILE.1, what was FILE.1 as FILE.2, and so on to FILE.`kept`."""
+    """A file that lines are added to. Once it has `most` bytes it is put aside as FILE.1, what was FILE.1 as FILE.2, and so on to FILE.`kept`.
+    Where it can't be opened, that is tried again with the next lines, at most once in AGAIN seconds."""
 
     def __init__(self, path: str, most: int, kept: int) -> None:
         self.path, self.most, self.kept = path, most, kept
-        self.file = open(path, "ab", buffering=0)
-        self.size = self.file.tell()
+        self.file: Optional[BinaryIO] = None
+        self.size, self.tried = 0, NEVER
+
+    def open(self) -> None:
+        """Opens it anew, by its path: what somebody moved away is left alone from then on."""
+        fresh = open(self.path, "ab", buffering=0)
+        self.close()
+        self.file, self.size = fresh, fresh.tell()
+
+    def close(self) -> None:
+        if self.file is not None:
+            self.file.close()
+        self.file = None
 
     def write(self, text: bytes) -> None:
         """Adds the text; OSError where it can't be written whole."""
+        if self.file is None:
+            self.try_again()
         while text:
             count = self.file.write(text)
             self.size += count
             text = text[count:]
         if self.size >= self.most:
             self.put_aside()
+
+    def try_again(self) -> None:
+        if time.monotonic() - self.tried < AGAIN:
+            raise OSError("the log isn't open")
+        self.tried = time.monotonic()
+        self.open()
 
     def put_aside(self) -> None:
         for number in range(self.kept, 1, -1):
@@ -89,10 +111,10 @@ class Rotating:
 
 
 class Waiting(NamedTuple):
-    """A line that waits to be written: when it came, in seconds since the epoch, and whether it is said too."""
+    """A line that waits to be written: when it came, in seconds since the epoch, and whether it is said too. None in its place: the file is opened anew."""
 
     seconds: float
-    text: bytes
+    text: Optional[bytes]
     said: bool
 
 
@@ -104,6 +126,7 @@ class Writer:
         self.file, self.say = file, say
         self.waiting: "queue.Queue[Optional[Waiting]]" = queue.Queue(MOST_WAITING)
         self.dropped = 0
+        self.complained: Optional[str] = None  # why the log couldn't be written last
         self.thread = threading.Thread(target=self.work, daemon=True)
         self.thread.start()
 
@@ -113,6 +136,13 @@ class Writer:
             self.waiting.put_nowait(Waiting(time.time(), text, said))
         except queue.Full:
             self.dropped += 1
+
+    def reopen(self) -> None:
+        """The file is opened anew, behind the lines that wait: it may have been moved away."""
+        try:
+            self.waiting.put_nowait(Waiting(0.0, None, False))
+        except queue.Full:
+            pass  # A disk that hangs: nothing is opened there.
 
     def work(self) -> None:
         more = True
@@ -129,14 +159,51 @@ class Writer:
         return batch
 
     def write(self, batch: List[Waiting]) -> None:
+        """Writes the lines, in runs between which the file is opened anew."""
+        run: List[Waiting] = []
+        for item in batch:
+            if item.text is None:
+                self.write_run(run)
+                self.open_anew()
+                run = []
+            else:
+                run.append(item)
+        self.write_run(run)
+
+    def open_anew(self) -> None:
         try:
-            for item in batch:
-                if item.said:
-                    self.say(item.text.decode("ascii", "replace"))
             if self.file is not None:
-                self.file.write(b"".join(stamp(item.seconds).encode() + b" " + item.text + b"\n" for item in batch))
-        except OSError:
-            self.dropped += len(batch)
+                self.file.open()
+        except OSError as error:
+            self.complain(error)
+
+    def write_run(self, run: List[Waiting]) -> None:
+        self.say_all(run)
+        if self.file is None or not run:
+            return
+        try:
+            self.file.write(b"".join(stamp(item.seconds).encode() + b" " + item.text + b"\n" for item in run))
+            self.complained = None
+        except OSError as error:
+            self.dropped += len(run)
+            self.complain(error)
+
+    def say_all(self, run: List[Waiting]) -> None:
+        for item in run:
+            if item.said:
+                self.try_say(item.text.decode("ascii", "replace"))
+
+    def try_say(self, text: str) -> None:
+        try:
+            self.say(text)
+        except (OSError, ValueError):
+            pass  # Nobody reads it any more.
+
+    def complain(self, error: OSError) -> None:
+        """Says once why the log can't be written."""
+        if error.strerror is not None and error.strerror != self.complained:
+            self.complained = error.strerror
+            self.try_say(f"the log {self.file.path} can't be written: {error.strerror}; its lines are dropped, and the member runs all the same")
 
     def end(self, most: float = 2.0) -> None:
         """Writes what waits, for at most so many seconds."""

@@ -33,9 +33,11 @@ class Seconds:
 
 
 class Seen:
-    """What the lines of a member have told of it since it was started."""
+    """What the lines of a member have told of it since it was started. A member that is alone in its group sends nothing to anybody: it leads once
+    it has chosen its log."""
 
-    def __init__(self) -> None:
+    def __init__(self, alone: bool = False) -> None:
+        self.alone = alone
         self.begin(0.0, None, 0)
 
     def begin(self, now: float, view: Optional[int], commit: int) -> None:
@@ -45,14 +47,17 @@ class Seen:
         self.changing_since = NEVER  # of the view change that it is in, or was in last
         self.doubt = now  # since when blocks of its checkpoint may be missing
         self.lacks = False  # whether some are: it applies nothing until it has them
+        self.chosen = False  # whether a member that is alone has chosen its log
         self.last_asked: Dict[str, Tuple[str, ...]] = {}  # the entry, and the block, asked for last
         self.asked: Dict[Tuple[str, ...], float] = {}  # questions, and when they were last asked
 
     def leads(self, now: float) -> bool:
-        return now - self.beat <= RECENT
+        return self.chosen if self.alone else now - self.beat <= RECENT
 
     def changes(self, now: float) -> bool:
         """Whether it is in the midst of a view change."""
+        if self.alone:
+            return self.view is not None and not self.chosen
         return now - self.change <= RECENT and not self.leads(now)
 
     def is_in_the_way(self, question: Tuple[str, ...]) -> bool:
@@ -78,6 +83,7 @@ class Seen:
         """Takes a line in, and tells whether by it the member went on: it applied something, its commit number or its view rose, or an entry or a block came."""
         if line.kind == "start":
             self.begin(now, line.view, line.commit or 0)
+            self.changing_since = now if self.alone else NEVER
             return True
         return self.HEAR.get(line.kind, Seen.hear_other)(self, now, line)
 
@@ -115,6 +121,10 @@ class Seen:
         self.busy = now
         return False
 
+    def hear_choice(self, now: float, line: Line) -> bool:
+        self.chosen = line.kind == "choose"
+        return self.rise(line.view)
+
     def hear_question(self, now: float, line: Line) -> bool:
         """A question. It is always the first that is lacking, so another entry or block than before means that that one came."""
         came = line.kind in ("get_prepare", "get_block") and self.last_asked.get(line.kind, line.asked) != line.asked
@@ -133,6 +143,8 @@ class Seen:
         "start_view_change": hear_change,
         "applied": hear_applied,
         "busy": hear_busy,
+        "choose": hear_choice,
+        "wait": hear_choice,
         "unknown": lambda self, now, line: False,
         "get_view": hear_question,
         "get_sync": hear_question,
@@ -145,11 +157,11 @@ class Policy:
     """Tells from each line whether the member stands still, and is to be stopped and started.
 
     patience: seconds that a member that leads may stand still; 0 for ever. draw: gives a number from 0 to 1 by chance, so that the keepers of
-    two members don't act at the same moment again and again."""
+    two members don't act at the same moment again and again. alone: whether the member is the only one of its group."""
 
-    def __init__(self, patience: float, draw: Callable[[], float]) -> None:
+    def __init__(self, patience: float, draw: Callable[[], float], alone: bool = False) -> None:
         self.patience, self.draw = patience, draw
-        self.seen = Seen()
+        self.seen = Seen(alone)
         self.tries = 0  # restarts that were asked for, and didn't help for long
         self.asked_at = NEVER  # when the last one was asked for
         self.stands = Seconds()

@@ -54,15 +54,14 @@ def seconds(health: Health, name: str) -> float:
         return 0.0
 
 
-def behind(hands: Hands, members: List[int], member: int, spent: float) -> Optional[str]:
-    """Why a member, `spent` seconds after it was restarted, isn't yet one that applies what the others commit; None where it is. What the others
-    have committed is asked first."""
-    goal = committed(hands, members, member)
-    health = hands.health(member)
+def behind(health: Optional[Health], goal: int, spent: float) -> Optional[str]:
+    """Why a member, `spent` seconds after it was restarted, isn't yet one that has applied so much; None where it is."""
     if health is None:
         return "nobody answers for it"
     if seconds(health, "up") > spent + SLACK:
         return "it still is the process from before"
+    if "hangs" in health["well"].split(","):
+        return "its process takes no turn: it was stopped, or waits for its disk"
     if health["state"] not in ("leads", "follows"):
         return f"its state is {health['state']}"
     if health.get("asks", "-") != "-":
@@ -73,13 +72,18 @@ def behind(hands: Hands, members: List[int], member: int, spent: float) -> Optio
 
 
 def settle(hands: Hands, members: List[int], member: int, bounds: Bounds) -> float:
-    """Waits until a member applies what the others commit, and gives the seconds that it took. The clients are held where it takes long."""
+    """Waits until a member applies what the others commit, and gives the seconds that it took. The clients are held where it takes long.
+
+    What a member has applied is compared with what the others had committed a look ago: a backup hears of a commit by the next prepare, so under
+    load it never has what is committed at this instant."""
     began, seen, held = hands.clock(), 0, False
+    goal = committed(hands, members, member)
     try:
         while seen < LOOKS:
             hands.sleep(LOOK)
             spent = hands.clock() - began
-            why = behind(hands, members, member, spent)
+            why = behind(hands.health(member), goal, spent)
+            goal = committed(hands, members, member)
             seen = seen + 1 if why is None else 0
             if why is not None and spent > bounds.whole:
                 raise Stopped(advice(member, why, bounds, hands.hold is not None))
@@ -109,26 +113,38 @@ def order(hands: Hands, members: List[int]) -> List[int]:
     return sorted(members, key=lambda member: ((hands.health(member) or {}).get("state") == "leads", member))
 
 
-def check(hands: Hands, members: List[int]) -> None:
+def trouble(health: Optional[Health], stays: bool) -> Optional[str]:
+    """Why a roll doesn't go on, said of a member by what it tells; None where it may. One that stays while another is stopped has to be whole: what its file can't
+    tell of it doesn't deny, and a view change may have to wait for it."""
+    if health is None:
+        return "has no keeper that answers"
+    unwell = [word for word in health["well"].split(",") if word not in ("yes", "unsure")]
+    if unwell:
+        return f"isn't well: {','.join(unwell)}"
+    if health.get("mends", "-") != "-":
+        return f"asks for {health['mends'].replace('_', ' ')}, which its disk lost and it has in memory: a restart would lose it"
+    if stays and number(health, "unsure"):
+        return (f"has a file that can't tell of {number(health, 'unsure')} of its slots, and it would have to go on without the one that is restarted: wait until its keeper "
+                "has had them written anew, or ask the group 64 gets")
+    return None
+
+
+def check(hands: Hands, members: List[int], chosen: List[int]) -> None:
     """A roll begins, and goes on, only with a group that is whole."""
     for member in members:
-        health = hands.health(member)
-        if health is None:
-            raise Stopped(f"member {member}: nobody answers for it")
-        if health["well"] != "yes":
-            raise Stopped(f"member {member} isn't well: {health['well']}")
-        if health.get("mends", "-") != "-":
-            raise Stopped(f"member {member} asks for {health['mends'].replace('_', ' ')}, which its disk lost and it has in memory: a restart would lose it")
+        why = trouble(hands.health(member), stays=any(other != member for other in chosen))
+        if why is not None:
+            raise Stopped(f"member {member} {why}")
     if not any((hands.health(member) or {}).get("state") == "leads" for member in members):
         raise Stopped("no member leads")
 
 
-def wait_for_whole(hands: Hands, members: List[int], most: float) -> None:
+def wait_for_whole(hands: Hands, members: List[int], chosen: List[int], most: float) -> None:
     """Waits until the group is whole, at most so many seconds: a view change may be going on."""
     began = hands.clock()
     while True:
         try:
-            return check(hands, members)
+            return check(hands, members, chosen)
         except Stopped:
             if hands.clock() - began > most:
                 raise
@@ -137,10 +153,12 @@ def wait_for_whole(hands: Hands, members: List[int], most: float) -> None:
 
 def roll(hands: Hands, members: List[int], bounds: Bounds, chosen: Optional[List[int]] = None) -> None:
     """Restarts the chosen members, all where none are chosen; Stopped where it can't go on."""
-    wait_for_whole(hands, members, bounds.hold)
-    for member in order(hands, chosen or members):
-        wait_for_whole(hands, members, bounds.hold)
+    chosen = chosen or members
+    wait_for_whole(hands, members, chosen, bounds.hold)
+    for member in order(hands, chosen):
+        wait_for_whole(hands, members, [member], bounds.whole)
         hands.say(f"member {member} is restarted")
         hands.restart(member)
         spent = settle(hands, members, member, bounds)
-        hands.say(f"member {member} applies what the others commit, {spent:.1f} s after its restart")
+        back = "applies what the others commit" if len(members) > 1 else "leads again"
+        hands.say(f"member {member} {back}, {spent:.1f} s after its restart")

@@ -17,14 +17,16 @@ MEMBER = os.path.join(HERE, "tests", "member")
 class Kept:
     """A keeper of a member that does what a plan says."""
 
-    def __init__(self, plan: str, *options: str, program: str = MEMBER) -> None:
+    def __init__(self, plan: str, *options: str, program: str = MEMBER, alone: bool = False, begins: bool = True) -> None:
         self.folder = tempfile.TemporaryDirectory(prefix="vr-keep-")
         self.file = os.path.join(self.folder.name, "0")
         with open(self.file + ".plan", "w") as file:
             file.write(plan)
+        with open(self.file, "wb") as data:
+            data.write(bytes(512))
         self.words = [os.path.join(HERE, "keep"), "--program", program, "--pause", "0.1", "--log", self.file + ".log"] + list(options)
-        self.words += ["5", "0", self.file, "127.0.0.1:1", "127.0.0.1:2"]
-        self.child = self.begin()
+        self.words += ["5", "0", self.file, "127.0.0.1:1"] + ([] if alone else ["127.0.0.1:2"])
+        self.child = self.begin() if begins else None
         self.ended: Optional[Tuple[int, str]] = None
 
     def begin(self) -> subprocess.Popen:
@@ -121,13 +123,6 @@ class Ends(Keeping):
         self.assertEqual(kept.end()[0], 0)
         self.assertRaises(ProcessLookupError, os.kill, member, 0)
 
-    def test_no_program(self):
-        kept = self.keep("stand", program="/no/such/program")
-        self.assertTrue(kept.until(lambda: "state=down" in kept.ask("health")))
-        code, said = kept.end()
-        self.assertEqual(code, 0)
-        self.assertIn("couldn't be started: there is no program /no/such/program", said)
-
 
 class Standstills(Keeping):
     def test_it_ends_one_and_touches_it_no_more_once_it_goes_on(self):
@@ -171,8 +166,6 @@ class Asking(Keeping):
         self.assertTrue(kept.until(lambda: "view=4" in kept.ask("health")))
         self.assertEqual(kept.ask("restart"), "restarting")
         self.assertTrue(kept.until(lambda: kept.starts() == 2))
-        kept.child.send_signal(signal.SIGHUP)
-        self.assertTrue(kept.until(lambda: kept.starts() == 3))
         self.assertTrue(kept.ask("what?").startswith("no question"))
         made = subprocess.run([os.path.join(HERE, "health"), kept.file + ".socket"], capture_output=True, text=True)
         self.assertEqual((made.returncode, health.read(made.stdout)["member"]), (0, "0"))

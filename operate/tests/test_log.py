@@ -51,14 +51,14 @@ class Files(unittest.TestCase):
         for text in (b"first line\n", b"second line\n", b"third line\n", b"4\n"):
             file.write(text)
         self.assertEqual([(name, self.read(name)) for name in self.names()], [("log", "4\n"), ("log.1", "third line\n"), ("log.2", "second line\n")])
-        file.file.close()
+        file.close()
 
     def test_none_kept(self):
         file = Rotating(self.path, 10, 0)
         for text in (b"first line\n", b"2\n"):
             file.write(text)
         self.assertEqual([(name, self.read(name)) for name in self.names()], [("log", "2\n")])
-        file.file.close()
+        file.close()
 
     def test_a_writer_puts_the_time_before_each_line(self):
         file = Rotating(self.path, 1000, 1)
@@ -67,7 +67,7 @@ class Files(unittest.TestCase):
         writer.put(b"one")
         writer.put(b"two", said=True)
         writer.end()
-        file.file.close()
+        file.close()
         lines = self.read("log").splitlines()
         self.assertEqual(([line[24:] for line in lines], said), ([" one", " two"], ["two"]))
         self.assertEqual(stamp(1_000_000_000.25), "2001-09-09T01:46:40.250Z")

@@ -1,9 +1,16 @@
-"""A rolling restart, by what its members tell: nothing real."""
+"""A rolling restart, by what its members tell: nothing real but the script itself."""
 
+import os
+import signal
+import subprocess
+import tempfile
+import time
 import unittest
 from typing import Dict, List, Optional
 
 from parts.rolling import Bounds, Hands, Stopped, roll
+
+HERE = os.path.dirname(os.path.dirname(os.path.realpath(__file__)))
 
 
 class Played:
@@ -20,6 +27,9 @@ class Played:
         self.unwell: Optional[int] = None
         self.mends: Optional[int] = None
         self.stale = False  # whether a restart does nothing
+        self.late = 0.0  # seconds until a backup hears of a commit
+        self.hangs: Optional[int] = None
+        self.unsure: Optional[int] = None
 
     def committed(self) -> int:
         return int((self.now - self.over) * self.rate)
@@ -36,9 +46,11 @@ class Played:
         since = self.restarted.get(member)
         if since is not None and self.now - since < 0.3:
             return None
-        applied = 7 if self.lags(member) else self.committed()
-        return {"member": str(member), "well": "no" if member == self.unwell else "yes", "state": "leads" if member == self.leader else "follows", "applied": str(applied),
-                "commit": str(self.committed()), "asks": "get_block_64" if self.lags(member) else "-", "mends": "get_block_7" if member == self.mends else "-", "up": f"{self.now - (-100.0 if since is None else since):.1f}"}
+        known = self.committed() if member == self.leader else int((self.now - self.late) * self.rate)
+        applied = 7 if self.lags(member) else known
+        well = "no" if member == self.unwell else "hangs" if member == self.hangs and member in self.restarted else "unsure" if member == self.unsure else "yes"
+        return {"member": str(member), "well": well, "unsure": str(int(member == self.unsure)), "state": "leads" if member == self.leader else "follows", "applied": str(applied),
+                "commit": str(known), "asks": "get_block_64" if self.lags(member) else "-", "mends": "get_block_7" if member == self.mends else "-", "up": f"{self.now - (-100.0 if since is None else since):.1f}"}
 
     def restart(self, member: int) -> None:
         self.order.append(member)
@@ -115,7 +127,56 @@ class Rolling(unittest.TestCase):
         self.assertRaisesRegex(Stopped, "still is the process from before", roll, played.hands(False), [0, 1, 2], BOUNDS)
         self.assertEqual(played.order, [1])
 
+    def test_a_backup_hears_of_a_commit_a_moment_later_under_load(self):
+        played = Played(rate=50.0)
+        played.late = 0.1
+        roll(played.hands(False), [0, 1, 2], BOUNDS)
+        self.assertEqual(played.order, [1, 2, 0])
+
+    def test_one_that_hangs_after_its_restart_ends_it_before_the_next(self):
+        played = Played(rate=0.0)
+        played.hangs = 1
+        self.assertRaisesRegex(Stopped, "member 1 doesn't apply .* takes no turn", roll, played.hands(False), [0, 1, 2], BOUNDS)
+        self.assertEqual(played.order, [1])
+
+    def test_one_that_is_unsure_isnt_left_alone_and_may_be_restarted_itself(self):
+        for chosen, order in ((None, []), ([0], []), ([1], [1])):
+            played = Played()
+            played.unsure = 1
+            try:
+                roll(played.hands(False), [0, 1, 2], BOUNDS, chosen)
+            except Stopped as why:
+                self.assertRegex(str(why), "member 1 has a file that can't tell of 1 of its slots")
+            self.assertEqual(played.order, order)
+
+    def test_one_that_is_alone(self):
+        played = Played()
+        played.restart = lambda member: (played.order.append(member), played.restarted.update({member: played.now}))
+        roll(played.hands(False), [0], BOUNDS)
+        self.assertEqual((played.order, played.told[-1][:22]), ([0], "member 0 leads again, "))
+
     def test_chosen_ones(self):
         played = Played()
         roll(played.hands(False), [0, 1, 2], BOUNDS, [2, 0])
         self.assertEqual(played.order, [2, 0])
+
+
+class Script(unittest.TestCase):
+    LINE = "member={} well=yes state={} applied={} commit={} asks=- mends=- up=0.1\n"
+
+    def test_held_clients_are_let_go_whatever_signal_ends_it(self):
+        for number in (signal.SIGHUP, signal.SIGTERM, signal.SIGINT):
+            with self.subTest(number), tempfile.TemporaryDirectory(prefix="vr-roll-") as folder:
+                for member, (state, applied) in enumerate([("leads", 9), ("follows", 5), ("follows", 9)]):
+                    with open(f"{folder}/{member}", "w") as file:
+                        file.write(self.LINE.format(member, state, applied, applied))
+                words = [os.path.join(HERE, "roll"), "3", "--health", f"cat {folder}/{{}}", "--restart", "true", "--hold-after", "0.1", "--bound", "60",
+                         "--hold", f"touch {folder}/held", "--release", f"touch {folder}/released"]
+                child = subprocess.Popen(words, stdout=subprocess.DEVNULL, stderr=subprocess.DEVNULL)
+                self.addCleanup(child.kill)
+                end = time.monotonic() + 60
+                while not os.path.exists(f"{folder}/held") and time.monotonic() < end:
+                    time.sleep(0.02)
+                child.send_signal(number)
+                self.assertEqual(child.wait(60), 1)
+                self.assertTrue(os.path.exists(f"{folder}/released"))

@@ -1,0 +1,378 @@
+"""Reads the data file of a member, by docs/FORMATS.md alone, and tells what it holds and what of it is damaged. It asks nobody and changes nothing."""
+
+import hashlib
+import os
+import time
+from typing import Dict, Iterator, List, NamedTuple, Optional, Sequence, Set, Tuple
+
+SECTOR, COPY, BLOCK = 512, 10240, 4096
+HEADERS, SECTORS = 80, 3984
+# The first sector of the grid's first addresses, how many these are, and the first sector of the others; how many addresses there are.
+GRID, NEAR, FAR_GRID, BLOCKS = 400, 128, 1936, 384
+SLOTS = 64
+# By the version of the file, where the prepares begin and how many sectors each has; by that of an entry, the most bytes of its body and of a value.
+PREPARES, PREPARE_SECTORS = {1: 144, 2: 1424}, {1: 4, 2: 8}
+BODY, VALUE = {1: 1920, 2: 3968}, {1: 1024, 2: 3000}
+FEWEST_MEMBERS = {1: 2, 2: 1}
+SESSIONS = {1: 32, 2: 64}  # that are kept, by the version
+KEYS = 128  # that are kept
+# The payloads of sessions and of keys that a root may name.
+MOST_PAYLOADS = 49, 99
+ENTRY, DATA_BLOCK, ROOT_BLOCK, BLOCK_COMMAND = 3, 2, 3, 17
+PAYLOAD = BLOCK - 128
+TRIES = 3
+PAUSE = 0.3  # seconds from one look at a file to the next
+
+
+def name(data: bytes) -> bytes:
+    return hashlib.sha256(data).digest()[:16]
+
+
+def number(data: bytes, at: int, size: int) -> int:
+    return int.from_bytes(data[at:at + size], "big")
+
+
+class Header:
+    """A header's bytes and fields."""
+
+    def __init__(self, data: bytes) -> None:
+        self.bytes = data[:128]
+        self.body, self.cluster, self.request = data[16:32], number(data, 64, 8), number(data, 80, 4)
+        self.view, self.op, self.size = number(data, 84, 4), number(data, 88, 8), number(data, 104, 4)
+        self.command, self.version, self.kind, self.aux = data[108], data[110], data[111], number(data, 112, 8)
+
+    def is_entry(self) -> bool:
+        bare = not any(self.bytes[96:104]) and self.bytes[109] == 0 and self.kind == 0 and self.aux == 0
+        sized = 128 < self.size <= 128 + BODY[self.version]
+        return bare and self.command == ENTRY and sized and self.view < 2**32 - 1 and 1 <= self.op <= 2**62
+
+
+def header_of(data: bytes) -> Optional[Header]:
+    """The header at the front of these bytes, None where none is."""
+    good = len(data) >= 128 and name(data[16:128]) == data[:16] and 1 <= data[108] <= 19 and data[110] in (1, 2)
+    return Header(data) if good and 128 <= number(data, 104, 4) <= 20480 and not any(data[120:128]) else None
+
+
+def is_text(data: bytes, most: int) -> bool:
+    return 1 <= len(data) <= most and all(33 <= byte <= 126 for byte in data)
+
+
+def is_operation(data: bytes, version: int) -> bool:
+    """Whether these bytes are an operation of this version: register, put, get, delete."""
+    if data[:1] == b"\1":
+        return len(data) == 1
+    if data[:1] == b"\2" and len(data) >= 4:
+        key, value = data[4:4 + data[1]], data[4 + data[1]:]
+        return len(key) == data[1] and len(value) == number(data, 2, 2) and is_text(key, 64) and is_text(value, VALUE[version])
+    return data[:1] in (b"\3", b"\4") and len(data) >= 2 and len(data) == 2 + data[1] and is_text(data[2:], 64)
+
+
+def entry_of(data: bytes) -> Optional[Header]:
+    """The header of the entry that a prepare reads as, None where it is no whole one."""
+    header = header_of(data)
+    if header is None or not header.is_entry() or any(data[header.size:]):
+        return None
+    body = data[128:header.size]
+    whole = name(body) == header.body and is_operation(body, header.version) and (body == b"\1") == (header.request == 0)
+    return header if whole else None
+
+
+class Value:
+    """What a good copy of the superblock holds."""
+
+    def __init__(self, data: bytes, headers: Sequence[Header]) -> None:
+        self.sequence, self.cluster = number(data, 16, 8), number(data, 24, 8)
+        self.view, self.log_view = number(data, 32, 4), number(data, 36, 4)
+        self.checkpoint, self.root, self.root_name = number(data, 40, 8), number(data, 48, 8), data[56:72]
+        self.commit, self.head, self.replica, self.members = number(data, 72, 8), number(data, 80, 8), data[90], data[91]
+        self.version, self.mode = data[92], "careful" if data[93] else "strict"
+        self.headers = {header.op: header for header in headers}
+
+    def __str__(self) -> str:
+        return f"sequence {self.sequence} view {self.view} log_view {self.log_view} checkpoint {self.checkpoint} commit {self.commit} head {self.head}"
+
+
+def has_good_numbers(data: bytes) -> bool:
+    view, log_view, checkpoint = number(data, 32, 4), number(data, 36, 4), number(data, 40, 8)
+    commit, head, count = number(data, 72, 8), number(data, 80, 8), number(data, 88, 2)
+    kind = data[92] in (1, 2) and data[93] <= 1 and not any(data[94:128])
+    member = kind and data[90] < data[91] and FEWEST_MEMBERS[data[92]] <= data[91] <= 6
+    window = log_view <= view and log_view < 2**32 - 1 and checkpoint % 32 == 0 and checkpoint <= commit <= head <= min(checkpoint + 64, 2**62)
+    root = number(data, 48, 8) < 128 and (checkpoint > 0 or not any(data[48:72]))
+    return member and window and root and max(head - checkpoint, min(head, 1)) <= count <= min(head, 64)
+
+
+def value_of(data: bytes) -> Optional[Value]:
+    """The value of a copy, None where it isn't good."""
+    if len(data) < COPY or name(data[16:]) != data[:16] or not has_good_numbers(data):
+        return None
+    count, head = number(data, 88, 2), number(data, 80, 8)
+    headers = [header_of(data[128 + 128 * i:256 + 128 * i]) for i in range(count)]
+    for i, header in enumerate(headers):
+        if header is None or not header.is_entry() or header.op != head - count + 1 + i:
+            return None
+        if header.version > data[92] or header.cluster != number(data, 24, 8) or header.view > number(data, 36, 4):
+            return None
+    return None if any(data[128 + 128 * count:COPY]) else Value(data, headers)
+
+
+class Superblock:
+    """The four copies, and the value that the file opens as: the one of the greatest sequence on which two good copies agree."""
+
+    def __init__(self, data: bytes) -> None:
+        copies = [data[i * COPY:(i + 1) * COPY] for i in range(4)]
+        self.values = [value_of(copy) for copy in copies]
+        agree = [i for i in range(4) if self.values[i] and copies.count(copies[i]) >= 2]
+        best = max(agree, key=lambda i: (self.values[i].sequence, -i), default=None)
+        self.value = None if best is None else self.values[best]
+        self.opens = [best is not None and copy == copies[best] for copy in copies]
+
+    def lines(self) -> Iterator[str]:
+        for i, value in enumerate(self.values):
+            yield f"superblock copy {i}: {value or 'damaged'}{', opens' if self.opens[i] else ''}"
+
+
+class Slots:
+    """What an opening finds of each op of the window above the checkpoint, and of those up to it that the superblock names."""
+
+    def __init__(self, data: bytes, value: Value) -> None:
+        self.value = value
+        self.found: Dict[str, List[int]] = {kind: [] for kind in ("here", "lost", "wanted", "unknown", "nothing", "headless")}
+        for op in range(value.checkpoint + 1, value.checkpoint + SLOTS + 1):
+            self.find(op, *self.reads(data, op))
+        known = max(self.found["here"] + self.found["lost"], default=0)
+        self.found["unknown"] += [op for op in self.found["nothing"] if value.head < op < known]
+        # One slot has two operations: what it holds of the later one was told above.
+        taken = {op - SLOTS for kind in ("here", "lost", "unknown") for op in self.found[kind]}
+        old = [header for op, header in value.headers.items() if op <= value.checkpoint and op not in taken]
+        self.old_lost = [header.op for header in old if not self.holds(data, header)]
+
+    def reads(self, data: bytes, op: int) -> Tuple[Optional[Header], Optional[Header], bool]:
+        """The valid header of the op's header sector, the header of its whole prepare, and whether the prepare is torn."""
+        k = op % SLOTS
+        sector = data[(HEADERS + k) * SECTOR:(HEADERS + k + 1) * SECTOR]
+        count = PREPARE_SECTORS[self.value.version]
+        first = PREPARES[self.value.version] + count * k
+        prepare = data[first * SECTOR:(first + count) * SECTOR]
+        header = None if any(sector[128:]) else header_of(sector)
+        entry = entry_of(prepare)
+        return header, entry, entry is None and any(prepare)
+
+    def holds(self, data: bytes, header: Header) -> bool:
+        entry = self.reads(data, header.op)[1]
+        return entry is not None and entry.bytes == header.bytes
+
+    def may_be(self, op: int, header: Optional[Header]) -> bool:
+        """Whether a header may be that of an op: the one that the superblock names, or above its head one of its log view."""
+        if header is None or not header.is_entry() or header.version > self.value.version:
+            return False
+        if header.cluster != self.value.cluster or header.op != op:
+            return False
+        named = self.value.headers.get(op)
+        return header.bytes == named.bytes if op <= self.value.head else header.view == self.value.log_view
+
+    def find(self, op: int, header: Optional[Header], entry: Optional[Header], is_torn: bool) -> None:
+        is_named, fits = op <= self.value.head, self.may_be(op, header)
+        denies = header is not None and not (is_torn and self.value.mode == "careful")
+        if self.may_be(op, entry) and not (fits and header.bytes != entry.bytes):
+            self.found["here"].append(op)
+            self.found["headless"] += [op] if header is None else []
+        elif fits:
+            self.found["lost"].append(op)
+        elif denies:
+            self.found["wanted" if is_named else "nothing"].append(op)
+        else:
+            self.found["lost" if is_named else "unknown"].append(op)
+
+    def head(self) -> int:
+        return max(self.found["here"] + self.found["lost"] + [self.value.head])
+
+    def line(self) -> str:
+        told = "; ".join(f"{kind} {ranges(self.found[kind])}" for kind in ("here", "lost", "wanted", "unknown"))
+        headless = f"; here with a damaged header sector {ranges(self.found['headless'])}" if self.found["headless"] else ""
+        old = f"; lost up to the checkpoint {ranges(self.old_lost)}" if self.old_lost else ""
+        return f"operations above the checkpoint: {told}{headless}{old}"
+
+
+def block_at(data: bytes, address: int) -> bytes:
+    """The bytes of the block at an address, none where the grid hasn't that."""
+    at = GRID * SECTOR + BLOCK * address if address < NEAR else FAR_GRID * SECTOR + BLOCK * (address - NEAR)
+    return data[at:at + BLOCK] if address < BLOCKS else b""
+
+
+def payload_of(data: bytes, address: int, wanted: bytes, kind: int, op: Optional[int] = None) -> Optional[bytes]:
+    """The payload of the block under a name, None where it is faulty."""
+    block = block_at(data, address)
+    header = header_of(block)
+    if header is None or header.bytes[:16] != wanted or header.command != BLOCK_COMMAND or header.kind != kind or header.version != 1:
+        return None
+    if header.aux != address or op not in (None, header.op) or any(block[header.size:]):
+        return None
+    payload = block[128:header.size]
+    return payload if name(payload) == header.body else None
+
+
+class Checkpoint:
+    """The two texts of the checkpoint's state, None where a block of one is faulty, with its blocks."""
+
+    def __init__(self, data: bytes, value: Value) -> None:
+        self.op = value.checkpoint
+        self.used: List[int] = []
+        self.faulty: List[int] = []
+        self.sessions: Optional[bytes] = b"\0\0"
+        self.keys: Optional[bytes] = b"\0\0"
+        if self.op:
+            self.load(data, value)
+
+    def load(self, data: bytes, value: Value) -> None:
+        self.used.append(value.root)
+        self.sessions = self.keys = None
+        root = payload_of(data, value.root, value.root_name, ROOT_BLOCK, self.op)
+        if root is None or len(root) < 18:
+            self.faulty.append(value.root)
+            return
+        lengths = number(root, 8, 4), number(root, 12, 4)
+        counts = [-(-length // PAYLOAD) for length in lengths]
+        if counts[0] > MOST_PAYLOADS[0] or counts[1] > MOST_PAYLOADS[1] or sum(counts) != number(root, 16, 2) or len(root) != 18 + 24 * sum(counts):
+            self.faulty.append(value.root)
+            return
+        names = [(number(root, at, 8), root[at + 8:at + 24]) for at in range(18, len(root), 24)]
+        self.sessions = self.text(data, names[:counts[0]], lengths[0])
+        self.keys = self.text(data, names[counts[0]:], lengths[1])
+
+    def text(self, data: bytes, names: Sequence[Tuple[int, bytes]], length: int) -> Optional[bytes]:
+        pieces = []
+        for address, wanted in names:
+            piece = payload_of(data, address, wanted, DATA_BLOCK)
+            self.used.append(address)
+            self.faulty += [address] if piece is None else []
+            pieces.append(piece)
+        return None if None in pieces or sum(map(len, pieces)) != length else b"".join(pieces)
+
+    def pairs(self) -> Iterator[Tuple[str, str]]:
+        """The keys with their values."""
+        at = 2
+        for _ in range(number(self.keys, 0, 2)):
+            key, value = self.keys[at], number(self.keys, at + 1, 2)
+            yield self.keys[at + 3:at + 3 + key].decode(), self.keys[at + 3 + key:at + 3 + key + value].decode()
+            at += 3 + key + value
+
+    def clients(self) -> Dict[int, Tuple[int, int]]:
+        """The clients that have a session, each with the number of its last request and the operation that executed it."""
+        found, at = {}, 2
+        for _ in range(number(self.sessions, 0, 2)):
+            found[number(self.sessions, at, 8)] = number(self.sessions, at + 8, 4), number(self.sessions, at + 12, 8)
+            at += 21 + (2 + number(self.sessions, at + 21, 2) if self.sessions[at + 20] == 5 else 0)
+        return found
+
+    def line(self) -> str:
+        def count(text: Optional[bytes], what: str) -> str:
+            return f"{what} can't be read" if text is None else f"{number(text, 0, 2)} {what}"
+        return f"checkpoint {self.op}: {len(self.used)} blocks, faulty {ranges(self.faulty)}; {count(self.sessions, 'sessions')}, {count(self.keys, 'keys')}"
+
+
+def ranges(numbers: Sequence[int]) -> str:
+    runs: List[List[int]] = []
+    for n in sorted(numbers):
+        if runs and runs[-1][1] == n - 1:
+            runs[-1][1] = n
+        else:
+            runs.append([n, n])
+    return " ".join(f"{low}" if low == high else f"{low}-{high}" for low, high in runs) or "none"
+
+
+def read_sectors(file) -> Tuple[bytes, int]:
+    """The file's bytes, and how many sectors can't be read; these are no sectors of anything."""
+    try:
+        return os.pread(file.fileno(), SECTORS * SECTOR, 0), 0
+    except OSError:
+        pieces, unread = [], 0
+    for i in range(SECTORS):
+        try:
+            pieces.append(os.pread(file.fileno(), SECTOR, i * SECTOR))
+        except OSError:
+            pieces.append(b"\xff" * SECTOR)
+            unread += 1
+    return b"".join(pieces), unread
+
+
+class Places(NamedTuple):
+    """The damaged places of a file, by what becomes of them while its member runs; each is what it is of, and its number there."""
+
+    mended: Set[Tuple[str, int]]  # the member writes them anew, with what the others give it or it has itself
+    unsure: Set[Tuple[str, int]]  # slots of which the file can't tell whether they held an operation: each waits until a further operation is written there
+    idle: Set[Tuple[str, int]]  # nothing stands on them: operations that the checkpoint holds
+
+    def __and__(self, other: "Places") -> "Places":
+        return Places(*(mine & others for mine, others in zip(self, other)))
+
+    def count(self) -> int:
+        return sum(map(len, self))
+
+
+class Report:
+    """What was found in a file."""
+
+    def __init__(self, path: str) -> None:
+        with open(path, "rb") as file:
+            (data, self.unread), stat = read_sectors(file), os.fstat(file.fileno())
+        self.path, self.length, self.blocks, self.age = path, stat.st_size, stat.st_blocks, max(0, int(time.time() - stat.st_mtime))
+        self.superblock = Superblock(data)
+        self.value = self.superblock.value
+        self.places = Places(set(), set(), set())
+        if self.value:
+            self.slots, self.checkpoint = Slots(data, self.value), Checkpoint(data, self.value)
+            self.places = self.find_places()
+
+    def find_places(self) -> Places:
+        found = self.slots.found
+        copies = {("copy", i) for i, value in enumerate(self.superblock.values) if value is None}
+        blocks = {("block", address) for address in self.checkpoint.faulty}
+        entries = {("operation", op) for op in found["lost"] + found["headless"]}
+        return Places(copies | blocks | entries, {("operation", op) for op in found["unknown"]}, {("operation", op) for op in self.slots.old_lost})
+
+    def damaged(self) -> int:
+        """How many places are damaged; of a file that is no member's, more than there are."""
+        return SECTORS if self.value is None else self.places.count()
+
+    def whose(self) -> str:
+        return f"member {self.value.replica} of {self.value.members} of group {self.value.cluster}"
+
+    def health(self) -> str:
+        if self.value is None:
+            return f"{self.path}: no member"
+        kinds = f" (mended {len(self.places.mended)}, unsure {len(self.places.unsure)}, idle {len(self.places.idle)})" if self.damaged() else ""
+        return (f"{self.whose()}: view {self.value.view} commit {self.value.commit} head {self.slots.head()} checkpoint {self.value.checkpoint} "
+                f"damaged {self.damaged()}{kinds} written {self.age} s ago")
+
+    def damage_lines(self) -> Iterator[str]:
+        """How many places are damaged, and what becomes of them while the member runs."""
+        yield f"damaged places: {self.damaged()}"
+        others = "the member" if self.value.members == 1 else "the member, which asks the others for what it hasn't itself"
+        for places, text in ((self.places.mended, f"mended by {others}, while it runs"),
+                             (self.places.unsure, "unsure until a further operation is written to each, which 64 further operations of the group are enough for; until then "
+                                                  "the member can't deny what may have stood there, and a choice may have to wait for another member"),
+                             (self.places.idle, "idle: nothing stands on what was there, since the checkpoint holds it; written anew by further operations")):
+            if places:
+                yield f"  {len(places)} {text}: {', '.join(' '.join(map(str, place)) for place in sorted(places))}"
+
+    def lines(self) -> List[str]:
+        holes = "" if self.blocks >= SECTORS else f", of which {self.blocks} of {SECTORS} sectors have room on the disk"
+        unread = f", {self.unread} sectors can't be read" if self.unread else ""
+        size = f"{self.length} bytes{holes}{unread}, written {self.age} s ago"
+        if self.value is None:
+            return [f"{self.path}: no member: no two good copies of the superblock agree; {size}", *self.superblock.lines()]
+        return [f"{self.whose()}, a {self.value.mode} file of version {self.value.version}; {size}", *self.superblock.lines(), self.slots.line(), self.checkpoint.line(),
+                *self.damage_lines(), "These are the numbers that were saved last; the member may know more."]
+
+
+def look(path: str) -> Report:
+    """The report on a file. Where there is damage it looks again: a member may be writing there. Only what is damaged at each look is damage."""
+    report = Report(path)
+    for _ in range(TRIES - 1):
+        if report.damaged() == 0:
+            break
+        time.sleep(PAUSE)
+        before, report = report.places, Report(path)
+        report.places = report.places & before
+    return report
