@@ -338,6 +338,18 @@ class Report:
     def whose(self) -> str:
         return f"member {self.value.replica} of {self.value.members} of group {self.value.cluster}"
 
+    def as_json(self) -> Dict[str, object]:
+        """What a script needs of it; nothing but the path where it is no member's."""
+        if self.value is None:
+            return {"file": self.path}
+        value, checkpoint = self.value, self.checkpoint
+        return {
+            "file": self.path, "group": value.cluster, "member": value.replica, "members": value.members, "version": value.version, "mode": value.mode,
+            "view": value.view, "commit": value.commit, "head": self.slots.head(), "checkpoint": value.checkpoint,
+            "keys": None if checkpoint.keys is None else number(checkpoint.keys, 0, 2), "sessions": None if checkpoint.sessions is None else number(checkpoint.sessions, 0, 2),
+            "places": {kind: sorted(found) for kind, found in self.places._asdict().items()},
+        }
+
     def health(self) -> str:
         if self.value is None:
             return f"{self.path}: no member"

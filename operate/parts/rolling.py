@@ -71,8 +71,9 @@ def behind(health: Optional[Health], goal: int, spent: float) -> Optional[str]:
     return None
 
 
-def settle(hands: Hands, members: List[int], member: int, bounds: Bounds) -> float:
-    """Waits until a member applies what the others commit, and gives the seconds that it took. The clients are held where it takes long.
+def settle(hands: Hands, members: List[int], member: int, bounds: Bounds, age: float = 0.0) -> float:
+    """Waits until a member, whose process is at most `age` seconds old, applies what the others commit, and gives the seconds that it took. The clients
+    are held where it takes long.
 
     What a member has applied is compared with what the others had committed a look ago: a backup hears of a commit by the next prepare, so under
     load it never has what is committed at this instant."""
@@ -82,7 +83,7 @@ def settle(hands: Hands, members: List[int], member: int, bounds: Bounds) -> flo
         while seen < LOOKS:
             hands.sleep(LOOK)
             spent = hands.clock() - began
-            why = behind(hands.health(member), goal, spent)
+            why = behind(hands.health(member), goal, age + spent)
             goal = committed(hands, members, member)
             seen = seen + 1 if why is None else 0
             if why is not None and spent > bounds.whole:

@@ -73,7 +73,7 @@ class Passing(Keeping):
 
 
 class Logs(Keeping):
-    def test_a_log_that_cannot_be_opened_holds_nobody_up_and_is_opened_later(self):
+    def test_a_log_that_cannot_be_opened_holds_nobody_up(self):
         kept = self.keep(f"{START}\nbeat 60 commit 0 op 12 view 0", "--log", "/dev/null/log")
         self.assertTrue(kept.until(lambda: "applied=12" in kept.ask("health")))
         self.assertIn("can't be written: Not a directory", kept.end()[1])
