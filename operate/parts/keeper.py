@@ -10,7 +10,7 @@ import socket
 import subprocess
 import time
 from collections import Counter
-from typing import Callable, Dict, List, NamedTuple, Optional
+from typing import Callable, List, NamedTuple, Optional, Tuple
 
 from . import datafile, doors, endings, health
 from .health import Life
@@ -154,6 +154,7 @@ class Keeper:
         self.renewal: Optional[Renewal] = None
         self.renewed = self.waiting = False  # whether this life of the member had its slots written anew; whether that waits for room
         self.doors: List[doors.Door] = []
+        self.closed: List[Tuple[str, doors.Answer]] = []  # ports that couldn't be had
         self.wanted: Optional[str] = None  # why the member is being ended by its keeper
         self.leaving = False
         self.code: Optional[int] = None  # with what the keeper ends
@@ -210,6 +211,21 @@ class Keeper:
         """Where it is asked, besides."""
         self.doors.append(doors.Door(self.selector, self.clock, listener, answer))
 
+    def add_port(self, address: str, answer: doors.Answer) -> None:
+        """A port on which it is asked. One that can't be had holds no member up: it is tried again each minute."""
+        try:
+            self.add_door(doors.listen_at(address), answer)
+        except OSError as error:
+            if (address, answer) not in self.closed:
+                self.closed.append((address, answer))
+                self.say(f"nobody can ask at {address}: {error.strerror or error}; it is tried again each minute")
+
+    def try_ports(self) -> None:
+        """Those that couldn't be had."""
+        closed, self.closed = self.closed, []
+        for address, answer in closed:
+            self.add_port(address, answer)
+
     def next_time(self) -> float:
         """Seconds until the clock is to be looked at."""
         times = [self.minute] + [at for door in self.doors for at in door.next_time()]
@@ -239,6 +255,7 @@ class Keeper:
         if now >= self.minute:
             self.minute = now + MINUTE
             self.say_health()
+            self.try_ports()
 
     # The member's life.
 
@@ -456,6 +473,10 @@ class Keeper:
         question = doors.line_asked(asked)
         return None if question is None else (self.answer(question) + "\n").encode()
 
+    def tell_health(self, asked: bytes) -> Optional[bytes]:
+        """The line of health, to whoever comes to its port, whatever was sent."""
+        return (self.health() + "\n").encode()
+
     def answer(self, question: str) -> str:
         if question == "health":
             return self.health()
@@ -465,29 +486,3 @@ class Keeper:
             return "down"
         self.restart("it was asked to")
         return "restarting"
-
-
-def knock(one: socket.socket, path: str, until: float) -> None:
-    """Connects, again and again while too many others wait there."""
-    while True:
-        try:
-            return one.connect(path)
-        except BlockingIOError:
-            if time.monotonic() > until:
-                raise
-            time.sleep(0.05)
-
-
-def ask(path: str, question: str, wait: float = 5.0) -> str:
-    """What the keeper at this socket answers; OSError where none does."""
-    with socket.socket(socket.AF_UNIX, socket.SOCK_STREAM) as one:
-        one.settimeout(wait)
-        knock(one, path, time.monotonic() + wait)
-        one.sendall(question.encode() + b"\n")
-        answer = b""
-        while not answer.endswith(b"\n"):
-            piece = one.recv(1000)
-            if not piece:
-                break
-            answer += piece
-    return answer.decode("ascii", "replace").strip()

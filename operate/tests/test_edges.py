@@ -9,7 +9,7 @@ import tempfile
 import time
 import unittest
 
-from parts import datafile, keeper, program
+from parts import asking, datafile, program
 from tests.test_keep import HERE, Kept, Keeping
 
 START = "say start 0 view 0 log_view 0 commit 0"
@@ -130,7 +130,7 @@ class Living(Keeping):
             silent.append(socket.socket(socket.AF_UNIX, socket.SOCK_STREAM))
             silent[-1].connect(kept.file + ".socket")
             self.addCleanup(silent[-1].close)
-        self.assertIn("member=0", keeper.ask(kept.file + ".socket", "health"))
+        self.assertIn("member=0", asking.ask(kept.file + ".socket", "health"))
 
 
 @unittest.skipUnless(program.is_there(), program.MISSING)

@@ -8,7 +8,7 @@ import time
 import unittest
 from typing import Optional, Tuple
 
-from parts import health, keeper
+from parts import asking, health, keeper
 
 HERE = os.path.dirname(os.path.dirname(os.path.realpath(__file__)))
 MEMBER = os.path.join(HERE, "tests", "member")
@@ -48,7 +48,7 @@ class Kept:
     def ask(self, question: str) -> str:
         """What the keeper answers; nothing until it does."""
         try:
-            return keeper.ask(self.file + ".socket", question)
+            return asking.ask(self.file + ".socket", question)
         except OSError:
             return ""
 

@@ -9,7 +9,7 @@ import time
 import unittest
 from typing import Callable
 
-from parts import datafile, health, keeper, program
+from parts import asking, datafile, health, program
 
 HERE = os.path.dirname(os.path.dirname(os.path.realpath(__file__)))
 sys.path.insert(0, os.path.join(HERE, "trials"))
@@ -59,11 +59,11 @@ class Real(unittest.TestCase):
             child = subprocess.Popen([os.path.join(HERE, "keep")] + words, stderr=subprocess.DEVNULL)
             self.addCleanup(child.wait)
             self.addCleanup(child.kill)
-            self.until(lambda: os.path.exists(path + ".socket") and health.read(keeper.ask(path + ".socket", "health"))["state"] == "leads")
-            before = keeper.ask(path + ".socket", "health")
+            self.until(lambda: os.path.exists(path + ".socket") and health.read(asking.ask(path + ".socket", "health"))["state"] == "leads")
+            before = asking.ask(path + ".socket", "health")
             rolled = subprocess.run([os.path.join(HERE, "roll"), "1", "--sockets", path + ".socket"], capture_output=True, text=True)
             self.assertEqual(rolled.returncode, 0, rolled.stdout + rolled.stderr)
-            self.assertLess(float(health.read(keeper.ask(path + ".socket", "health"))["up"]), float(health.read(before)["up"]) + 60)
+            self.assertLess(float(health.read(asking.ask(path + ".socket", "health"))["up"]), float(health.read(before)["up"]) + 60)
             child.terminate()
             self.assertEqual(child.wait(30), 0)
 

@@ -13,7 +13,7 @@ from typing import Dict, List, Optional, Set, Tuple
 HERE = os.path.dirname(os.path.dirname(os.path.realpath(__file__)))
 sys.path.insert(0, HERE)
 
-from parts import health, keeper, program  # noqa: E402
+from parts import asking, health, program  # noqa: E402
 
 CLUSTER = 5
 
@@ -168,7 +168,7 @@ class Group:
 
     def health(self, member: int) -> Optional[Dict[str, str]]:
         try:
-            return health.read(keeper.ask(self.file(member) + ".socket", "health"))
+            return health.read(asking.ask(self.file(member) + ".socket", "health"))
         except (OSError, ValueError):
             return None
 

@@ -1,0 +1,182 @@
+"""What is known of a whole group: of each member its keeper's line and its reply to a probe, and what follows for the group.
+
+Nothing here reads a clock or a socket, so that it is a function of what was told."""
+
+from typing import Dict, List, NamedTuple, Optional
+
+from .probing import Reply
+from .rolling import Health, number, seconds
+
+WELL, AILS, UNKNOWN, SILENT = 0, 1, 3, 4  # exit codes; 2 is wrong words
+LEADS = ("evicted", "busy")  # what a member that leads answers the probe
+NAMES = {WELL: "well", AILS: "ails", UNKNOWN: "unknown", SILENT: "silent"}
+STANDS = 1.5  # seconds; a group whose leader stands still for longer with something open doesn't answer
+REPLICATION = {1: 1, 2: 2, 3: 2, 4: 2, 5: 3, 6: 3}  # so many members, the one that leads among them, have to hold an operation
+
+
+class Known(NamedTuple):
+    """What is known of one member: its keeper's line, and why there is none; its reply; whether no process listens at its address; whose number
+    answered there."""
+
+    line: Optional[Health]
+    fault: str
+    reply: Optional[Reply]
+    refused: bool = False
+    place: Optional[int] = None
+
+    def view(self) -> Optional[int]:
+        """The newest view that it is known to be in."""
+        told = [number(self.line, "view")] if self.line and self.line.get("view", "-") != "-" else []
+        return max(told + ([self.reply.view] if self.reply else []), default=None)
+
+    def leads(self) -> bool:
+        """Whether it takes itself for the one that leads."""
+        if self.reply is not None:
+            return self.reply.kind in LEADS
+        return self.line is not None and self.line["state"] == "leads" and self.goes_on()
+
+    def goes_on(self) -> bool:
+        """Whether its process runs and takes turns, as far as anybody can tell."""
+        return self.line is None or (self.line["state"] != "down" and "hangs" not in self.line["well"].split(","))
+
+    def is_in(self, view: int) -> Optional[bool]:
+        """Whether it takes part in a view; None where nobody can tell."""
+        if self.is_dark():
+            return None
+        if self.reply is not None:
+            return self.goes_on() and self.reply.view == view
+        if self.line is None:
+            return False
+        return self.goes_on() and self.line["state"] in ("leads", "follows") and self.view() == view
+
+    def is_dark(self) -> bool:
+        """Whether nothing at all is known of it."""
+        return self.line is None and self.reply is None and not self.refused
+
+    def state(self) -> str:
+        if self.line is not None:
+            return "hangs" if self.line["state"] != "down" and not self.goes_on() else self.line["state"]
+        if self.reply is None:
+            return "down" if self.refused else "unknown"
+        return "leads" if self.reply.kind in LEADS else "answers"
+
+
+class Verdict(NamedTuple):
+    """What is to be said of a group. `why`: a sentence for each thing that isn't well or isn't known."""
+
+    code: int
+    leader: Optional[int]
+    view: Optional[int]
+    commit: int
+    why: List[str]
+
+
+def leader_of(members: List[Known]) -> Optional[int]:
+    """The member that leads the newest view that anybody leads."""
+    leading = [member for member, known in enumerate(members) if known.leads() and known.view() is not None]
+    return max(leading, key=lambda member: members[member].view(), default=None)
+
+
+def commit_of(members: List[Known]) -> int:
+    """The greatest operation that any member is known to have applied or to know as committed."""
+    return max([0] + [max(number(known.line, "commit"), number(known.line, "applied")) for known in members])
+
+
+def silence(members: List[Known], leader: Optional[int]) -> Optional[str]:
+    """Why the group doesn't answer; None where it does, or where nobody can tell."""
+    size = len(members)
+    least = REPLICATION[size]
+    dark = sum(known.is_dark() for known in members)
+    if leader is None:
+        return None if dark >= least else "no member leads"
+    view = members[leader].view()
+    taking_part = [known.is_in(view) for known in members]
+    if sum(part is not False for part in taking_part) < least:
+        return f"member {leader} leads view {view}, and too few take part in it: {sum(part is True for part in taking_part)} of {size}, where it takes {least}"
+    stands = seconds(members[leader].line or {}, "stands")
+    return f"member {leader} leads view {view} and has committed nothing for {stands:.1f} s though something is open" if stands > STANDS else None
+
+
+def is_known(members: List[Known], leader: Optional[int]) -> bool:
+    """Whether enough is known to say that the group answers."""
+    if leader is None:
+        return False
+    return sum(known.is_in(members[leader].view()) is True for known in members) >= REPLICATION[len(members)]
+
+
+def complaints(members: List[Known], leader: Optional[int], has_keepers: bool) -> List[str]:
+    """What isn't well at single members, a sentence each."""
+    found = []
+    for member, known in enumerate(members):
+        if has_keepers and known.line is None:
+            found.append(f"member {member}: {known.fault}" + (", though it answers" if known.reply else ""))
+        elif known.line is not None and known.line["well"] != "yes":
+            found.append(f"member {member} isn't well: {known.line['well'].replace(',', ', ')}")
+        if known.refused:
+            found.append(f"member {member}: no process listens at its address")
+        elif known.reply is None and (known.line is None or known.line["well"] == "yes"):
+            found.append(f"member {member} doesn't answer the probe")
+        if known.place is not None and known.place != member:
+            found.append(f"the address at place {member} is member {known.place}'s: the addresses are in another order")
+        if leader is not None and member != leader and known.leads():
+            found.append(f"member {member} takes itself for the one that leads, in view {known.view()}")
+        elif leader is not None and known.reply is not None and known.is_in(members[leader].view()) is False and known.goes_on():
+            found.append(f"member {member} is in view {known.reply.view}, and member {leader} leads view {members[leader].view()}")
+        if known.line is not None and number(known.line, "damaged"):
+            found.append(f"member {member}: {known.line['damaged']} damaged places in its file")
+    return found
+
+
+def judge(members: List[Known], has_keepers: bool) -> Verdict:
+    """What follows for the group."""
+    leader = leader_of(members)
+    why = complaints(members, leader, has_keepers)
+    silent = silence(members, leader)
+    view = members[leader].view() if leader is not None else max((known.view() for known in members if known.view() is not None), default=None)
+    if silent is not None:
+        return Verdict(SILENT, leader, view, commit_of(members), [f"the group doesn't answer: {silent}"] + why)
+    if not is_known(members, leader):
+        return Verdict(UNKNOWN, leader, view, commit_of(members), ["too little is known to tell whether the group answers"] + why)
+    return Verdict(AILS if why else WELL, leader, view, commit_of(members), why)
+
+
+def behind(known: Known, commit: int) -> Optional[int]:
+    """By how many operations a member is behind the greatest commit number; None where it isn't known."""
+    if known.line is None or known.line["state"] == "down" or number(known.line, "applied") == 0 < commit:
+        return None
+    return max(0, commit - number(known.line, "applied"))
+
+
+LIMITS: Dict[str, Dict[str, int]] = {"1": {"sessions": 32, "keys": 128}, "2": {"sessions": 64, "keys": 128}}
+
+
+def as_json(cluster: int, members: List[Known], verdict: Verdict) -> Dict[str, object]:
+    """All of it, for a script or a page."""
+    return {
+        "group": cluster, "code": verdict.code, "verdict": NAMES[verdict.code], "leader": verdict.leader, "view": verdict.view, "commit": verdict.commit, "why": verdict.why,
+        "members": [member_json(member, known, verdict) for member, known in enumerate(members)],
+    }
+
+
+def member_json(member: int, known: Known, verdict: Verdict) -> Dict[str, object]:
+    line = known.line or {}
+
+    def count(name: str) -> Optional[int]:
+        return int(line[name]) if line.get(name, "-").isdigit() else None
+
+    limits, state = LIMITS.get(line.get("version", ""), {}), known.state()
+    if state == "changes" and verdict.leader is not None and known.is_in(verdict.view):
+        state = "follows"  # The change is over: its reply is newer than its keeper's line.
+    return {
+        "member": member, "state": state, "leads": member == verdict.leader, "well": line.get("well"), "view": known.view(), "commit": count("commit"), "applied": count("applied"),
+        "behind": behind(known, verdict.commit), "up": seconds(line, "up") if line.get("up", "-") != "-" else None, "stands": seconds(line, "stands") if line else None,
+        "restarts": count("restarts"), "ends": count("ends"), "version": count("version"), "mode": None if line.get("mode", "-") == "-" else line["mode"],
+        "keys": count("keys"), "most_keys": limits.get("keys"), "sessions": count("sessions"), "most_sessions": limits.get("sessions"),
+        "damaged": count("damaged"), "unsure": count("unsure"), "asks": dash(line, "asks"), "mends": dash(line, "mends"), "answers": known.reply.kind if known.reply else None,
+        "fault": known.fault or None,
+    }
+
+
+def dash(line: Health, name: str) -> Optional[str]:
+    value = line.get(name, "-")
+    return None if value == "-" else value.replace("_", " ")

@@ -1,0 +1,162 @@
+"""What is said of a whole group: by what was told, and of real members. Without the built program the real ones are left out."""
+
+import json
+import os
+import signal
+import socket
+import subprocess
+import sys
+import time
+import unittest
+from typing import Callable, Optional, Tuple
+
+from parts import asking, program
+from parts.judging import AILS, SILENT, UNKNOWN, WELL, Known, as_json, judge
+from parts.probing import Reply
+from parts.telling import table
+
+HERE = os.path.dirname(os.path.dirname(os.path.realpath(__file__)))
+sys.path.insert(0, os.path.join(HERE, "trials"))
+
+from real import CLUSTER, Group, Net  # noqa: E402
+
+
+def line(member: int, state: str, view: int = 3, **more: str) -> dict:
+    told = {"member": str(member), "well": "yes", "state": state, "view": str(view), "applied": "40", "commit": "40", "stands": "0.0", "up": "9.0", "unsure": "0", "damaged": "0",
+            "version": "1", "mode": "strict", "keys": "7", "sessions": "2", "restarts": "0", "ends": "0", "asks": "-", "mends": "-"}
+    return dict(told, **more)
+
+
+def known(member: int, state: str, reply: Optional[str] = "same", view: int = 3, **more: str) -> Known:
+    """A member in a state, which answers the probe as one in that state does, unless another reply is given."""
+    answer = {"leads": "evicted", "follows": "redirect"}.get(state) if reply == "same" else reply
+    return Known(line(member, state, view, **more), "", Reply(answer, view, 1) if answer else None)
+
+
+def silent(member: int, fault: str = "no keeper answers", refused: bool = False) -> Known:
+    return Known(None, fault, None, refused)
+
+
+def probed(kind: str, view: int = 3) -> Known:
+    return Known(None, "", Reply(kind, view, 1))
+
+
+LEADS, FOLLOWS, THIRD = known(0, "leads"), known(1, "follows"), known(2, "follows")
+HANGS = known(2, "follows", None, well="hangs")
+ROWS = [
+    ("all is well", [LEADS, FOLLOWS, THIRD], WELL, 0),
+    ("a group of one", [known(0, "leads")], WELL, 0),
+    ("a group of one that waits", [known(0, "changes", "redirect", well="changes")], SILENT, None),
+    ("one is down", [LEADS, FOLLOWS, known(2, "down", None, well="down")], AILS, 0),
+    ("one hangs", [LEADS, FOLLOWS, HANGS], AILS, 0),
+    ("two hang", [LEADS, known(1, "follows", None, well="hangs"), HANGS], SILENT, 0),
+    ("the one that leads hangs, and says so late", [known(0, "leads", None, well="hangs"), FOLLOWS, THIRD], SILENT, None),
+    ("one keeper is silent, its member isn't", [LEADS, FOLLOWS, Known(None, "no keeper answers", Reply("redirect", 3, 1))], AILS, 0),
+    ("one machine is silent", [LEADS, FOLLOWS, silent(2)], AILS, 0),
+    ("two machines are silent", [LEADS, silent(1), silent(2)], UNKNOWN, 0),
+    ("all machines are silent", [silent(0), silent(1), silent(2)], UNKNOWN, None),
+    ("nobody listens anywhere", [silent(0, refused=True), silent(1, refused=True), silent(2, refused=True)], SILENT, None),
+    ("no member leads", [known(0, "changes", "redirect", 4), known(1, "changes", "redirect", 4), known(2, "changes", "redirect", 4)], SILENT, None),
+    ("an old one still leads", [known(0, "leads", view=3), known(1, "leads", view=4), known(2, "follows", view=4)], AILS, 1),
+    ("one that leads alone", [known(0, "leads", view=3), known(1, "changes", "redirect", 9), known(2, "changes", "redirect", 9)], SILENT, 0),
+    ("something is open, and nothing is committed", [known(0, "leads", stands="1.6"), FOLLOWS, THIRD], SILENT, 0),
+    ("a slow moment", [known(0, "leads", stands="0.9"), FOLLOWS, THIRD], WELL, 0),
+    ("damage", [LEADS, FOLLOWS, known(2, "follows", damaged="2")], AILS, 0),
+    ("a file that can't tell of a slot", [LEADS, FOLLOWS, known(2, "follows", well="unsure", damaged="1", unsure="1")], AILS, 0),
+    ("a file of another version", [LEADS, FOLLOWS, known(2, "changes", None, well="changes")], AILS, 0),
+    ("three of six are silent", [LEADS, FOLLOWS, THIRD, silent(3), silent(4), silent(5)], AILS, 0),
+    ("four of six are silent", [LEADS, FOLLOWS, silent(2), silent(3), silent(4), silent(5)], UNKNOWN, 0),
+]
+PROBED = [
+    ("all answer", [probed("evicted"), probed("redirect"), probed("redirect")], WELL, 0),
+    ("one doesn't", [probed("evicted"), probed("redirect"), silent(2, "")], AILS, 0),
+    ("one is in another view", [probed("evicted"), probed("redirect"), probed("redirect", 4)], AILS, 0),
+    ("two are in another view", [probed("evicted"), probed("redirect", 4), probed("redirect", 4)], SILENT, 0),
+    ("nobody leads", [probed("redirect"), probed("redirect"), silent(2, "")], SILENT, None),
+    ("one follows, and the others are silent", [silent(0, ""), probed("redirect"), silent(2, "")], UNKNOWN, None),
+]
+
+
+class Judging(unittest.TestCase):
+    def test_rows(self):
+        for has_keepers, rows in ((True, ROWS), (False, PROBED)):
+            for name, members, code, leader in rows:
+                with self.subTest(name):
+                    verdict = judge(members, has_keepers)
+                    self.assertEqual((verdict.code, verdict.leader), (code, leader), verdict.why)
+                    self.assertEqual(verdict.why == [], code == WELL)
+                    told = as_json(5, members, verdict)
+                    self.assertEqual(len(table(told).splitlines()), 2 + len(verdict.why) + len(members))
+                    json.dumps(told)
+
+    def test_how_far_one_is_behind(self):
+        members = [LEADS, known(1, "follows", applied="12"), known(2, "follows", applied="0")]
+        self.assertEqual([member["behind"] for member in as_json(5, members, judge(members, True))["members"]], [0, 28, None])
+
+
+def free_ports(count: int) -> list:
+    held = [socket.create_server(("127.0.0.1", 0)) for _ in range(count)]
+    ports = [f"127.0.0.1:{one.getsockname()[1]}" for one in held]
+    for one in held:
+        one.close()
+    return ports
+
+
+@unittest.skipUnless(program.is_there(), program.MISSING)
+class Real(unittest.TestCase):
+    def status(self, group: Group, *more: str, cluster: int = CLUSTER) -> Tuple[int, dict]:
+        made = subprocess.run([os.path.join(HERE, "status"), str(cluster)] + group.addresses + ["--json", *more], capture_output=True, text=True)
+        return made.returncode, json.loads(made.stdout)
+
+    def until(self, code: int, group: Group, *more: str, what: Callable[[dict], bool] = lambda told: True) -> dict:
+        """Looks until it ends with a code, and tells this."""
+        end = time.monotonic() + 60
+        while True:
+            found, told = self.status(group, *more)
+            if found == code and what(told):
+                return told
+            self.assertLess(time.monotonic(), end, told)
+
+    def test_three_members_by_their_keepers_ports(self):
+        for scheme in ("", "tcp:"):
+            with self.subTest(scheme or "udp"):
+                self.watch(scheme)
+
+    def watch(self, scheme: str) -> None:
+        ports, group = free_ports(3), Group(3, Net(3), scheme, ("--patience", "60"))
+        self.addCleanup(group.end)
+        for member in range(3):
+            group.options = ["--patience", "60", "--health", ports[member]]
+            group.start(member)
+        group.await_leader(120)
+        keepers = ("--keepers", ",".join(ports))
+        told = self.until(WELL, group, *keepers)
+        leader, follower = told["leader"], (told["leader"] + 1) % 3
+        self.assertEqual([member["state"] for member in told["members"]].count("follows"), 2)
+        self.assertEqual(self.until(WELL, group)["leader"], leader)
+        self.assertEqual(self.status(group, "--wait", "0.5", cluster=CLUSTER + 1)[0], UNKNOWN)
+        group.signal(follower, signal.SIGSTOP)
+        self.until(AILS, group, *keepers, what=lambda told: (told["members"][follower]["state"], told["members"][follower]["well"]) == ("hangs", "hangs"))
+        for member in (follower, (follower + 1) % 3):
+            group.signal(member, signal.SIGCONT)
+            group.stop(member)
+        told = self.until(SILENT, group, *keepers)
+        self.assertIn("no process listens at its address", " ".join(told["why"]))
+
+    def test_strangers_at_the_port(self):
+        """Who connects and is silent, reads slowly or sends garbage keeps nobody from an answer, and the answer is the same."""
+        port, group = free_ports(1)[0], Group(2, Net(2), options=("--patience", "60"))
+        self.addCleanup(group.end)
+        group.options += ["--health", port]
+        group.start(0)
+        end, place = time.monotonic() + 60, ("127.0.0.1", int(port.split(":")[1]))
+        while not group.health(0) and time.monotonic() < end:
+            time.sleep(0.05)
+        for number in range(200):
+            one = socket.create_connection(place)
+            self.addCleanup(one.close)
+            if number % 2:
+                one.sendall(b"restart\n" * 100)
+        self.assertTrue(asking.ask_port(port).startswith("member=0 "))
+        self.assertEqual(asking.ask(group.file(0) + ".socket", "health").split(" restarts=")[1].split()[0], "0")
+        self.assertFalse(any("stopped and started" in text for text in group.said(0)))
