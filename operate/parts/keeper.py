@@ -10,9 +10,9 @@ import socket
 import subprocess
 import time
 from collections import Counter
-from typing import Callable, List, NamedTuple, Optional, Tuple
+from typing import Callable, Dict, List, NamedTuple, Optional
 
-from . import datafile, doors, endings, health
+from . import datafile, doors, endings, health, metrics
 from .health import Life
 from .lines import Splitter, parse
 from .log import Thinner, Writer
@@ -31,6 +31,7 @@ MOST_PAUSE = 60.0  # seconds
 MINUTE = 60.0
 BEAT = 0.5  # seconds from one look at whether the member goes on to the next
 FIRST_LOOK = 1.0  # seconds from a start to the first look at the data file
+POST = 10.0  # seconds from one writing of the metrics' file to the next
 UNSURE_LOOK = 5.0  # seconds from look to look while the file can't tell of some slots; else a minute
 KILLED = 5.0  # seconds after which a member that doesn't end is killed
 HELD = 20  # exit code: another keeper, or a member that it left, has the file
@@ -143,6 +144,10 @@ class Keeper:
         self.minute = self.clock() + MINUTE
         self.restarts = self.ends = self.lines = 0
         self.codes: "Counter[int]" = Counter()  # how often the member ended with which code
+        self.counts = metrics.Counts()
+        self.program = ""  # the name of its bytes, once it was started
+        self.poster: Optional[metrics.Poster] = None
+        self.post_at: Optional[float] = None
         self.passing = 0  # starts in a row that ended with 7 before the file was opened
         self.opened = False  # whether this life of the member has opened its file
         self.looker = Looker(words.file)
@@ -154,7 +159,7 @@ class Keeper:
         self.renewal: Optional[Renewal] = None
         self.renewed = self.waiting = False  # whether this life of the member had its slots written anew; whether that waits for room
         self.doors: List[doors.Door] = []
-        self.closed: List[Tuple[str, doors.Answer]] = []  # ports that couldn't be had
+        self.closed: Dict[str, doors.Answer] = {}  # ports that couldn't be had
         self.wanted: Optional[str] = None  # why the member is being ended by its keeper
         self.leaving = False
         self.code: Optional[int] = None  # with what the keeper ends
@@ -215,21 +220,17 @@ class Keeper:
         """A port on which it is asked. One that can't be had holds no member up: it is tried again each minute."""
         try:
             self.add_door(doors.listen_at(address), answer)
+            if self.closed.pop(address, None) is not None:
+                self.say(f"it can be asked at {address} now")
         except OSError as error:
-            if (address, answer) not in self.closed:
-                self.closed.append((address, answer))
+            if address not in self.closed:
                 self.say(f"nobody can ask at {address}: {error.strerror or error}; it is tried again each minute")
-
-    def try_ports(self) -> None:
-        """Those that couldn't be had."""
-        closed, self.closed = self.closed, []
-        for address, answer in closed:
-            self.add_port(address, answer)
+            self.closed[address] = answer
 
     def next_time(self) -> float:
         """Seconds until the clock is to be looked at."""
         times = [self.minute] + [at for door in self.doors for at in door.next_time()]
-        times += [at for at in (self.start_at, self.kill_at, self.look_at, self.beat_at, self.renewal and self.renewal.due) if at is not None]
+        times += [at for at in (self.post_at, self.start_at, self.kill_at, self.look_at, self.beat_at, self.renewal and self.renewal.due) if at is not None]
         return max(0.0, min(times) - self.clock())
 
     def look_at_clock(self) -> None:
@@ -241,21 +242,29 @@ class Keeper:
         if self.kill_at is not None and now >= self.kill_at and self.child is not None:
             self.kill_at = None
             self.child.kill()
-        if self.look_at is not None and now >= self.look_at:
-            self.look_at = None
-            self.looker.ask()
         if self.renewal is not None:
             self.renewal.look_at_clock(now)
         for door in self.doors:
             door.look_at_clock(now)
+        self.look_at_rest(now)
+
+    def look_at_rest(self, now: float) -> None:
+        """What is due now and then: looks at the file and at the process, and what is told."""
+        if self.look_at is not None and now >= self.look_at:
+            self.look_at = None
+            self.looker.ask()
         if now >= self.beat_at:
             self.beat_at = now + BEAT
             if self.pulse is not None:
                 self.pulse.silent(now)
+        if self.post_at is not None and now >= self.post_at:
+            self.post_at = now + POST
+            self.poster.post(self.metrics())
         if now >= self.minute:
             self.minute = now + MINUTE
             self.say_health()
-            self.try_ports()
+            for address, answer in list(self.closed.items()):
+                self.add_port(address, answer)
 
     # The member's life.
 
@@ -275,7 +284,7 @@ class Keeper:
             self.start_later()
             return
         self.since = self.clock()
-        self.pulse = Pulse(self.child.pid, self.since)
+        self.pulse, self.program = Pulse(self.child.pid, self.since), metrics.name_of(self.words.program)
         self.look_at, self.renewed, self.waiting, self.opened = self.since + FIRST_LOOK, False, False, False
         self.policy.begin(self.since)
         self.splitter = Splitter()
@@ -410,6 +419,7 @@ class Keeper:
         if self.thinner.keeps(now, text, line):
             self.writer.put(text)
         reason = self.policy.hear(now, line)
+        self.counts.hear(line, self.policy.seen.view)
         if reason is not None and self.wanted is None and not self.leaving:
             self.restarts += 1
             self.restart(reason)
@@ -476,6 +486,26 @@ class Keeper:
     def tell_health(self, asked: bytes) -> Optional[bytes]:
         """The line of health, to whoever comes to its port, whatever was sent."""
         return (self.health() + "\n").encode()
+
+    def metrics(self) -> bytes:
+        """What Prometheus reads."""
+        return metrics.text(metrics.Told(self.words.cluster, self.policy, self.life(), self.counts, self.codes, self.thinner.left_out, self.program, self.clock()))
+
+    def tell_metrics(self, asked: bytes) -> Optional[bytes]:
+        """To GET /metrics, the metrics."""
+        question = doors.http_asked(asked)
+        if question is None:
+            return None
+        method, path = question
+        if method not in ("GET", "HEAD"):
+            return doors.http_answer("405 Method Not Allowed" if method else "400 Bad Request", b"GET /metrics\n")
+        if path != "/metrics":
+            return doors.http_answer("404 Not Found", b"GET /metrics\n")
+        return doors.http_answer("200 OK", self.metrics(), metrics.KIND, is_head=method == "HEAD")
+
+    def post_metrics(self, path: str) -> None:
+        """Has them written to a file from now on."""
+        self.poster, self.post_at = metrics.Poster(path), self.clock()
 
     def answer(self, question: str) -> str:
         if question == "health":
