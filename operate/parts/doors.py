@@ -152,7 +152,8 @@ def http_asked(asked: bytes) -> Optional[Tuple[str, str]]:
     return (words[0], words[1].split("?", 1)[0]) if len(words) == 3 and words[2].startswith("HTTP/1.") else ("", "")
 
 
-def http_answer(status: str, body: bytes, kind: str = "text/plain; charset=utf-8", is_head: bool = False) -> bytes:
+def http_answer(status: str, body: bytes, kind: str = "text/plain; charset=utf-8", is_head: bool = False, more: str = "") -> bytes:
     """One answer of HTTP, after which the connection is closed."""
-    head = f"HTTP/1.1 {status}\r\nContent-Type: {kind}\r\nContent-Length: {len(body)}\r\nCache-Control: no-store\r\nConnection: close\r\n\r\n"
+    head = (f"HTTP/1.1 {status}\r\nContent-Type: {kind}\r\nContent-Length: {len(body)}\r\nCache-Control: no-store\r\nX-Content-Type-Options: nosniff\r\n"
+            f"{more}Connection: close\r\n\r\n")
     return head.encode() + (b"" if is_head else body)

@@ -111,7 +111,7 @@ def complaints(members: List[Known], leader: Optional[int], has_keepers: bool) -
         if has_keepers and known.line is None:
             found.append(f"member {member}: {known.fault}" + (", though it answers" if known.reply else ""))
         elif known.line is not None and known.line["well"] != "yes":
-            found.append(f"member {member} isn't well: {known.line['well'].replace(',', ', ')}")
+            found.append(f"member {member} isn't well: {known.line['well'].replace(',', ', ').replace('_', ' ')}")
         if known.refused:
             found.append(f"member {member}: no process listens at its address")
         elif known.reply is None and (known.line is None or known.line["well"] == "yes"):

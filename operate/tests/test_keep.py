@@ -17,7 +17,7 @@ MEMBER = os.path.join(HERE, "tests", "member")
 class Kept:
     """A keeper of a member that does what a plan says."""
 
-    def __init__(self, plan: str, *options: str, program: str = MEMBER, alone: bool = False, begins: bool = True) -> None:
+    def __init__(self, plan: str, *options: str, program: str = MEMBER, alone: bool = False, begins: bool = True, replica: int = 0) -> None:
         self.folder = tempfile.TemporaryDirectory(prefix="vr-keep-")
         self.file = os.path.join(self.folder.name, "0")
         with open(self.file + ".plan", "w") as file:
@@ -25,7 +25,7 @@ class Kept:
         with open(self.file, "wb") as data:
             data.write(bytes(512))
         self.words = [os.path.join(HERE, "keep"), "--program", program, "--pause", "0.1", "--log", self.file + ".log"] + list(options)
-        self.words += ["5", "0", self.file, "127.0.0.1:1"] + ([] if alone else ["127.0.0.1:2"])
+        self.words += ["5", str(replica), self.file, "127.0.0.1:1"] + ([] if alone else ["127.0.0.1:2"])
         self.child = self.begin() if begins else None
         self.ended: Optional[Tuple[int, str]] = None
 
@@ -77,9 +77,9 @@ class Kept:
 
 
 class Keeping(unittest.TestCase):
-    def keep(self, plan: str, *options: str, program: str = MEMBER) -> Kept:
+    def keep(self, plan: str, *options: str, program: str = MEMBER, replica: int = 0) -> Kept:
         """A keeper that is ended with the test."""
-        kept = Kept(plan, *options, program=program)
+        kept = Kept(plan, *options, program=program, replica=replica)
         self.addCleanup(kept.end)
         return kept
 
