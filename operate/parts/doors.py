@@ -1,6 +1,6 @@
 """Where a keeper is asked: sockets on which each connection has one answer and is closed, whatever it sends or doesn't.
 
-Nobody who asks is waited for. A connection has SECONDS, of connections at one door there are at most MOST, and where one more comes the oldest goes."""
+Nobody who asks is waited for. A connection has SECONDS; of connections at one door there are at most MOST, and where one more comes the oldest goes."""
 
 import os
 import selectors
@@ -9,7 +9,8 @@ from collections import OrderedDict
 from typing import Callable, List, Optional, Tuple
 
 SECONDS = 2.0  # that a connection has, from its first moment to its last
-MOST = 32  # connections at one door
+MOST = 64  # connections at one door
+AT_ONCE = 8  # that are taken in before others have their turn
 BACKLOG = 256  # who may wait until they are taken in
 LONGEST = 4096  # bytes of a question
 
@@ -35,8 +36,8 @@ class Door:
         selector.register(listener, selectors.EVENT_READ, self.accept)
 
     def accept(self) -> None:
-        """Takes in all who knock, at most MOST at once."""
-        for _ in range(MOST):
+        """Takes in those who knock, a few at once, so that those who were taken in before come to their turn between."""
+        for _ in range(AT_ONCE):
             try:
                 stream, _ = self.listener.accept()
             except OSError:
@@ -46,11 +47,18 @@ class Door:
     def take(self, stream: socket.socket) -> None:
         stream.setblocking(False)
         if len(self.open) >= MOST:
-            self.close(next(iter(self.open.values())))
+            self.give_way(next(iter(self.open.values())))
         one = Connection(stream, self.clock() + SECONDS)
         self.open[stream.fileno()] = one
         self.selector.register(stream, selectors.EVENT_READ, lambda: self.go_on(one))
         self.try_answer(one)
+        self.go_on(one)
+
+    def give_way(self, one: Connection) -> None:
+        """The oldest goes, once what it sent was read."""
+        self.go_on(one)
+        if one.stream.fileno() >= 0:
+            self.close(one)
 
     def go_on(self, one: Connection) -> None:
         """Something came, has gone, or can be sent."""

@@ -3,6 +3,7 @@
 from typing import Dict, List, NamedTuple, Optional
 
 from .datafile import Report
+from .demand import Demand
 from .policy import PATIENCE, Policy
 from .pulse import HANGS
 from .tally import Tally
@@ -22,6 +23,7 @@ class Life(NamedTuple):
     silent: float = 0.0  # seconds in which its process took no turn
     report: Optional[Report] = None  # of the last look at its file
     tally: Optional[Tally] = None  # of its keys and sessions
+    demand: Optional[Demand] = None  # of its clients
 
 
 def unsure(report: Optional[Report]) -> int:
@@ -58,6 +60,12 @@ def told(value: object) -> object:
     return "-" if value is None else value
 
 
+def of_clients(life: Life, now: float) -> Dict[str, object]:
+    """For how many seconds clients have been asking in vain, and since how many seconds nothing was applied."""
+    idle = life.demand.idle(now) if life.demand is not None else None
+    return {"waits": f"{life.demand.waits(now):.1f}" if life.demand is not None else "-", "idle": "-" if idle is None else f"{idle:.1f}"}
+
+
 def of_file(life: Life) -> Dict[str, object]:
     """What its file and its state hold, as far as that is known."""
     report, tally = life.report, life.tally
@@ -92,6 +100,7 @@ def line(policy: Policy, now: float, life: Life) -> str:
         "ends": life.ends,
         "lines": life.lines,
         "dropped": life.dropped,
+        **of_clients(life, now),
         **of_file(life),
     }
     return " ".join(f"{name}={value}" for name, value in words.items())

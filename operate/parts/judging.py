@@ -8,6 +8,7 @@ from .probing import Reply
 from .rolling import Health, number, seconds
 
 WELL, AILS, UNKNOWN, SILENT = 0, 1, 3, 4  # exit codes; 2 is wrong words
+SETTLED = 1.0  # second
 LEADS = ("evicted", "busy")  # what a member that leads answers the probe
 NAMES = {WELL: "well", AILS: "ails", UNKNOWN: "unknown", SILENT: "silent"}
 STANDS = 1.5  # seconds; a group whose leader stands still for longer with something open doesn't answer
@@ -94,7 +95,31 @@ def silence(members: List[Known], leader: Optional[int]) -> Optional[str]:
     if sum(part is not False for part in taking_part) < least:
         return f"member {leader} leads view {view}, and too few take part in it: {sum(part is True for part in taking_part)} of {size}, where it takes {least}"
     stands = seconds(members[leader].line or {}, "stands")
-    return f"member {leader} leads view {view} and has committed nothing for {stands:.1f} s though something is open" if stands > STANDS else None
+    if stands > STANDS:
+        return f"member {leader} leads view {view} and has committed nothing for {stands:.1f} s though something is open"
+    waits = in_vain(members)
+    return f"clients have been asking in vain for {waits:.1f} s" if waits > STANDS else None
+
+
+def in_vain(members: List[Known]) -> float:
+    """For how many seconds clients have been asking, while no member applied anything."""
+    lines = [known.line for known in members if known.line is not None and known.goes_on()]
+    return min([max((seconds(line, "waits") for line in lines), default=0.0)] + [seconds(line, "idle") for line in lines if line.get("idle", "-") != "-"])
+
+
+class Settling:
+    """A view change takes about half a second, in which nobody leads. A group is told not to answer once it hasn't for SETTLED seconds."""
+
+    def __init__(self) -> None:
+        self.since: Optional[float] = None
+
+    def hear(self, now: float, verdict: Verdict) -> Verdict:
+        """What is told of a verdict; its code is AILS for a while where it is SILENT."""
+        if verdict.code != SILENT:
+            self.since = None
+            return verdict
+        self.since = now if self.since is None else self.since
+        return verdict if now - self.since >= SETTLED else verdict._replace(code=AILS)
 
 
 def is_known(members: List[Known], leader: Optional[int]) -> bool:

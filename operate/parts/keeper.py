@@ -13,6 +13,7 @@ from collections import Counter
 from typing import Callable, Dict, List, NamedTuple, Optional
 
 from . import datafile, doors, endings, health, metrics
+from .demand import PROBE, Demand
 from .health import Life
 from .lines import Splitter, parse
 from .log import Thinner, Writer
@@ -29,7 +30,7 @@ F_SETPIPE_SZ = 1031  # Linux
 SHORT = 10.0  # seconds; after a shorter life the pause before the next start is doubled
 MOST_PAUSE = 60.0  # seconds
 MINUTE = 60.0
-BEAT = 0.5  # seconds from one look at whether the member goes on to the next
+BEAT = 0.25  # seconds from one look at whether the member goes on to the next
 FIRST_LOOK = 1.0  # seconds from a start to the first look at the data file
 POST = 10.0  # seconds from one writing of the metrics' file to the next
 UNSURE_LOOK = 5.0  # seconds from look to look while the file can't tell of some slots; else a minute
@@ -144,7 +145,7 @@ class Keeper:
         self.minute = self.clock() + MINUTE
         self.restarts = self.ends = self.lines = 0
         self.codes: "Counter[int]" = Counter()  # how often the member ended with which code
-        self.counts = metrics.Counts()
+        self.counts, self.demand = metrics.Counts(), Demand()
         self.program = ""  # the name of its bytes, once it was started
         self.poster: Optional[metrics.Poster] = None
         self.post_at: Optional[float] = None
@@ -174,7 +175,7 @@ class Keeper:
 
     def life(self) -> Life:
         silent = self.pulse.silent(self.clock()) if self.pulse is not None else 0.0
-        return Life(self.words.replica, self.since, self.restarts, self.ends, self.lines, self.writer.dropped, silent, self.report, self.tally)
+        return Life(self.words.replica, self.since, self.restarts, self.ends, self.lines, self.writer.dropped, silent, self.report, self.tally, self.demand)
 
     def say_health(self) -> None:
         self.say(f"{self.health()} left_out={self.thinner.left_out}")
@@ -412,6 +413,9 @@ class Keeper:
     def hear(self, text: bytes) -> None:
         now, line = self.clock(), parse(text)
         self.lines += 1
+        if line.client == PROBE and line.kind != "applied":
+            return
+        self.demand.hear(now, line)
         if line.kind == "start":
             self.opened = True
         elif line.kind == "applied":

@@ -13,8 +13,8 @@ class Line(NamedTuple):
     op: Optional[int] = None
     commit: Optional[int] = None
     asked: Optional[Tuple[str, ...]] = None  # of a question to the others: what it asks for
-    client: Optional[int] = None  # of an operation that is applied: whose request it is
-    request: Optional[int] = None  # and its number
+    client: Optional[int] = None  # of a reply, and of an operation that is applied: whose request it is
+    request: Optional[int] = None  # of an operation that is applied: the request's number
     what: Tuple[str, ...] = ()  # and what it does: `register`, or `put`, `get`, `del` with the key
 
 
@@ -63,7 +63,7 @@ def read_commit(words: List[str]) -> Line:
 def read_reply(words: List[str]) -> Line:
     """`reply R client C request Q ..`: kind `busy`, `redirect`, `old`, `gap`, `evicted`, or `reply` where it has an outcome."""
     value(words, "request")
-    return Line(words[6] if words[6] in ("busy", "redirect", "old", "gap", "evicted") else "reply")
+    return Line(words[6] if words[6] in ("busy", "redirect", "old", "gap", "evicted") else "reply", client=value(words, "client"))
 
 
 def read_start(words: List[str]) -> Line:

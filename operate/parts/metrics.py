@@ -86,7 +86,8 @@ def metrics(told: Told) -> Iterator[Metric]:
     yield one("head_op", "gauge", "The last operation of the member's log.", max(seen.head, seen.commit))
     yield one("applied_ops_total", "counter", "Operations that the member applied.", told.counts.applied)
     yield by_label("replies_total", "counter", "Replies of the member to clients, by what they say.", "kind", dict(told.counts.replies))
-    yield one("open_seconds", "gauge", "Seconds since the last commit, while something is open at the member; else 0.", round(told.policy.standing(now), 1))
+    waits = life.demand.waits(now) if life.demand is not None else 0.0
+    yield one("open_seconds", "gauge", "Seconds since the last commit, while something is open at the member or clients ask it in vain; else 0.", round(max(told.policy.standing(now), waits), 1))
     yield one("member_asks", "gauge", "Whether the member asks the others for something that it can't go on without.", int(runs and seen.waits_for(now) is not None))
     yield one("member_mends", "gauge", "Whether the member asks the others for something that its disk lost and it has in memory.", int(runs and seen.mends(now) is not None))
     yield one("standstill_restarts_total", "counter", "Restarts of the member by its keeper, because it stood still.", life.restarts)

@@ -1,4 +1,4 @@
-"""The live page of a group: samples it once a second, remembers a quarter of an hour, and serves one page and what it asks for."""
+"""The live page of a group: samples it twice a second, remembers a quarter of an hour, and serves one page and what it asks for."""
 
 import json
 import os
@@ -11,8 +11,8 @@ from typing import Deque, Dict, List, Optional
 from . import doors, judging
 from .surveying import Survey
 
-EACH = 1.0  # seconds from sample to sample
-KEPT = 900  # samples
+EACH = 0.5  # seconds from sample to sample
+KEPT = 1800  # samples
 PAGE = os.path.join(os.path.dirname(os.path.dirname(os.path.realpath(__file__))), "page.html")
 POLICY = "default-src 'none'; style-src 'unsafe-inline'; script-src 'unsafe-inline'; connect-src 'self'; img-src data:"
 
@@ -30,6 +30,7 @@ class Sampler:
         self.survey, self.has_keepers = survey, has_keepers
         self.kept: Deque[Dict] = deque(maxlen=KEPT)
         self.latest: Optional[Dict] = None
+        self.settling = judging.Settling()
         threading.Thread(target=self.work, daemon=True).start()
 
     def work(self) -> None:
@@ -40,7 +41,8 @@ class Sampler:
 
     def sample(self) -> None:
         members = self.survey.look()
-        told = judging.as_json(self.survey.cluster, members, judging.judge(members, self.has_keepers))
+        verdict = self.settling.hear(time.monotonic(), judging.judge(members, self.has_keepers))
+        told = judging.as_json(self.survey.cluster, members, verdict)
         now = time.time()
         self.kept.append(short(told, now))
         self.latest = dict(told, t=round(now, 2))

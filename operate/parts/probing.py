@@ -9,6 +9,7 @@ import time
 from typing import Dict, List, NamedTuple, Optional, Set, Tuple
 
 from . import datafile
+from .demand import PROBE
 from .doors import place_of
 
 HEADER = struct.Struct(">16s16s16s16sQQIIQQIBBBBQ8s")
@@ -50,9 +51,9 @@ class Probe:
     """One asking of all members. `replies` by the number that each gives as its own; `places`: whose number answered at which address, counted from 0;
     `refused`: at which addresses no process listens."""
 
-    def __init__(self, cluster: int, addresses: List[str], client: int) -> None:
+    def __init__(self, cluster: int, addresses: List[str]) -> None:
         self.cluster, self.addresses = cluster, addresses
-        self.requests = [spell(cluster, client, version) for version in VERSIONS]
+        self.requests = [spell(cluster, PROBE, version) for version in VERSIONS]
         self.names = {request[:16]: version for request, version in zip(self.requests, VERSIONS)}
         self.replies: Dict[int, Reply] = {}
         self.places: Dict[int, int] = {}

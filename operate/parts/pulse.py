@@ -2,7 +2,7 @@
 
 from typing import Optional
 
-HANGS = 1.5  # seconds without a turn, after which a member hangs: it was stopped, or waits for a disk
+HANGS = 1.0  # second without a turn, after which a member hangs: it was stopped, or waits for a disk
 
 
 class Pulse:

@@ -1,4 +1,4 @@
-"""Asks all keepers of a group and all its members at the same time."""
+"""Asks all members of a group, and then all their keepers."""
 
 import subprocess
 import threading
@@ -27,19 +27,19 @@ def told_by(command: str, wait: float) -> str:
 
 
 class Survey:
-    """Looks at one group, again and again with the same number of a client, so that its questions say the same in the members' logs."""
+    """Looks at one group."""
 
-    def __init__(self, cluster: int, addresses: List[str], sources: Optional[List[Source]], wait: float, client: int) -> None:
-        self.cluster, self.addresses, self.sources, self.wait, self.client = cluster, addresses, sources, wait, client
+    def __init__(self, cluster: int, addresses: List[str], sources: Optional[List[Source]], wait: float) -> None:
+        self.cluster, self.addresses, self.sources, self.wait = cluster, addresses, sources, wait
 
     def look(self) -> List[Known]:
-        """What is known of each member now."""
+        """What is known of each member now. The keepers are asked last, so that what they tell isn't as old as the longest wait for a member."""
         lines: Dict[int, Tuple[Optional[Health], str]] = {}
+        probe = Probe(self.cluster, self.addresses)
+        probe.ask(self.wait)
         threads = [threading.Thread(target=self.hear, args=(member, one, lines), daemon=True) for member, one in enumerate(self.sources or [])]
         for thread in threads:
             thread.start()
-        probe = Probe(self.cluster, self.addresses, self.client)
-        probe.ask(self.wait)
         for thread in threads:
             thread.join()
         return [self.known(member, lines, probe) for member in range(len(self.addresses))]

@@ -68,8 +68,8 @@ class Passing(Keeping):
         self.assertIn("lslocks", said)
 
     def test_a_port_that_is_taken_is_tried_again_soon(self):
-        kept = self.keep("\n\n".join(["exit 8"] * 7 + ["stand"]))
-        self.assertTrue(kept.until(lambda: kept.starts() == 8, 10))
+        kept = self.keep("\n\n".join(["exit 8"] * 12 + ["stand"]))  # whose pauses are 220 s where each is twice the one before
+        self.assertTrue(kept.until(lambda: kept.starts() == 13, 120))
 
 
 class Logs(Keeping):
@@ -77,6 +77,16 @@ class Logs(Keeping):
         kept = self.keep(f"{START}\nbeat 60 commit 0 op 12 view 0", "--log", "/dev/null/log")
         self.assertTrue(kept.until(lambda: "applied=12" in kept.ask("health")))
         self.assertIn("can't be written: Not a directory", kept.end()[1])
+
+    def test_a_log_of_five_gigabytes_is_put_aside(self):
+        kept = Kept(f"{START}\nbeat 60 commit 0 op 12 view 0", begins=False)
+        self.addCleanup(kept.end)
+        with open(kept.file + ".log", "wb") as file:
+            file.truncate(5_000_000_000)
+        kept.child = kept.begin()
+        self.assertTrue(kept.until(lambda: "applied=12" in kept.ask("health")))
+        kept.child.send_signal(signal.SIGUSR1)
+        self.assertTrue(kept.until(lambda: os.path.exists(kept.file + ".log.1") and os.path.getsize(kept.file + ".log.1") > 5_000_000_000 > 10_000 * os.path.getsize(kept.file + ".log")))
 
     def test_hup_opens_the_log_anew_and_restarts_nobody(self):
         kept = self.keep(f"{START}\nstand")
