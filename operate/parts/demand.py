@@ -30,6 +30,6 @@ class Demand:
         """For how many seconds clients have been asking in vain: one that asked once, and no more, hasn't."""
         return self.last - self.since if self.since is not None and now - self.last <= GONE else 0.0
 
-    def idle(self, now: float) -> Optional[float]:
-        """Seconds since it applied something; None where it never did."""
+    def ago(self, now: float) -> Optional[float]:
+        """How many seconds ago it applied something; None where it never did."""
         return None if self.applied is None else now - self.applied

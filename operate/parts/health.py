@@ -61,9 +61,9 @@ def told(value: object) -> object:
 
 
 def of_clients(life: Life, now: float) -> Dict[str, object]:
-    """For how many seconds clients have been asking in vain, and since how many seconds nothing was applied."""
-    idle = life.demand.idle(now) if life.demand is not None else None
-    return {"waits": f"{life.demand.waits(now):.1f}" if life.demand is not None else "-", "idle": "-" if idle is None else f"{idle:.1f}"}
+    """For how many seconds clients have been asking in vain, and how many seconds ago something was applied."""
+    ago = life.demand.ago(now) if life.demand is not None else None
+    return {"waits": f"{life.demand.waits(now):.1f}" if life.demand is not None else "-", "ago": "-" if ago is None else f"{ago:.1f}"}
 
 
 def of_file(life: Life) -> Dict[str, object]:
@@ -72,7 +72,7 @@ def of_file(life: Life) -> Dict[str, object]:
     value = report.value if report is not None else None
     return {
         "unsure": told(unsure(report) if value else None),
-        "damaged": told(report.damaged() if value else None),
+        "damaged": told(len(report.places.mended) + len(report.places.unsure) if value else None),
         "version": told(value.version if value else None),
         "mode": told(value.mode if value else None),
         "keys": told(tally.keys if tally else None),

@@ -104,7 +104,7 @@ def silence(members: List[Known], leader: Optional[int]) -> Optional[str]:
 def in_vain(members: List[Known]) -> float:
     """For how many seconds clients have been asking, while no member applied anything."""
     lines = [known.line for known in members if known.line is not None and known.goes_on()]
-    return min([max((seconds(line, "waits") for line in lines), default=0.0)] + [seconds(line, "idle") for line in lines if line.get("idle", "-") != "-"])
+    return min([max((seconds(line, "waits") for line in lines), default=0.0)] + [seconds(line, "ago") for line in lines if line.get("ago", "-") != "-"])
 
 
 class Settling:

@@ -20,7 +20,7 @@ def run_unread(words: list) -> tuple:
     """How it ends where nobody reads its output: its code, and what it says."""
     reader, writer = os.pipe()
     os.close(reader)
-    made = subprocess.run(words, stdin=subprocess.DEVNULL, stdout=writer, stderr=subprocess.PIPE, text=True, timeout=60)
+    made = subprocess.run(words, input="get a\n", stdout=writer, stderr=subprocess.PIPE, text=True, timeout=60, env=dict(os.environ, PLAN=os.path.join(tempfile.gettempdir(), "no-plan")))
     os.close(writer)
     return made.returncode, made.stderr
 
@@ -41,8 +41,9 @@ class Scripts(unittest.TestCase):
         with tempfile.NamedTemporaryFile() as file:
             file.write(bytes(10_000))
             file.flush()
+            no_client = ["ask", "--program", os.path.join(HERE, "tests", "member"), "--for", "0.1", "5", "a:1", "a:2"]
             help_codes = {0, UNREAD}  # by whether Python holds back what it writes
-            for words, codes in [(["inspect", file.name], {UNREAD}), (["inspect", file.name, "health"], {UNREAD}), (["inspect", "--help"], help_codes), (["keep", "--help"], help_codes)]:
+            for words, codes in [(["inspect", file.name], {UNREAD}), (["inspect", file.name, "health"], {UNREAD}), (no_client, {UNREAD}), (["inspect", "--help"], help_codes), (["keep", "--help"], help_codes)]:
                 with self.subTest(str(words)):
                     ended, said = run_unread([os.path.join(HERE, words[0])] + words[1:])
                     self.assertIn(ended, codes)
