@@ -23,7 +23,7 @@ class Connection:
     def __init__(self, stream: socket.socket, until: float) -> None:
         self.stream, self.until = stream, until
         self.asked, self.left = b"", b""
-        self.is_answered = False
+        self.is_answered = self.is_sending = False
 
 
 class Door:
@@ -88,18 +88,22 @@ class Door:
             self.send(one)
 
     def send(self, one: Connection) -> None:
-        """Sends what goes now; after the whole answer it waits for the other's end, so that nothing of it is lost."""
+        """Sends what goes now. After the whole answer the connection is closed; where nothing was asked yet, once the other has ended it, so that what
+        the other still sends doesn't take the answer from it."""
         try:
             one.left = one.left[one.stream.send(one.left):]
-            if not one.left:
+            if not one.left and not one.asked:
                 one.stream.shutdown(socket.SHUT_WR)
         except BlockingIOError:
             pass
         except OSError:
             self.close(one)
             return
-        events = selectors.EVENT_WRITE if one.left else selectors.EVENT_READ
-        self.selector.modify(one.stream, events, lambda: self.go_on(one))
+        if not one.left and one.asked:
+            self.close(one)
+        elif bool(one.left) != one.is_sending:
+            one.is_sending = bool(one.left)
+            self.selector.modify(one.stream, selectors.EVENT_WRITE if one.left else selectors.EVENT_READ, lambda: self.go_on(one))
 
     def close(self, one: Connection) -> None:
         self.open.pop(one.stream.fileno(), None)

@@ -1,5 +1,6 @@
 """What a keeper counts, as Prometheus reads it (its text format, version 0.0.4): names, units and help by its conventions."""
 
+import functools
 import hashlib
 import os
 import shutil
@@ -116,13 +117,18 @@ def of_file(told: Told) -> Iterator[Metric]:
     yield one("sessions_limit", "gauge", "Sessions that the group can hold; a further one ends the one that was used longest ago.", tally.most if tally and tally.op is not None else None)
 
 
+@functools.lru_cache(maxsize=None)
+def head_of(name: str, kind: str, text: str) -> str:
+    return f"# HELP nozhgiva_{name} {text}\n# TYPE nozhgiva_{name} {kind}"
+
+
 def text(told: Told) -> bytes:
     """The whole text. A metric without a value isn't there."""
     labels = f'group="{told.group}",member="{told.life.member}"'
     lines = []
     for metric in metrics(told):
         if metric.values:
-            lines += [f"# HELP nozhgiva_{metric.name} {metric.help}", f"# TYPE nozhgiva_{metric.name} {metric.kind}"]
+            lines.append(head_of(metric.name, metric.kind, metric.help))
             lines += [f"nozhgiva_{metric.name}{{{labels}{',' if more else ''}{more}}} {value}" for more, value in metric.values]
     times = os.times()
     lines += ["# HELP process_cpu_seconds_total Processor time that the keeper used, in seconds.", "# TYPE process_cpu_seconds_total counter",

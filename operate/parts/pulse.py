@@ -15,8 +15,8 @@ class Pulse:
     def read(self) -> Optional[int]:
         """How often it gave the processor away or it was taken from it; None where the system doesn't tell."""
         try:
-            with open(f"/proc/{self.process}/status") as file:
-                return sum(int(line.split()[1]) for line in file if "ctxt_switches:" in line)
+            with open(f"/proc/{self.process}/status", "rb", buffering=0) as file:
+                return sum(int(rest.split(None, 1)[0]) for rest in file.read().split(b"ctxt_switches:")[1:])
         except (OSError, ValueError, IndexError):
             return None
 

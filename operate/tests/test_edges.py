@@ -167,7 +167,7 @@ class Unsure(Keeping):
         made = subprocess.run([os.path.join(HERE, "health"), kept.file + ".socket"], capture_output=True, text=True)
         self.assertEqual(made.returncode, 1)
         self.assertTrue(kept.until(lambda: "64 gets were answered" in kept.log(), 40))
-        self.assertFalse(kept.until(lambda: kept.starts() > 2, 3))
+        self.assertFalse(kept.until(lambda: kept.starts() > 2, 2))
 
     def test_no_session_is_ended_for_it(self):
         registers = "\n".join(f"say commit 0 op {op} view 0 client {op} request 0 register" for op in range(1, 32))
