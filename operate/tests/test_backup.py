@@ -9,6 +9,7 @@ import subprocess
 import tempfile
 import time
 import unittest
+import unittest.mock
 from typing import Dict, Iterable, List, Tuple
 
 from parts import backups, program
@@ -178,6 +179,17 @@ class Groups(Folder):
         client.kill()
         client.wait()
         client.stdout.close()
+        self.read_half_done(group.files[0])
+
+    def read_half_done(self, file: str) -> None:
+        """What can't be read is looked at again while the file changes, and said where it doesn't."""
+        with open(file, "rb") as whole_file:
+            whole = whole_file.read()
+        half = bytes(40960) + whole[40960:]
+        with unittest.mock.patch("parts.datafile.read_sectors", side_effect=[(half, 0), (half, 0), (whole, 0)]):
+            self.assertEqual(backups.read_file(file)[0].version, 2)
+        with unittest.mock.patch("parts.datafile.read_sectors", return_value=(half, 0)):
+            self.assertRaises(backups.Unreadable, backups.read_file, file)
 
     def test_a_value_that_the_new_group_does_not_take(self):
         old, new = self.members(5, 1, "--v2"), self.members(6, 2)
