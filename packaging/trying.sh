@@ -114,7 +114,7 @@ try_base() {
     mkdir "$root"
     tar -x -C "$root" -f "$base" --exclude='./dev/*' || fail "tar: $base"
     cp "$made" "$root/tmp/"
-    inside() { unshare --mount --pid --net --fork --kill-child --root="$root" --mount-proc "$@"; }
+    inside() { env -u PROGRAM unshare --mount --pid --net --fork --kill-child --root="$root" --mount-proc "$@"; }
     mknod -m 666 "$root/dev/null" c 1 3 && mknod -m 666 "$root/dev/urandom" c 1 9 || { leave_out "the package in a base system: no devices can be made"; return 0; }
     expect 0 inside dpkg -i "/tmp/$(basename "$made")"
     [ "$(inside stat -c '%U %a' /var/lib/nozhgiva)" = 'nozhgiva 700' ] || fail "the folder's owner"
