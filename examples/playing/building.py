@@ -31,7 +31,7 @@ def module_path() -> Path:
     """The module of the program, as clang was handed it."""
     path = Path(os.environ.get("PLAY_MODULE") or TOP / "out" / "nozhgiva.bc")
     if not path.is_file():
-        raise Missing(f"no module at {path}: `./nozhgiva build --module out/nozhgiva.bc` makes it, or PLAY_MODULE names one")
+        raise Missing(f"no module at {path}: `./nozhgiva build` makes it, or PLAY_MODULE names one")
     return path
 
 
