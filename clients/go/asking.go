@@ -52,11 +52,7 @@ type search struct {
 // ask asks until there is a reply that settles the request: an outcome, old, gap or evicted; or an [UnknownError], once the context or the link has
 // ended.
 func (a *asker) ask(ctx context.Context, r request) (reply, error) {
-	s := &search{asker: a, request: r, data: r.encode(), probe: a.probe(r), seen: make([]Seen, len(a.addresses))}
-	copy(s.name[:], s.data)
-	for place, address := range a.addresses {
-		s.seen[place].Address, s.seen[place].Place = address, place
-	}
+	s := a.newSearch(r)
 	for length := a.retry.First; ; {
 		share := 1 - a.retry.Jitter*a.draw.Float64()
 		if answer, over := s.pause(ctx, time.Duration(float64(length)*share)); over != nil {
@@ -64,11 +60,20 @@ func (a *asker) ask(ctx context.Context, r request) (reply, error) {
 		} else if answer != nil {
 			return *answer, nil
 		}
-		a.first = (a.first + 1) % len(a.addresses)
 		if length = time.Duration(float64(length) * a.retry.Factor); length > a.retry.Most {
 			length = a.retry.Most
 		}
 	}
+}
+
+// newSearch gives a search that has asked nobody yet.
+func (a *asker) newSearch(r request) *search {
+	s := &search{asker: a, request: r, data: r.encode(), probe: a.probe(r), seen: make([]Seen, len(a.addresses))}
+	copy(s.name[:], s.data)
+	for place, address := range a.addresses {
+		s.seen[place].Address, s.seen[place].Place = address, place
+	}
+	return s
 }
 
 // probe gives a request of the other version, by a client that has no session: a member of that version answers it by evicted or redirect.
@@ -81,8 +86,7 @@ func (a *asker) probe(r request) []byte {
 func (s *search) pause(ctx context.Context, length time.Duration) (*reply, error) {
 	timer := time.NewTimer(length)
 	defer timer.Stop()
-	s.asked = make([]bool, len(s.addresses))
-	s.send(s.first)
+	s.begin()
 	for {
 		select {
 		case <-ctx.Done():
@@ -93,14 +97,19 @@ func (s *search) pause(ctx context.Context, length time.Duration) (*reply, error
 			return nil, nil
 		case came := <-s.link.arrivals:
 			if answer := s.hear(came); answer != nil {
-				s.first = came.place
-				if answer.kind == replyOutcome {
-					s.view = answer.view
-				}
 				return answer, nil
 			}
 		}
 	}
+}
+
+// begin asks the place with which a pause begins: the one that answered last, and in each later pause the next one.
+func (s *search) begin() {
+	if s.asked != nil {
+		s.first = (s.first + 1) % len(s.addresses)
+	}
+	s.asked = make([]bool, len(s.addresses))
+	s.send(s.first)
 }
 
 // send asks a place that wasn't asked in this pause.
@@ -143,6 +152,10 @@ func (s *search) hear(came arrival) *reply {
 		s.send(leader)
 	case answer.kind != replyOutcome && answer.view < s.view:
 	default:
+		s.first = came.place
+		if answer.kind == replyOutcome {
+			s.view = answer.view
+		}
 		return &answer
 	}
 	return nil

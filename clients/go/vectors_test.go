@@ -4,7 +4,9 @@ import (
 	"bytes"
 	"encoding/hex"
 	"fmt"
+	"math/rand"
 	"os"
+	"sort"
 	"strconv"
 	"strings"
 	"testing"
@@ -154,5 +156,103 @@ func TestWhatAMessageSays(t *testing.T) {
 		if word != row[0] {
 			t.Errorf("%s (%s) is taken as %s", row[0], row[1], word)
 		}
+	}
+}
+
+// A play is one row of scenarios.txt on its way.
+type play struct {
+	*testing.T
+	asker
+	search *search
+	number uint32
+	sent   []int
+	answer *reply
+}
+
+// A stage is a place in a play; probes in the other version don't count.
+type stage struct {
+	place int
+	*play
+}
+
+func (s stage) send(data []byte) {
+	if bytes.Equal(data, s.search.data) {
+		s.sent = append(s.sent, s.place)
+	}
+}
+
+func newPlay(t *testing.T) *play {
+	p := &play{T: t, asker: asker{link: &link{}, addresses: make([]string, 3), draw: rand.New(rand.NewSource(1))}}
+	for place := range p.addresses {
+		p.link.places = append(p.link.places, stage{place, p})
+	}
+	return p
+}
+
+// ask begins the next request.
+func (p *play) ask() {
+	p.number++
+	p.search = p.newSearch(request{cluster, 7, p.number, Operation{OperationPut, "color", "green"}, 1})
+	p.sent, p.answer = nil, nil
+	p.search.begin()
+}
+
+// come plays `PLACE KIND VIEW` or `PLACE KIND VIEW as R`.
+func (p *play) come(words []string) {
+	place, view := int(number(p.T, words[0], 8)), uint32(number(p.T, words[2], 32))
+	kind := map[string]replyKind{"ok": replyOutcome, "old": replyOld, "gap": replyGap, "evicted": replyEvicted, "busy": replyBusy, "redirect": replyRedirect}[words[1]]
+	said := answer(p.search.request, place, kind, view, Outcome{Kind: OutcomeOK})
+	if len(words) > 3 {
+		said.replica = byte(number(p.T, words[4], 8))
+	}
+	p.answer = p.search.hear(arrival{place: place, data: said.encode()})
+}
+
+// sends compares the places that were asked with those that have to be, and with those that may be, in parentheses.
+func (p *play) sends(places []string) {
+	var wanted []int
+	for _, text := range places {
+		place := int(number(p.T, strings.Trim(text, "()"), 8))
+		may := strings.HasPrefix(text, "(")
+		if !may || strings.Contains(fmt.Sprint(p.sent), fmt.Sprint(place)) {
+			wanted = append(wanted, place)
+		}
+	}
+	sort.Ints(wanted)
+	sort.Ints(p.sent)
+	if fmt.Sprint(wanted) != fmt.Sprint(p.sent) {
+		p.Errorf("sent to %v, not to %v", p.sent, places)
+	}
+	p.sent = nil
+}
+
+func (p *play) step(words []string) {
+	switch words[0] {
+	case "ask":
+		p.ask()
+	case "pause":
+		if p.answer != nil {
+			p.Errorf("a pause ends, and there is %v", p.answer)
+		}
+		p.search.begin()
+	case "sends":
+		p.sends(words[1:])
+	case "ends", "lost":
+		if p.answer == nil || (p.answer.kind == replyOutcome) != (words[0] == "ends") {
+			p.Errorf("%s, and there is %v", words[0], p.answer)
+		}
+	default:
+		p.come(words)
+	}
+}
+
+func TestScenarios(t *testing.T) {
+	for _, row := range rows(t, "scenarios.txt", 2) {
+		t.Run(row[0], func(t *testing.T) {
+			p := newPlay(t)
+			for _, step := range strings.Split(row[1], "; ") {
+				p.step(strings.Split(step, " "))
+			}
+		})
 	}
 }

@@ -1,10 +1,11 @@
 """Where a request is sent, how often, and what counts as its answer: over a link and a clock in memory."""
 
 import unittest
+from pathlib import Path
 
 from fakes import OK, MemoryLink, reply_to
 from nozhgiva import Put, Retry
-from nozhgiva.asking import Asker, Course
+from nozhgiva.asking import Asker, Course, Search
 from nozhgiva.messages import Outcome, OutcomeKind, Register, Reply, ReplyKind, Request
 from nozhgiva.sights import meaning
 
@@ -122,6 +123,68 @@ class Asking(unittest.TestCase):
         reply, link = ask(lambda member, request: [(0.01, reply_to(request, 1, ReplyKind.BUSY))] if member == 1 else [], deadline=6.0)
         self.assertIsNone(reply)
         self.assertEqual(sorted(member for _, member in link.probes), [0, 2])
+
+
+class Play:
+    """One row of clients/vectors/scenarios.txt; `step` raises `AssertionError` where this client does otherwise."""
+
+    def __init__(self):
+        self.course = course_of(3)
+        self.number = 0
+        self.sent = []
+        self.reply = None
+
+    def step(self, word, *rest):
+        known = {"ask": self.ask, "pause": self.pause, "sends": self.sends, "ends": self.ends, "lost": self.lost}
+        if word.isdigit():
+            self.come(int(word), *rest)
+        else:
+            known[word](*rest)
+
+    def ask(self):
+        self.number += 1
+        self.request, self.sent, self.reply = Request(5, 7, self.number, Put("a", "b")), [], None
+        self.search = Search(self.request, self.course, STEADY)
+        self.pause()
+
+    def pause(self):
+        assert self.reply is None, self.reply
+        self._note(self.search.next_round())
+
+    def _note(self, sends):
+        self.sent += [send.place for send in sends if send.data == self.request.encode()]
+
+    def come(self, place, kind, view, _="as", replica=None):
+        kind = ReplyKind.OUTCOME if kind == "ok" else ReplyKind[kind.upper()]
+        came = self.search.take(place, reply_to(self.request, int(replica or place), kind, view=int(view)).encode())
+        if isinstance(came, Reply):
+            self.reply = came
+        else:
+            self._note(came)
+
+    def sends(self, *places):
+        musts, mays = ([int(place.strip("()")) for place in places if place.startswith("(") == is_choice] for is_choice in (False, True))
+        chosen = [place for place in mays if place in self.sent]
+        assert sorted(self.sent) == sorted(musts + chosen), f"sent to {self.sent}, not to {places}"
+        self.sent = []
+
+    def ends(self):
+        assert self.reply is not None and self.reply.outcome is not None, self.reply
+
+    def lost(self):
+        assert self.reply is not None and self.reply.outcome is None, self.reply
+
+
+class Scenarios(unittest.TestCase):
+    def test_each_is_played(self):
+        lines = (Path(__file__).resolve().parents[2] / "vectors/scenarios.txt").read_text(encoding="ascii").splitlines()
+        rows = [line.split("\t") for line in lines if not line.startswith("#")]
+        self.assertGreaterEqual(len(rows), 10)
+        for shown, steps in rows:
+            play = Play()
+            for step in steps.split("; "):
+                with self.subTest(shown, step=step):
+                    play.step(*step.split(" "))
 
 
 class Seeing(unittest.TestCase):
