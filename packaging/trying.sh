@@ -69,7 +69,7 @@ try_unit() {
     mkdir -p "$work/lib" "$work/log"
     # Words by a shell: its $ADDRS is split as that of systemd is.
     command=$(sed -n 's/^ExecStart=//p' "$work/nozhgiva@.service" | sed "s#/var/lib/nozhgiva#$work/lib#; s#/var/log/nozhgiva#$work/log#; s#%i#0#g")
-    local CLUSTER=5 ADDRS=$addresses
+    local CLUSTER=5 ADDRS=$addresses OPTIONS=
     expect 9 eval "$command"
     grep -q "there is no file $work/lib/0" "$work/said" || fail "where the file isn't there: $(cat "$work/said")"
     passed "a start without a member's file: ends with 9, and makes none"
@@ -118,14 +118,14 @@ try_base() {
     mknod -m 666 "$root/dev/null" c 1 3 && mknod -m 666 "$root/dev/urandom" c 1 9 || { leave_out "the package in a base system: no devices can be made"; return 0; }
     expect 0 inside dpkg -i "/tmp/$(basename "$made")"
     [ "$(inside stat -c '%U %a' /var/lib/nozhgiva)" = 'nozhgiva 700' ] || fail "the folder's owner"
-    inside sh -c 'PATH=/usr/sbin:/usr/bin:/sbin:/bin; set -e; as() { setpriv --reuid nozhgiva --regid nozhgiva --clear-groups "$@"; }; cd /
-        awk "/^lo/" /proc/net/dev > /dev/null
+    inside sh -c 'PATH=/usr/sbin:/usr/bin:/sbin:/bin; set -e; cd /
         python3 -c "import socket, fcntl, struct; s = socket.socket(); fcntl.ioctl(s, 0x8914, struct.pack(\"16sh14x\", b\"lo\", 0x41))"
-        as nozhgiva make-member 5 0 /var/lib/nozhgiva/0 127.0.0.1:4000 --v2
-        as /usr/lib/nozhgiva/operate/keep --program /usr/lib/nozhgiva/program 5 0 /var/lib/nozhgiva/0 127.0.0.1:4000 &
+        setpriv --reuid nozhgiva --regid nozhgiva --clear-groups nozhgiva make-member 5 0 /var/lib/nozhgiva/0 127.0.0.1:4000 --v2
+        setpriv --reuid nozhgiva --regid nozhgiva --clear-groups /usr/lib/nozhgiva/operate/keep --program /usr/lib/nozhgiva/program 5 0 /var/lib/nozhgiva/0 127.0.0.1:4000 &
+        keeper=$!
         n=0; until nozhgiva health /var/lib/nozhgiva/0.socket; do n=$((n + 1)); [ $n -lt 100 ]; sleep 0.2; done
         printf "put color green\nget color\n" | nozhgiva ask 5 127.0.0.1:4000 --v2
-        kill %1; wait %1' > "$work/said" 2>&1 < /dev/null || fail "a member in the base system: $(cat "$work/said")"
+        kill $keeper; wait $keeper' > "$work/said" 2>&1 < /dev/null || fail "a member in the base system: $(cat "$work/said")"
     grep -q 'value green' "$work/said" || fail "a member in the base system: $(cat "$work/said")"
     expect 0 inside dpkg -i "/tmp/$(basename "$made")"
     expect 0 inside dpkg --purge nozhgiva
