@@ -63,13 +63,14 @@ class Known(NamedTuple):
 
 
 class Verdict(NamedTuple):
-    """What is to be said of a group. `why`: a sentence for each thing that isn't well or isn't known."""
+    """What is to be said of a group. `why`: a sentence for each thing that isn't well or isn't known. `may_change`: whether its view may just be changing."""
 
     code: int
     leader: Optional[int]
     view: Optional[int]
     commit: int
     why: List[str]
+    may_change: bool = False
 
 
 def leader_of(members: List[Known]) -> Optional[int]:
@@ -83,8 +84,8 @@ def commit_of(members: List[Known]) -> int:
     return max([0] + [max(number(known.line, "commit"), number(known.line, "applied")) for known in members])
 
 
-def silence(members: List[Known], leader: Optional[int]) -> Optional[str]:
-    """Why the group doesn't answer; None where it does, or where nobody can tell."""
+def absence(members: List[Known], leader: Optional[int]) -> Optional[str]:
+    """Why nobody can answer, as also in the midst of a view change; None where somebody may."""
     size = len(members)
     least = REPLICATION[size]
     dark = sum(known.is_dark() for known in members)
@@ -94,7 +95,14 @@ def silence(members: List[Known], leader: Optional[int]) -> Optional[str]:
     taking_part = [known.is_in(view) for known in members]
     if sum(part is not False for part in taking_part) < least:
         return f"member {leader} leads view {view}, and too few take part in it: {sum(part is True for part in taking_part)} of {size}, where it takes {least}"
-    stands = seconds(members[leader].line or {}, "stands")
+    return None
+
+
+def standstill(members: List[Known], leader: Optional[int]) -> Optional[str]:
+    """Why the group doesn't answer although it could; None where it does."""
+    if leader is None:
+        return None
+    view, stands = members[leader].view(), seconds(members[leader].line or {}, "stands")
     if stands > STANDS:
         return f"member {leader} leads view {view} and has committed nothing for {stands:.1f} s though something is open"
     waits = in_vain(members)
@@ -115,7 +123,7 @@ class Settling:
 
     def hear(self, now: float, verdict: Verdict) -> Verdict:
         """What is told of a verdict; its code is AILS for a while where it is SILENT."""
-        if verdict.code != SILENT:
+        if verdict.code != SILENT or not verdict.may_change:
             self.since = None
             return verdict
         self.since = now if self.since is None else self.since
@@ -156,10 +164,11 @@ def judge(members: List[Known], has_keepers: bool) -> Verdict:
     """What follows for the group."""
     leader = leader_of(members)
     why = complaints(members, leader, has_keepers)
-    silent = silence(members, leader)
+    absent = absence(members, leader)
+    silent = absent or standstill(members, leader)
     view = members[leader].view() if leader is not None else max((known.view() for known in members if known.view() is not None), default=None)
     if silent is not None:
-        return Verdict(SILENT, leader, view, commit_of(members), [f"the group doesn't answer: {silent}"] + why)
+        return Verdict(SILENT, leader, view, commit_of(members), [f"the group doesn't answer: {silent}"] + why, may_change=absent is not None)
     if not is_known(members, leader):
         return Verdict(UNKNOWN, leader, view, commit_of(members), ["too little is known to tell whether the group answers"] + why)
     return Verdict(AILS if why else WELL, leader, view, commit_of(members), why)

@@ -85,8 +85,9 @@ class Telling(unittest.TestCase):
     def test_a_view_change_is_no_silence(self):
         settling, told = Settling(), []
         for now, code in [(0.0, WELL), (0.5, SILENT), (1.0, SILENT), (1.5, WELL), (2.0, SILENT), (2.9, SILENT), (3.0, SILENT), (9.0, SILENT), (9.5, AILS)]:
-            told.append(settling.hear(now, Verdict(code, None, None, 0, [])).code)
+            told.append(settling.hear(now, Verdict(code, None, None, 0, [], may_change=True)).code)
         self.assertEqual(told, [WELL, AILS, AILS, WELL, AILS, AILS, SILENT, SILENT, AILS])
+        self.assertEqual(Settling().hear(0.0, Verdict(SILENT, 0, 3, 9, [])).code, SILENT)
 
     def test_addresses_and_questions(self):
         for text, place in [("127.0.0.1:80", ("127.0.0.1", 80)), ("[::1]:80", ("::1", 80)), ("host:65535", ("host", 65535))]:

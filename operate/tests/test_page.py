@@ -39,8 +39,7 @@ class Page(Keeping):
         self.assertEqual(child.stdout.readline(), f"http://{port}/\n")
         return port
 
-    def test_what_is_served(self):
-        port = self.serve()
+    def check_served(self, port: str) -> None:
         with urllib.request.urlopen(f"http://{port}/", timeout=30) as answer:
             self.assertIn("default-src 'none'", answer.headers["Content-Security-Policy"])
             self.assertNotRegex(answer.read().decode(), r"(src|href)=\"(?!data:)")
@@ -50,6 +49,7 @@ class Page(Keeping):
     @unittest.skipUnless(find_browser(), "no Chromium")
     def test_what_it_shows(self):
         port = self.serve()
+        self.check_served(port)
         browser = Browser()
         self.addCleanup(browser.close)
         browser.size(1600, 1000)

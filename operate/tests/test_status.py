@@ -118,12 +118,7 @@ class Real(unittest.TestCase):
             self.assertLess(time.monotonic(), end, told)
 
     def test_three_members_by_their_keepers_ports(self):
-        for scheme in ("", "tcp:"):
-            with self.subTest(scheme or "udp"):
-                self.watch(scheme)
-
-    def watch(self, scheme: str) -> None:
-        ports, group = free_ports(3), Group(3, Net(3), scheme, ("--patience", "60"))
+        ports, group = free_ports(3), Group(3, Net(3), options=("--patience", "60"))
         self.addCleanup(group.end)
         for member in range(3):
             group.options = ["--patience", "60", "--health", ports[member]]
@@ -145,7 +140,7 @@ class Real(unittest.TestCase):
 
     def test_strangers_at_the_port(self):
         """Who connects and is silent, reads slowly or sends garbage keeps nobody from an answer, and the answer is the same."""
-        port, group = free_ports(1)[0], Group(2, Net(2), options=("--patience", "60"))
+        port, group = free_ports(1)[0], Group(2, Net(2), "tcp:", ("--patience", "60"))
         self.addCleanup(group.end)
         group.options += ["--health", port]
         group.start(0)
@@ -160,3 +155,6 @@ class Real(unittest.TestCase):
         self.assertTrue(asking.ask_port(port).startswith("member=0 "))
         self.assertEqual(asking.ask(group.file(0) + ".socket", "health").split(" restarts=")[1].split()[0], "0")
         self.assertFalse(any("stopped and started" in text for text in group.said(0)))
+        self.assertEqual(self.until(SILENT, group)["members"][1]["state"], "down")
+        group.start(1)
+        self.assertEqual(self.until(WELL, group)["members"][0]["fault"], None)
