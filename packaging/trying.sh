@@ -69,6 +69,7 @@ try_unit() {
     mkdir -p "$work/lib" "$work/log"
     # Words by a shell: its $ADDRS is split as that of systemd is.
     command=$(sed -n 's/^ExecStart=//p' "$work/nozhgiva@.service" | sed "s#/var/lib/nozhgiva#$work/lib#; s#/var/log/nozhgiva#$work/log#; s#%i#0#g")
+    # shellcheck disable=SC2034 # the words of the unit name it
     local CLUSTER=5 ADDRS=$addresses OPTIONS=
     expect 9 eval "$command"
     grep -q "there is no file $work/lib/0" "$work/said" || fail "where the file isn't there: $(cat "$work/said")"
