@@ -1,5 +1,8 @@
 # shellcheck shell=bash disable=SC2015,SC2016,SC2317
-# What packaging/check tries. It is sourced at the top of the repository.
+# What packaging/check tries. It is sourced at the top of the repository, with `whole` set or empty.
+# In memory, where there is room: what is tried here is no disk. A base system takes more.
+room=$(df -k --output=avail /dev/shm 2> /dev/null | tail -n 1)
+[ -n "${TMPDIR-}$whole" ] || [ "${room:-0}" -lt 500000 ] || export TMPDIR=/dev/shm
 work=$(mktemp -d) left_out=0 keeper=
 port=$((30000 + $$ * 7 % 9000))
 addresses="127.0.0.1:$port"
@@ -140,14 +143,16 @@ clean_image() { :; }
 try_image() {
     [ -n "$made" ] && find_base "the image" || return 0
     for tool in podman runc docker-compose; do has $tool || { leave_out "the image: no $tool"; return 0; }; done
-    local project=nozhgivatrial$$ image=localhost/nozhgiva-trial-$$
+    project=nozhgivatrial$$ image=localhost/nozhgiva-trial-$$ service=
     printf '[containers]\ndefault_ulimits = ["nofile=1024:1024", "nproc=1000:1000"]\n[engine]\ncgroup_manager = "cgroupfs"\nruntime = "runc"\n' > "$work/containers.conf"
     export CONTAINERS_CONF=$work/containers.conf DOCKER_HOST=unix://$work/podman.sock
     clean_image() {
-        docker-compose -p "$project" -f "$work/compose.yaml" down -v
+        if [ -n "$service" ]; then
+            docker-compose -p "$project" -f "$work/compose.yaml" down -v
+            kill "$service"
+        fi
         podman network rm -f "$project"
         podman rmi -f "$image" "$image-base"
-        kill "$service"
     } > /dev/null 2>&1
     podman import -q "$base" "$image-base" > "$work/said" 2>&1 || { leave_out "the image: podman import: $(tail -n 1 "$work/said")"; return 0; }
     mkdir -p "$work/context/out" && cp "$made" "$work/context/out/"

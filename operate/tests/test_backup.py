@@ -10,7 +10,7 @@ import tempfile
 import time
 import unittest
 import unittest.mock
-from typing import Dict, Iterable, List, Tuple
+from typing import IO, Dict, Iterable, List, Set, Tuple
 
 from parts import backups, program
 from parts.datafile import Header
@@ -63,20 +63,22 @@ class Members:
     def words(self) -> List[str]:
         return [str(self.cluster), *self.addresses, *self.more]
 
-    def begin(self, lines: List[str]) -> "subprocess.Popen[str]":
-        """A client, the first of its group, that asks these lines."""
+    def begin(self, lines: List[str]) -> Tuple["subprocess.Popen[str]", IO[str]]:
+        """A client, the first of its group, that asks these lines, and the file of its answers."""
+        answers = tempfile.TemporaryFile("w+")
         with tempfile.TemporaryFile("w+") as given:
             given.write("".join(f"{line}\n" for line in lines))
             given.seek(0)
-            return subprocess.Popen([program.PATH, "client", str(self.cluster), "7", "1000000", *self.addresses, *self.more], stdin=given, stdout=subprocess.PIPE, text=True)
+            client = subprocess.Popen([program.PATH, "client", str(self.cluster), "7", "1000000", *self.addresses, *self.more], stdin=given, stdout=answers, text=True)
+        return client, answers
 
     def ask(self, lines: List[str]) -> List[str]:
-        client = self.begin(lines)
-        answers = client.stdout.read().splitlines()
-        client.stdout.close()
-        if client.wait():
-            raise AssertionError(f"the client ended with {client.returncode} after {len(answers)} answers")
-        return answers[1:]
+        client, file = self.begin(lines)
+        with file:
+            if client.wait():
+                raise AssertionError(f"the client ended with {client.returncode}")
+            file.seek(0)
+            return file.read().splitlines()[1:]
 
     def end(self) -> None:
         for child in self.children:
@@ -167,18 +169,19 @@ class Groups(Folder):
     def test_a_file_that_is_written_to_meanwhile(self):
         lines = [f"put k{i % 128} {'v' * (i % 700)}{i}" for i in range(60000)]
         group = self.members(5, 1, "--v2")
-        client = group.begin(lines)
-        seen = set()
+        client, answers = group.begin(lines)
+        seen: Set[int] = set()
         while client.poll() is None and len(seen) < 5:
             code, text, said = run("backup", group.files[0])
             self.assertEqual(code, 0, said)
             op = int(text.splitlines()[3].split(" ")[1])
             self.assertEqual(keys_of(text), after(lines[:max(0, op - 1)]), f"at operation {op}")
             seen.add(op)
-        self.assertIsNone(client.poll(), "the client was too fast to be looked at")
+        is_over = client.poll() is not None
         client.kill()
         client.wait()
-        client.stdout.close()
+        answers.close()
+        self.assertFalse(is_over, "the client was too fast to be looked at")
         self.read_half_done(group.files[0])
 
     def read_half_done(self, file: str) -> None:
