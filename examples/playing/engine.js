@@ -2,9 +2,11 @@
 // (Asyncify), it waits there for the next line; else a run reads all its lines and ends. Nothing here touches the page.
 "use strict";
 
-// What the program calls of the system, of which `replay` and `soak` need five. The others are refused; these of them answer 64 bits.
+// What the program calls of the system, of which `replay` and `soak` need seven. The others are refused; these of them answer 64 bits.
 const LONG_ANSWERS = new Set(["readlink", "pwrite", "pread", "sendto", "send", "recvfrom", "recv", "rattle_lookup_host", "rattle_epoll_wait", "rattle_env", "rattle_env_at"]);
 const KEPT_STACK = 1 << 16;
+// At its start the program looks whether a standard stream is missing, by the number of a descriptor that it opens: 0 to 2 aren't free here.
+const FIRST_FREE = 3;
 const ENDINGS = { 0: "", 2: "usage", 3: "refused", 5: "read fault", 6: "write fault", 11: "no memory" };
 
 const spell = (text) => new TextEncoder().encode(text);
@@ -32,6 +34,8 @@ class Program {
             write: (file, from, count) => this.write(file, from, count),
             readlink: () => -1n,
             __sysv_signal: () => 0n,
+            epoll_create1: () => FIRST_FREE,
+            close: () => 0,
         };
         const imports = {};
         for (const { name, kind } of WebAssembly.Module.imports(module)) {
