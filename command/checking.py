@@ -132,7 +132,7 @@ class Run:
     def ask(self, check: Check) -> Tuple[Optional[int], str]:
         """Runs its command once: its status and what it said. None where it took too long, and all that it started is ended then."""
         with open(os.path.join(self.folder, f"{check.name}.said"), "w+", encoding="utf-8", errors="replace") as said:
-            child = subprocess.Popen(check.command, cwd=self.top, env=self.env, stdin=subprocess.DEVNULL, stdout=said, stderr=said, start_new_session=True)
+            child = subprocess.Popen(check.command, cwd=self.top, env=self.env, stdin=subprocess.DEVNULL, stdout=said, stderr=said, start_new_session=True, preexec_fn=heed_signals)
             try:
                 status: Optional[int] = child.wait(max(1.0, min(self.left(), LEAST + TIMES * check.seconds)))
             except subprocess.TimeoutExpired:
@@ -141,6 +141,12 @@ class Run:
                 end_all(child)
             said.seek(0)
             return status, said.read()
+
+
+def heed_signals() -> None:
+    """What was started in the background, or by nohup, ignores some signals, and so would all that it starts; checks send them."""
+    for number in (signal.SIGINT, signal.SIGQUIT, signal.SIGHUP):
+        signal.signal(number, signal.SIG_DFL)
 
 
 def end_all(child: "subprocess.Popen[bytes]") -> None:
