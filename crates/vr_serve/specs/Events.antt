@@ -90,4 +90,4 @@ AreTurns version cluster turns = AreBrought version cluster (arrivals turns) (le
 
 -- what a turn that was cut off began with: nothing comes of a receive that failed, or for whose message memory was short
 abbrev pub Begins : ℕ → ℕ → Arrival → Option Letter → Type 0
-Begins version cluster arrival letter = Brings version cluster arrival letter ⊎ (((arrival ≡ Failed) ⊎ IsMessage version arrival) × (letter ≡ None))
+Begins version cluster arrival letter = Brings version cluster arrival letter ⊎ (((arrival ≡ Failed) ⊎ IsMessage version cluster arrival) × (letter ≡ None))
