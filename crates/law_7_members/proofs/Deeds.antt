@@ -108,7 +108,7 @@ has_begun first node disk t mid sent done (c ∷ cs) m end a p b = elim b.1 [
 
 has_cut : (turns : ℕ) (first : List Output) (node : Node) (o o' : Outside) (why : Stop) → IsCut turns first node o o' why → Has first node o.disk o.taken o'.taken o'.disk
 has_cut turns first node o o' why (inl h) = has_none first node o.disk o.taken o'.taken o'.disk h.disk (puts_front (text_from 0 first) _ o.taken o'.taken o.sent o'.sent h.front)
-has_cut turns first node o o' why (inr h) = has_begun first node o.disk o.taken h.taken h.sent h.cut.done h.cut.begun h.cut.mid (end_in why o') h.puts.taken h.cut.passed h.cut.front
+has_cut turns first node o o' why (inr h) = has_begun first node o.disk o.taken h.taken h.sent _ h.cut.begun h.cut.mid (end_in why o') h.puts.taken h.cut.passed h.cut.front
 
 has_served : (turns : ℕ) (first : List Output) (node : Node) (o o' : Outside) (before now : Counts) (s : Status) → ServeEnds turns first node o o' before now s → Has first node o.disk o.taken o'.taken o'.disk
 has_served turns first node o o' b n status.Done e =

@@ -114,7 +114,7 @@ waited_answer a count port mid port' u u' u'' got got' got'' answer w t lt = rec
       (sends_trans u u' u'' (requests a.bytes (port ∷ ports_of a 0 port w.letters)) [] w.asked t.4.2);
 }
 
-ends_fault : (a : Ask) (ls : List (Option Letter)) (arrival : Arrival) (f : AskFault) → FailsAt a.version arrival f → length ls < a.turns
+ends_fault : (a : Ask) (ls : List (Option Letter)) (arrival : Arrival) (f : AskFault) → FailsAt a.version a.cluster arrival f → length ls < a.turns
     → EndsBy a ls (arrival ∷ []) (Err f)
 ends_fault a ls arrival fault.NoAnswer fails lt = absurd fails
 ends_fault a ls arrival fault.Link fails lt = (ap (λ x. x ∷ []) fails, lt)
@@ -122,7 +122,7 @@ ends_fault a ls arrival fault.NoMemory fails lt = (arrival, refl, fails, lt)
 
 -- a receive failed
 pub waited_fault : (a : Ask) (count port mid port' : ℕ) (u u' u'' : Option (List (Option Datagram))) (got got' got'' : Option (List Arrival))
-    (f : AskFault) → Waiting a count port mid u u' got got' → Fails a.version got' got'' f → port' ≡ mid → u'' ≡ u' → count < a.turns
+    (f : AskFault) → Waiting a count port mid u u' got got' → Fails a.version a.cluster got' got'' f → port' ≡ mid → u'' ≡ u' → count < a.turns
     → IsAsked a port port' u u'' got got'' (Err f)
 waited_fault a count port mid port' u u' u'' got got' got'' f w t same unsent lt = record {
   arrivals = w.arrivals;

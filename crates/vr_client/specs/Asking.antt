@@ -18,6 +18,7 @@ use Rattle.vr_client.specs.Heeding.{heed}
 use Rattle.vr_client.specs.declared.answer.Answer.{Answer}
 use Rattle.vr_client.specs.declared.answer.AskFault.{AskFault}
 use Rattle.vr_client.specs.declared.answer.AskFault.TheVariants as fault
+use Rattle.vr_client.specs.declared.asking.TheConstants.{PATIENCE}
 use Rattle.vr_client.specs.declared.answer.Heed.{Heed}
 use Rattle.vr_client.specs.declared.answer.Heed.TheVariants.{Ignored, Moved, Answered}
 use Rattle.vr_client.specs.declared.client.ClientCore.{ClientCore}
@@ -71,9 +72,9 @@ moved_to Ignored = []
 moved_to (Moved to) = to ∷ []
 moved_to (Answered a) = []
 
--- after each 50 turns, if turns are left, it goes on to the next port
+-- after each `PATIENCE` turns, if turns are left, it goes on to the next port
 abbrev pub is_due : ℕ → ℕ → Bool
-is_due turns done = ((done + 1) % 50 == 0) && nat_lt (done + 1) turns
+is_due turns done = ((done + 1) % PATIENCE == 0) && nat_lt (done + 1) turns
 
 abbrev pub go_on_port : ℕ → ℕ → ℕ → ℕ → ℕ
 go_on_port n turns done port = if is_due turns done then (port + 1) % n else port
@@ -113,14 +114,14 @@ AreSilent a (l ∷ ls) = IsSilent (heed a.n a.name l) × AreSilent a ls
 abbrev pub requests : List ℕ → List ℕ → List Datagram
 requests bytes ports = map (λ port. datagram_at port bytes) ports
 
--- a receive that failed, or for whose message, of this version, memory was short
-abbrev pub FailsAt : ℕ → Arrival → AskFault → Type 0
-FailsAt version arrival fault.NoAnswer = ⊥
-FailsAt version arrival fault.Link = arrival ≡ Failed
-FailsAt version arrival fault.NoMemory = IsMessage version arrival
+-- a receive that failed, or for whose message, of this version and group, memory was short
+abbrev pub FailsAt : ℕ → ℕ → Arrival → AskFault → Type 0
+FailsAt version cluster arrival fault.NoAnswer = ⊥
+FailsAt version cluster arrival fault.Link = arrival ≡ Failed
+FailsAt version cluster arrival fault.NoMemory = IsMessage version cluster arrival
 
-abbrev pub Fails : ℕ → Option (List Arrival) → Option (List Arrival) → AskFault → Type 0
-Fails version got got' f = (arrival : Arrival) × Grows got got' (arrival ∷ []) × FailsAt version arrival f
+abbrev pub Fails : ℕ → ℕ → Option (List Arrival) → Option (List Arrival) → AskFault → Type 0
+Fails version cluster got got' f = (arrival : Arrival) × Grows got got' (arrival ∷ []) × FailsAt version cluster arrival f
 
 -- one receive, and what is heeded of it
 abbrev pub Hears : ℕ → ℕ → ℕ → Sum → Option (List Arrival) → Option (List Arrival) → Heed → Type 0
@@ -150,7 +151,7 @@ EndsBy a ls last (Ok answer) =
     × (heed a.n a.name letter ≡ Answered answer) × (length ls < a.turns)
 EndsBy a ls last (Err fault.NoAnswer) = (last ≡ []) × (length ls ≡ a.turns)
 EndsBy a ls last (Err fault.Link) = (last ≡ Failed ∷ []) × (length ls < a.turns)
-EndsBy a ls last (Err fault.NoMemory) = (arrival : Arrival) × (last ≡ arrival ∷ []) × IsMessage a.version arrival × (length ls < a.turns)
+EndsBy a ls last (Err fault.NoMemory) = (arrival : Arrival) × (last ≡ arrival ∷ []) × IsMessage a.version a.cluster arrival × (length ls < a.turns)
 
 -- the run of an ask at a link that may tell: the port at which the client is before and after, and what the link tells. The
 -- request goes to the first port, and then as each turn without an answer says.

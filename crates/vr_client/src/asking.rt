@@ -24,6 +24,9 @@ use vr_header::Operation;
 use vr_mail::{receive_letter, send_bytes};
 use vr_msg::{Message, Request, RequestFields};
 
+/// The turns without an answer after which a client goes on to the next member.
+pub const PATIENCE: u64 = 50;
+
 /// Puts the bytes of a request in the place of what is there.
 fn spell(fields: RequestFields, bytes: &mut Vec<u8>) -> Result<(), AllocError>
     requires { IsRequest fields }
@@ -81,7 +84,7 @@ impl ClientCore {
         ensures stays { self.new.port ≡ self.old.port }
         ensures heard { IfOk result (Hears self.old.version self.old.cluster self.old.n name.now (L.received link.old) (L.received link.new)) }
         ensures port { IfOk result (MovesWithin self.old.n) }
-        ensures failed { IfErr result (Fails self.old.version (L.received link.old) (L.received link.new)) }
+        ensures failed { IfErr result (Fails self.old.version self.old.cluster (L.received link.old) (L.received link.new)) }
         ensures cause { AskCause (L.faults link.old) (L.faults link.new) result }
         ensures sent { L.sent link.new ≡ L.sent link.old }
         ensures attached { L.attached link.new ≡ L.attached link.old }
@@ -112,7 +115,7 @@ impl ClientCore {
         }
     }
 
-    /// After each 50 turns, if turns are left, it asks the next member.
+    /// After each `PATIENCE` turns, if turns are left, it asks the next member.
     #[tactic(auto, using(std::proofs::lemmas::Grind::common_steps, crate::proofs::Keeping::keeps_same, crate::proofs::Keeping::keeps_later, crate::proofs::Keeping::no_requests, vr_mail::proofs::Sent::sends_nil))]
     fn go_on<L: Link>(&mut self, link: &mut L, turns: u64, done: u64)
         requires { done < turns }
@@ -123,7 +126,7 @@ impl ClientCore {
         ensures faults { L.faults link.new ≡ L.faults link.old }
         ensures attached { L.attached link.new ≡ L.attached link.old }
     {
-        if (done + 1) % 50 == 0 && done + 1 < turns {
+        if (done + 1) % PATIENCE == 0 && done + 1 < turns {
             self.ask_at(link, (self.port + 1) % u32::from(self.n));
         }
     }
@@ -140,7 +143,7 @@ impl ClientCore {
         requires { done < turns }
         ensures core { Keeps self.old self.new }
         ensures turned { IfOk result (Turned (ask_in self.old name.now turns) done self.old.port self.new.port (L.sent link.old) (L.sent link.new) (L.received link.old) (L.received link.new)) }
-        ensures failed { IfErr result (Fails self.old.version (L.received link.old) (L.received link.new)) }
+        ensures failed { IfErr result (Fails self.old.version self.old.cluster (L.received link.old) (L.received link.new)) }
         ensures stays { IfErr result (λ _. (self.new.port ≡ self.old.port) × (L.sent link.new ≡ L.sent link.old)) }
         ensures cause { AskCause (L.faults link.old) (L.faults link.new) result }
         ensures attached { L.attached link.new ≡ L.attached link.old }

@@ -7,5 +7,6 @@ mod client;
 mod laws;
 
 pub use answer::{Answer, AskFault};
+pub use asking::PATIENCE;
 pub use client::ClientCore;
 pub use laws::ask_laws;

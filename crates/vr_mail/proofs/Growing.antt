@@ -1,5 +1,5 @@
 -- Lists that an object may tell, one growth after another.
-use Rattle.std.proofs.Common.{◌≡◌, ◌∙◌, ◌⊎◌, ℕ, List, [], ◌∷◌, ◌++◌, Option, Some, None, refl, ap, sym, subst, inl, inr}
+use Rattle.std.proofs.Common.{◌≡◌, ◌∙◌, ℕ, List, [], ◌∷◌, ◌++◌, Option, Some, None, refl, ap, sym, subst, inl, inr}
 use Rattle.vr_edge.specs.Datagrams.{Arrival, Failed}
 use Rattle.vr_edge.specs.Failing.{EndsFailed, EndsUnattached, LinkFailure}
 use Rattle.vr_edge.specs.Told.{Grows}

@@ -1,3 +1,4 @@
 pub mod Brought
+mod Groups
 pub mod Growing
 pub mod Sent

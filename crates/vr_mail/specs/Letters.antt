@@ -49,17 +49,17 @@ Brings version cluster Nothing letter = letter ≡ None
 Brings version cluster (Came d) None = IsRefused version cluster d.bytes
 Brings version cluster (Came d) (Some letter) = (letter.port ≡ d.port) × IsOfGroup version cluster d.bytes letter.message
 
--- a datagram came that is a message of this version
-abbrev pub IsMessage : ℕ → Arrival → Type 0
-IsMessage version Failed = ⊥
-IsMessage version Nothing = ⊥
-IsMessage version (Came d) = (m : Frame) × Spells m d.bytes × (version_of m ≡ version)
+-- a datagram came that is a message of this version and group
+abbrev pub IsMessage : ℕ → ℕ → Arrival → Type 0
+IsMessage version cluster Failed = ⊥
+IsMessage version cluster Nothing = ⊥
+IsMessage version cluster (Came d) = (m : Frame) × IsOfGroup version cluster d.bytes m
 
 -- what a receive answers
 abbrev pub Gives : ℕ → ℕ → Arrival → Result (Option Letter) ReceiveFault → Type 0
 Gives version cluster arrival (Ok letter) = Brings version cluster arrival letter
 Gives version cluster arrival (Err fault.Link) = arrival ≡ Failed
-Gives version cluster arrival (Err fault.NoMemory) = IsMessage version arrival
+Gives version cluster arrival (Err fault.NoMemory) = IsMessage version cluster arrival
 
 -- the link's faults don't fall; where it failed they are one more, and no other answer adds to them
 pub record ReceiveCause {T : Type 0} (before now : ℕ) (result : Result T ReceiveFault) : Type 0 where

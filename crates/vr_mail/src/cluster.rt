@@ -1,37 +1,29 @@
-//! The version and the group of a message.
+//! The version and the group that bytes tell.
 ghost use Rattle.std.specs.Prelude.{◌≡◌, ◌==◌, ◌&&◌};
 ghost use Rattle.vr_mail.specs.Letters.{cluster_of};
-ghost use Rattle.vr_msg.specs.Spelling.{version_of};
+ghost use Rattle.vr_msg.specs.Spelling.{Spells, version_of};
+ghost use Rattle.vr_msg.specs.declared.frame.Frame.{Frame};
 
-use vr_base::Version;
-use vr_msg::Frame;
+use vr_base::{Version, u64_at};
+use vr_codec::tells_version;
 
-/// Whether a message is of this version and group.
-pub fn is_for(version: Version, cluster: u64, frame: &Frame) -> bool
-    ensures { result ≡ ((version_of frame.now == version) && (cluster_of frame.now == cluster)) }
+/// Where the header of a message tells its group, in eight bytes.
+const CLUSTER_PLACE: usize = 64;
+
+/// Whether the bytes tell this group, as each message of it does. It takes no memory, and makes no digest.
+#[tactic(auto, using(std::proofs::lemmas::Grind::common_steps, crate::proofs::Groups::cluster_there, crate::proofs::Groups::cluster_long))]
+fn tells_cluster(bytes: &[u8], cluster: u64) -> bool
+    ensures { (m : Frame) → Spells m bytes.now → result ≡ (cluster_of m == cluster) }
 {
-    frame.version() == version && cluster_of(frame) == cluster
+    if bytes.len() < CLUSTER_PLACE + 8 {
+        return false;
+    }
+    u64_at(bytes, CLUSTER_PLACE) == cluster
 }
 
-/// The number of the group that a message is of.
-fn cluster_of(frame: &Frame) -> u64
-    ensures { result ≡ cluster_of frame.now }
+/// Whether the bytes tell this version and group, as each message of both does. It takes no memory, and makes no digest.
+pub fn tells_group(version: Version, cluster: u64, bytes: &[u8]) -> bool
+    ensures { (m : Frame) → Spells m bytes.now → result ≡ ((version_of m == version) && (cluster_of m == cluster)) }
 {
-    match frame {
-        Frame::Request(request) => request.fields().cluster,
-        Frame::Reply(reply) => reply.fields().cluster,
-        Frame::Prepare(prepare) => prepare.entry.header().cluster,
-        Frame::PrepareOk(ok) => ok.cluster,
-        Frame::Commit(commit) => commit.cluster,
-        Frame::StartViewChange(change) => change.cluster,
-        Frame::DoViewChange(change) => change.cluster,
-        Frame::StartView(start) => start.cluster,
-        Frame::GetView(get) => get.cluster,
-        Frame::GetPrepare(get) => get.cluster,
-        Frame::GivePrepare(give) => give.entry.header().cluster,
-        Frame::GetBlock(get) => get.cluster,
-        Frame::GiveBlock(give) => give.cluster,
-        Frame::GetSync(get) => get.cluster,
-        Frame::SyncView(sync) => sync.cluster,
-    }
+    tells_version(bytes, version) && tells_cluster(bytes, cluster)
 }

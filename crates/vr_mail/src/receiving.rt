@@ -2,15 +2,14 @@
 ghost use Rattle.std.specs.Prelude.{◌≡◌, ◌≤◌, [], ◌∷◌, IfOk, OnErr, vec_capacity};
 ghost use Rattle.vr_edge.specs.Datagrams.{Arrival};
 ghost use Rattle.vr_edge.specs.Told.{Grows};
-ghost use Rattle.vr_mail.specs.Letters.{Gives, Reads, ReceiveCause};
-ghost use Rattle.vr_msg.specs.Spelling.{Spells, version_of};
+ghost use Rattle.vr_mail.specs.Letters.{Gives, IsOfGroup, Reads, ReceiveCause};
 ghost use Rattle.vr_msg.specs.declared.frame.Frame.{Frame};
 ghost use Rattle.vr_mail.specs.declared.receiving.ReceiveFault.TheVariants as fault;
 
-use crate::cluster::is_for;
+use crate::cluster::tells_group;
 use std::alloc::{AllocError, Global};
 use vr_base::Version;
-use vr_codec::{MsgFault, decode, tells_version};
+use vr_codec::{MsgFault, decode};
 use vr_edge::{Link, LinkFailed, RECEIVE_ROOM, Received};
 use vr_msg::Message;
 
@@ -46,7 +45,8 @@ impl From<AllocError> for ReceiveFault {
     }
 }
 
-/// The message of this version and group that bytes spell. Bytes that tell another version aren't decoded.
+/// The message of this version and group that bytes spell. Bytes that tell another version or group aren't decoded.
+#[tactic(auto, using(std::proofs::lemmas::Grind::common_steps, crate::proofs::Groups::not_told, crate::proofs::Groups::is_told))]
 fn read_message(
     alloc: Global,
     version: Version,
@@ -54,14 +54,13 @@ fn read_message(
     bytes: &[u8],
 ) -> Result<Option<Message>, AllocError>
     ensures reads { IfOk result (Reads version cluster bytes.now) }
-    ensures wants { OnErr result ((m : Frame) × Spells m bytes.now × (version_of m ≡ version)) }
+    ensures wants { OnErr result ((m : Frame) × IsOfGroup version cluster bytes.now m) }
 {
-    if !tells_version(bytes, version) {
+    if !tells_group(version, cluster, bytes) {
         return Ok(None);
     }
     match decode(alloc, bytes) {
-        Ok(message) if is_for(version, cluster, message.frame()) => Ok(Some(message)),
-        Ok(_) => Ok(None),
+        Ok(message) => Ok(Some(message)),
         Err(MsgFault::NoMemory) => Err(AllocError),
         Err(_) => Ok(None),
     }

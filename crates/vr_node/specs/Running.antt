@@ -42,11 +42,12 @@ on_disk d o = record o { disk = d }
 abbrev pub end_in : Stop → Outside → End
 end_in why o = end_at why o.disk o.taken o.sent
 
--- a front of the run was put out, no message before the whole text of its event; and the disk is as the steps left it, the last of which may have stopped
+-- a front of the run was put out, no message before the whole text of its event; the disk is as the steps left it, the last of which may have stopped; and the clock
+-- gave the numbers of that front, and no more
 abbrev pub IsCut : ℕ → List Output → Node → Outside → Outside → Stop → Type 0
 IsCut turns first node o o' why =
-    IsCutBefore first o.disk o.got o'.got o.taken o.sent (end_in why o')
-    ⊎ IsCutInTurn steps stops (version node.replica.memory) node.replica.memory.cluster turns first node o.disk o.got o'.got o.taken o.sent (end_in why o')
+    IsCutBefore first o.disk o.left o'.left o.got o'.got o.taken o.sent (end_in why o')
+    ⊎ IsCutInTurn steps stops (version node.replica.memory) node.replica.memory.cluster turns first node o.disk o.left o'.left o.got o'.got o.taken o.sent (end_in why o')
 
 -- how a member ends that serves so many turns
 abbrev pub ServeEnds : ℕ → List Output → Node → Outside → Outside → Counts → Counts → Status → Type 0

@@ -30,8 +30,8 @@ pub fn serve<D: SectorDisk, L: Link, C: Clock, K: Sink>(
     ensures linked { result ≡ Err Stop.Link → EndsFailed (L.received link.old) (L.received link.new) }
     ensures attached { L.attached link.new ≡ L.attached link.old }
     ensures done { OnOk result (IsServed steps (version node.old.replica.memory) node.old.replica.memory.cluster turns first node.old node.new (D.told disk.old) (D.told disk.new) (C.left clock.old) (C.left clock.new) (L.received link.old) (L.received link.new) (K.taken sink.old) (K.taken sink.new) (L.sent link.old) (L.sent link.new)) }
-    ensures cut { IfErr result (λ why. IsCutBefore first (D.told disk.old) (L.received link.old) (L.received link.new) (K.taken sink.old) (L.sent link.old) (end_at why (D.told disk.new) (K.taken sink.new) (L.sent link.new))
-        ⊎ IsCutInTurn steps stops (version node.old.replica.memory) node.old.replica.memory.cluster turns first node.old (D.told disk.old) (L.received link.old) (L.received link.new) (K.taken sink.old) (L.sent link.old) (end_at why (D.told disk.new) (K.taken sink.new) (L.sent link.new))) }
+    ensures cut { IfErr result (λ why. IsCutBefore first (D.told disk.old) (C.left clock.old) (C.left clock.new) (L.received link.old) (L.received link.new) (K.taken sink.old) (L.sent link.old) (end_at why (D.told disk.new) (K.taken sink.new) (L.sent link.new))
+        ⊎ IsCutInTurn steps stops (version node.old.replica.memory) node.old.replica.memory.cluster turns first node.old (D.told disk.old) (C.left clock.old) (C.left clock.new) (L.received link.old) (L.received link.new) (K.taken sink.old) (L.sent link.old) (end_at why (D.told disk.new) (K.taken sink.new) (L.sent link.new))) }
 {
     let version = node.version();
     let cluster = node.cluster();

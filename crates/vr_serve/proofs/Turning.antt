@@ -1,5 +1,5 @@
 -- Turns one after another.
-use Rattle.std.proofs.Common.{◌≡◌, ◌∙◌, ℕ, ◌+◌, ◌<◌, ◌≤◌, List, [], ◌∷◌, ◌++◌, Option, refl, ap, sym, map, length, arith, Result, Ok, Err, IfOk, OnOk, nat_le, true, false}
+use Rattle.std.proofs.Common.{◌≡◌, ◌∙◌, ℕ, ◌+◌, ◌<◌, ◌≤◌, List, [], ◌∷◌, ◌++◌, Option, refl, ap, sym, subst, map, length, arith, Result, Ok, Err, IfOk, OnOk, nat_le, true, false}
 use Rattle.std.proofs.lemmas.Grind.{common_steps}
 use Rattle.vr_disk.specs.DiskState.{Disk}
 use Rattle.vr_edge.specs.Told.{GivesNext, Grows}
@@ -10,10 +10,11 @@ use Rattle.vr_mail.proofs.Growing.{append_nil, assoc, grows_nil, grows_trans}
 use Rattle.vr_mail.specs.Letters.{Brings}
 use Rattle.vr_msg.specs.declared.event.Event.TheVariants.{Tick}
 use Rattle.vr_msg.specs.declared.output.Output.{Output}
-use Rattle.vr_serve.specs.Events.{AreTurns, Begins, Gives, Turn, arrivals, due, events_of, happened, last_after, last_of, letters}
+use Rattle.vr_serve.specs.Events.{AreTurns, Gives, Turn, arrival_in, arrivals, due, events_of, happened, last_after, last_of, letters, next_in, numbers_in, whole_in}
 use Rattle.vr_serve.specs.Outputs.{numbers_after}
-use Rattle.vr_serve.specs.Runs.{At, Cut, Doing, End, Halting, IsCutInTurn, IsServed, Passed, PutsFirst, at, begun_at}
+use Rattle.vr_serve.specs.Runs.{At, Cut, Doing, End, Halting, IsCutInTurn, IsServed, IsTurnCut, Passed, PutsFirst, at, begun_at}
 use Rattle.vr_serve.specs.declared.clients.Client.{Client}
+use Rattle.vr_serve.specs.declared.serving.TheConstants.{TICK}
 use Rattle.vr_serve.proofs.Cutting.{cut_after}
 use Rattle.vr_serve.proofs.Running.{map_append, passed_none, passed_trans}
 
@@ -28,9 +29,9 @@ happened_more last (t ∷ turns) turn =
     ap (λ l. events_of last t ++ l) (happened_more (last_after last t.now) turns turn)
     ∙ sym (assoc (events_of last t) (happened (last_after last t.now) turns) (events_of (last_of (last_after last t.now) turns) turn))
 
-gives_more : (a b c : Option (List ℕ)) (numbers : List ℕ) (n : ℕ) → Gives a numbers b → GivesNext b c n → Gives a (numbers ++ n ∷ []) c
-gives_more a b c [] n given next = (c, rw (sym given) next, refl)
-gives_more a b c (m ∷ numbers) n given next = (given.0, given.1, gives_more given.0 b c numbers n given.2 next)
+gives_then : (a b c : Option (List ℕ)) (numbers more : List ℕ) → Gives a numbers b → Gives b more c → Gives a (numbers ++ more) c
+gives_then a b c [] more given then = subst (λ l. Gives l more c) given then
+gives_then a b c (m ∷ numbers) more given then = (given.0, given.1, gives_then given.0 b c numbers more given.2 then)
 
 length_more : {X : Type 0} (xs : List X) (x : X) → length (xs ++ x ∷ []) ≡ length xs + 1
 length_more xs x = grind (arith, common_steps)
@@ -38,15 +39,15 @@ length_more xs x = grind (arith, common_steps)
 le_false : (a b : ℕ) → b < a → nat_le a b ≡ false
 le_false a b h = grind arith
 
--- no tick is due before 100 after the last one
-pub due_none : (last now : ℕ) → now < last + 100 → due last now ≡ []
-due_none last now h = rw (le_false (last + 100) now h) refl
+-- no tick is due before `TICK` after the last one
+pub due_none : (last now : ℕ) → now < last + TICK → due last now ≡ []
+due_none last now h = rw (le_false (last + TICK) now h) refl
 
 le_true : (a b : ℕ) → a ≤ b → nat_le a b ≡ true
 le_true a b h = grind arith
 
-pub due_tick : (last now : ℕ) → last + 100 ≤ now → due last now ≡ record { port = 0; event = Tick } ∷ []
-due_tick last now h = rw (le_true (last + 100) now h) refl
+pub due_tick : (last now : ℕ) → last + TICK ≤ now → due last now ≡ record { port = 0; event = Tick } ∷ []
+due_tick last now h = rw (le_true (last + TICK) now h) refl
 
 pub both : {T E : Type 0} (r : Result T E) (P : T → Type 0) (X : Type 0) (Q : T → Type 0) → ((t : T) → P t → X → Q t) → IfOk r P → OnOk r X → IfOk r Q
 both (Ok t) P X Q f p x = f t p x
@@ -102,7 +103,7 @@ serving_more does version cluster count last after first member disk left left' 
   turns = s.turns ++ turn ∷ [];
   counted = length_more s.turns turn ∙ ap (λ n. n + 1) s.counted;
   ticked = is ∙ (ap (λ n. last_after n turn.now) s.ticked ∙ sym (last_more s.begins s.turns turn));
-  clock = rw (map_append (λ (x : Turn). x.now) s.turns (turn ∷ [])) (gives_more left left' left'' (s.begins ∷ map (λ x. x.now) s.turns) turn.now s.clock next);
+  clock = rw (map_append (λ (x : Turn). x.now) s.turns (turn ∷ [])) (gives_then left left' left'' (s.begins ∷ map (λ x. x.now) s.turns) (turn.now ∷ []) s.clock (left'', next, refl));
   received = rw (map_append (λ (x : Turn). x.arrival) s.turns (turn ∷ [])) (grows_trans got got' got'' (arrivals s.turns) (turn.arrival ∷ []) s.received more);
   brought = brought_turn version cluster s.turns turn s.brought new;
   taken = s.taken;
@@ -133,22 +134,23 @@ served does version cluster count last first member member' disk disk' left left
 }
 
 -- an early end in the turn behind these
-pub serving_cut : {S : Type 0} (does : Doing S) (halts : Halting S) (version cluster count last limit : ℕ) (first : List Output) (member : S) (disk : Option Disk)
-    (left left' : Option (List ℕ)) (got got' got'' : Option (List Arrival)) (t : Option (List ℕ)) (u : Option (List (Option Datagram)))
-    (b : At S) (turn : Turn) (end : End) → Serving does version cluster count last first member disk left left' got got' t u b → count < limit
-    → Grows got' got'' (turn.arrival ∷ []) → Begins version cluster turn.arrival turn.letter → Cut does halts b (events_of last turn) end
-    → IsCutInTurn does halts version cluster limit first member disk got got'' t u end
-serving_cut does halts version cluster count last limit first member disk left left' got got' got'' t u b turn end s lt more begun cut = record {
+pub serving_cut : {S : Type 0} (does : Doing S) (halts : Halting S) (version cluster count tick limit : ℕ) (first : List Output) (member : S) (disk : Option Disk)
+    (left left' left'' : Option (List ℕ)) (got got' got'' : Option (List Arrival)) (t : Option (List ℕ)) (u : Option (List (Option Datagram)))
+    (b : At S) (end : End) → Serving does version cluster count tick first member disk left left' got got' t u b → count < limit
+    → IsTurnCut does halts version cluster tick b left' left'' got' got'' end
+    → IsCutInTurn does halts version cluster limit first member disk left left'' got got'' t u end
+serving_cut does halts version cluster count tick limit first member disk left left' left'' got got' got'' t u b end s lt c = record {
   begins = s.begins;
   turns = s.turns;
-  last = turn;
+  last = c.last;
   counted = omega (arith, s.counted, lt);
-  received = grows_trans got got' got'' (arrivals s.turns) (turn.arrival ∷ []) s.received more;
+  clock = gives_then left left' left'' (s.begins ∷ map (λ x. x.now) s.turns) (numbers_in c.last) s.clock c.clock;
+  received = grows_trans got got' got'' (arrivals s.turns) (arrival_in c.last ∷ []) s.received c.received;
   brought = s.brought;
-  begun = begun;
+  begun = c.begun;
   taken = s.taken;
   sent = s.sent;
   puts = s.puts;
-  cut = rw (happened_more s.begins s.turns turn) (cut_after does halts (begun_at member disk first s.taken s.sent) b (happened s.begins s.turns)
-      (events_of (last_of s.begins s.turns) turn) end s.passed (rw (sym s.ticked) cut));
+  cut = subst (λ n. Cut does halts (begun_at member disk first s.taken s.sent) (happened s.begins s.turns ++ whole_in c.last) (next_in n c.last) end) s.ticked
+      (cut_after does halts (begun_at member disk first s.taken s.sent) b (happened s.begins s.turns) (whole_in c.last) (next_in tick c.last) end s.passed c.cut);
 }

@@ -8,6 +8,7 @@ use Rattle.vr_msg.specs.declared.event.Event.{Event}
 use Rattle.vr_msg.specs.declared.event.Event.TheVariants.{Request, Deliver, Tick}
 use Rattle.vr_msg.specs.declared.frame.Frame.{Frame}
 use Rattle.vr_msg.specs.declared.frame.Frame.TheVariants as frame
+use Rattle.vr_serve.specs.declared.serving.TheConstants.{TICK}
 
 -- an event, and the port that it came from, 0 for a tick
 pub record Come : Type 0 where
@@ -40,9 +41,9 @@ abbrev pub comes_of : Option Letter → List Come
 comes_of None = []
 comes_of (Some letter) = come_of letter ∷ []
 
--- a tick is due 100 after the last one, or more
+-- a tick is due `TICK` after the last one, or more
 abbrev pub is_due : ℕ → ℕ → Bool
-is_due last now = nat_le (last + 100) now
+is_due last now = nat_le (last + TICK) now
 
 abbrev pub due : ℕ → ℕ → List Come
 due last now = if is_due last now then record { port = 0; event = Tick } ∷ [] else []
@@ -88,6 +89,31 @@ letters turns = map (λ t. t.letter) turns
 abbrev pub AreTurns : ℕ → ℕ → List Turn → Type 0
 AreTurns version cluster turns = AreBrought version cluster (arrivals turns) (letters turns)
 
--- what a turn that was cut off began with: nothing comes of a receive that failed, or for whose message memory was short
-abbrev pub Begins : ℕ → ℕ → Arrival → Option Letter → Type 0
-Begins version cluster arrival letter = Brings version cluster arrival letter ⊎ (((arrival ≡ Failed) ⊎ IsMessage version arrival) × (letter ≡ None))
+-- a turn that was cut off: at its receive or at what came of that, before the clock was asked; or, once what came was handled and the clock asked, at its tick
+pub data LastTurn : Type 0 where
+  AtReceive : Arrival → Option Letter → LastTurn
+  AtTick : Turn → LastTurn
+
+abbrev pub arrival_in : LastTurn → Arrival
+arrival_in (AtReceive arrival letter) = arrival
+arrival_in (AtTick turn) = turn.arrival
+
+-- the numbers that the clock gave in it
+abbrev pub numbers_in : LastTurn → List ℕ
+numbers_in (AtReceive arrival letter) = []
+numbers_in (AtTick turn) = turn.now ∷ []
+
+-- its events that happened wholly
+abbrev pub whole_in : LastTurn → List Come
+whole_in (AtReceive arrival letter) = []
+whole_in (AtTick turn) = comes_of turn.letter
+
+-- and the one, if any, at which it was cut off
+abbrev pub next_in : ℕ → LastTurn → List Come
+next_in last (AtReceive arrival letter) = comes_of letter
+next_in last (AtTick turn) = due last turn.now
+
+-- what it received: nothing comes of a receive that failed, or for whose message memory was short
+abbrev pub Begins : ℕ → ℕ → LastTurn → Type 0
+Begins version cluster (AtReceive arrival letter) = Brings version cluster arrival letter ⊎ (((arrival ≡ Failed) ⊎ IsMessage version cluster arrival) × (letter ≡ None))
+Begins version cluster (AtTick turn) = Brings version cluster turn.arrival turn.letter

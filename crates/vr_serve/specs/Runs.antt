@@ -9,7 +9,7 @@ use Rattle.vr_mail.specs.Sends.{Sends}
 use Rattle.vr_msg.specs.declared.event.Event.{Event}
 use Rattle.vr_msg.specs.declared.output.Output.{Output}
 use Rattle.vr_serve.specs.Causes.{stop_of}
-use Rattle.vr_serve.specs.Events.{AreTurns, Begins, Come, Gives, Turn, arrivals, happened}
+use Rattle.vr_serve.specs.Events.{AreTurns, Begins, Come, Gives, LastTurn, Turn, arrival_in, arrivals, happened, last_of, next_in, numbers_in, whole_in}
 use Rattle.vr_serve.specs.Outputs.{datagrams_for, heard, numbers_after, text_from}
 use Rattle.vr_serve.specs.declared.clients.Client.{Client}
 use Rattle.vr_serve.specs.declared.member.Halt.{Halt}
@@ -93,9 +93,9 @@ pub record End : Type 0 where
 abbrev pub end_at : Stop → Option Disk → Option (List ℕ) → Option (List (Option Datagram)) → End
 end_at why disk taken sent = record { why = why; disk = disk; taken = taken; sent = sent }
 
--- between two steps: the disk is as the last one left it
+-- between two steps, for a receive or for want of memory: the disk is as the last one left it
 pub record EndsBetween {S : Type 0} (a : At S) (end : End) : Type 0 where
-  pub why : end.why ≢ stop.Disk
+  pub why : (end.why ≡ stop.Link) ⊎ (end.why ≡ stop.NoMemory)
   pub disk : end.disk ≡ a.disk
   pub taken : end.taken ≡ a.taken
   pub sent : end.sent ≡ a.sent
@@ -122,14 +122,13 @@ abbrev pub Begun : {S : Type 0} → Doing S → Halting S → At S → List Come
 Begun does halts a [] end = EndsBetween a end
 Begun does halts a (c ∷ cs) end = (cs ≡ []) × (EndsInStep halts a c end ⊎ EndsBehindStep does a c end)
 
--- an early end among these events: some happened wholly, the next one was begun, and the rest didn't happen
-pub record Cut {S : Type 0} (does : Doing S) (halts : Halting S) (a : At S) (comes : List Come) (end : End) : Type 0 where
-  pub done : List Come
+-- an early end behind the events that happened wholly: of those that come next one was begun, or none, and the rest didn't happen
+pub record Cut {S : Type 0} (does : Doing S) (halts : Halting S) (a : At S) (whole next : List Come) (end : End) : Type 0 where
   pub begun : List Come
   pub rest : List Come
-  pub parts : done ++ (begun ++ rest) ≡ comes
+  pub parts : begun ++ rest ≡ next
   pub mid : At S
-  pub passed : Passed does a mid done
+  pub passed : Passed does a mid whole
   pub front : Begun does halts mid begun end
 
 -- what comes first, before any event: the outputs of an opening
@@ -157,25 +156,36 @@ pub record IsServed {S : Type 0} (does : Doing S) (version cluster count : ℕ) 
   pub clients : List Client
   pub passed : Passed does (begun_at member disk first taken sent) (at member' disk' number clients t' u') (happened begins turns)
 
--- a run that was cut off in a turn
+-- a turn that was cut off, where the last tick was then
+pub record IsTurnCut {S : Type 0} (does : Doing S) (halts : Halting S) (version cluster tick : ℕ) (a : At S) (left left' : Option (List ℕ))
+    (got got' : Option (List Arrival)) (end : End) : Type 0 where
+  pub last : LastTurn
+  pub clock : Gives left (numbers_in last) left'
+  pub received : Grows got got' (arrival_in last ∷ [])
+  pub begun : Begins version cluster last
+  pub cut : Cut does halts a (whole_in last) (next_in tick last) end
+
+-- a run that was cut off in a turn: all turns before it happened wholly, and the clock gave a number for each of them, and one more where it was asked in the last one
 pub record IsCutInTurn {S : Type 0} (does : Doing S) (halts : Halting S) (version cluster count : ℕ) (first : List Output) (member : S) (disk : Option Disk)
-    (got got' : Option (List Arrival)) (t : Option (List ℕ)) (u : Option (List (Option Datagram))) (end : End) : Type 0 where
-  pub begins : ℕ
+    (left left' : Option (List ℕ)) (got got' : Option (List Arrival)) (t : Option (List ℕ)) (u : Option (List (Option Datagram))) (end : End) : Type 0 where
+  pub begins : ℕ  -- the clock's first number
   pub turns : List Turn
-  pub last : Turn
+  pub last : LastTurn
   pub counted : length turns < count
-  pub received : Grows got got' (arrivals turns ++ last.arrival ∷ [])
+  pub clock : Gives left (begins ∷ (map (λ x. x.now) turns ++ numbers_in last)) left'
+  pub received : Grows got got' (arrivals turns ++ arrival_in last ∷ [])
   pub brought : AreTurns version cluster turns
-  pub begun : Begins version cluster last.arrival last.letter
+  pub begun : Begins version cluster last
   pub taken : Option (List ℕ)
   pub sent : Option (List (Option Datagram))
   pub puts : PutsFirst first t taken u sent
-  pub cut : Cut does halts (begun_at member disk first taken sent) (happened begins (turns ++ last ∷ [])) end
+  pub cut : Cut does halts (begun_at member disk first taken sent) (happened begins turns ++ whole_in last) (next_in (last_of begins turns) last) end
 
--- or before the first turn: a front of the first outputs was put out, nothing received, and no step done
-pub record IsCutBefore (first : List Output) (d : Option Disk) (got got' : Option (List Arrival)) (t : Option (List ℕ)) (u : Option (List (Option Datagram)))
-    (end : End) : Type 0 where
+-- or before the first turn: a front of the first outputs was put out, the clock not asked, nothing received, and no step done
+pub record IsCutBefore (first : List Output) (d : Option Disk) (left left' : Option (List ℕ)) (got got' : Option (List Arrival)) (t : Option (List ℕ))
+    (u : Option (List (Option Datagram))) (end : End) : Type 0 where
   pub why : end.why ≢ stop.Disk
   pub disk : end.disk ≡ d
+  pub clock : left' ≡ left
   pub received : got' ≡ got
   pub front : PutsFront (text_from 0 first) (datagrams_for [] first) t end.taken u end.sent

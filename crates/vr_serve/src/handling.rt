@@ -46,7 +46,7 @@ pub fn handle<M: Member, D: SectorDisk, K: Sink, L: Link>(
         (record { port = port; event = event.now } ∷ [])) }
     ensures cut { IfErr result (λ why. Cut M.does M.halts
         (at member.old (D.told disk.old) post.old.number post.old.clients.items (K.taken sink.old) (L.sent link.old))
-        (record { port = port; event = event.now } ∷ []) (end_at why (D.told disk.new) (K.taken sink.new) (L.sent link.new))) }
+        [] (record { port = port; event = event.now } ∷ []) (end_at why (D.told disk.new) (K.taken sink.new) (L.sent link.new))) }
     ensures attached { L.attached link.new ≡ L.attached link.old }
 {
     hear(&mut post.clients, port, event)?;

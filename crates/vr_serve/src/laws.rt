@@ -1,8 +1,16 @@
-//! The law of turns.
-ghost use Rattle.vr_serve.specs.Laws.{RefusedChangeNothing};
+//! The laws of turns.
+ghost use Rattle.vr_serve.specs.Laws.{CutsTheSame, RefusedChangeNothing, ServesTheSame};
 
-/// A datagram that is refused is as if nothing had come: the same events come of the turns, so a run of them puts out the
-/// same. It does nothing.
-pub fn serve_laws()
-    ensures { RefusedChangeNothing }
+use crate::Member;
+
+/// A datagram that is refused is as if nothing had come. It does nothing.
+pub fn serve_laws<M: Member>()
+    // The same events come of the turns, at the same numbers of the clock.
+    ensures events { RefusedChangeNothing }
+
+    // A run of them puts out the same bytes and the same datagrams, and leaves the same member and the same disk.
+    ensures served { ServesTheSame M.does }
+
+    // So does one that is cut off.
+    ensures cut { CutsTheSame M.does M.halts }
 {}

@@ -12,5 +12,5 @@ mod stop;
 
 pub use laws::serve_laws;
 pub use member::{Halt, Member};
-pub use serving::serve;
+pub use serving::{TICK, serve};
 pub use stop::Stop;

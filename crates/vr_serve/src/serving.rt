@@ -6,8 +6,8 @@ ghost use Rattle.vr_edge.specs.Told.{GivesNext, Grows};
 ghost use Rattle.vr_mail.specs.Letters.{Brings};
 ghost use Rattle.vr_mail.specs.declared.receiving.Letter.{Letter};
 ghost use Rattle.vr_serve.specs.Causes.{HasCauses, counts};
-ghost use Rattle.vr_serve.specs.Events.{Begins, Turn, comes_of, due, events_of, last_after};
-ghost use Rattle.vr_serve.specs.Runs.{Cut, IsCutBefore, IsCutInTurn, IsServed, Passed, at, end_at};
+ghost use Rattle.vr_serve.specs.Events.{AtReceive, Begins, Turn, comes_of, due, events_of, last_after};
+ghost use Rattle.vr_serve.specs.Runs.{Cut, IsCutBefore, IsCutInTurn, IsServed, IsTurnCut, Passed, at, end_at};
 
 use crate::handling::{event_of, handle};
 use crate::post::Post;
@@ -19,6 +19,9 @@ use vr_disk::SectorDisk;
 use vr_edge::{Clock, Link, Sink};
 use vr_mail::receive_letter;
 use vr_msg::{Event, Outbox};
+
+/// The milliseconds from one tick to the next.
+pub const TICK: u64 = 100;
 
 /// One receive, and what comes of it.
 #[tactic(auto, using(crate::proofs::Ending::causes_none, crate::proofs::Ending::causes_later, crate::proofs::Ending::causes_received))]
@@ -42,9 +45,9 @@ fn arrive<M: Member, D: SectorDisk, K: Sink, L: Link>(
         (at member.new (D.told disk.new) post.new.number post.new.clients.items (K.taken sink.new) (L.sent link.new))
         (comes_of letter)) }
     ensures cut { IfErr result (λ why. (arrival : Arrival) × (letter : Option Letter) × Grows (L.received link.old) (L.received link.new) (arrival ∷ [])
-        × Begins version cluster arrival letter × Cut M.does M.halts
+        × Begins version cluster (AtReceive arrival letter) × Cut M.does M.halts
         (at member.old (D.told disk.old) post.old.number post.old.clients.items (K.taken sink.old) (L.sent link.old))
-        (comes_of letter) (end_at why (D.told disk.new) (K.taken sink.new) (L.sent link.new))) }
+        [] (comes_of letter) (end_at why (D.told disk.new) (K.taken sink.new) (L.sent link.new))) }
     ensures attached { L.attached link.new ≡ L.attached link.old }
 {
     match receive_letter(alloc, link, version, cluster, &mut post.to) {
@@ -83,13 +86,13 @@ fn beat<M: Member, D: SectorDisk, K: Sink, L: Link>(
         (due last now)) }
     ensures cut { IfErr result (λ why. Cut M.does M.halts
         (at member.old (D.told disk.old) post.old.number post.old.clients.items (K.taken sink.old) (L.sent link.old))
-        (due last now) (end_at why (D.told disk.new) (K.taken sink.new) (L.sent link.new))) }
+        [] (due last now) (end_at why (D.told disk.new) (K.taken sink.new) (L.sent link.new))) }
     ensures attached { L.attached link.new ≡ L.attached link.old }
 {
     if now < last {
         return Ok(now);
     }
-    if now - last < 100 {
+    if now - last < TICK {
         return Ok(last);
     }
     handle(alloc, member, disk, sink, link, post, 0, &Event::Tick)?;
@@ -121,10 +124,9 @@ fn turn<M: Member, D: SectorDisk, K: Sink, L: Link, C: Clock>(
         (at member.old (D.told disk.old) post.old.number post.old.clients.items (K.taken sink.old) (L.sent link.old))
         (at member.new (D.told disk.new) post.new.number post.new.clients.items (K.taken sink.new) (L.sent link.new))
         (events_of last turn)) }
-    ensures cut { IfErr result (λ why. (turn : Turn) × Grows (L.received link.old) (L.received link.new) (turn.arrival ∷ [])
-        × Begins version cluster turn.arrival turn.letter × Cut M.does M.halts
+    ensures cut { IfErr result (λ why. IsTurnCut M.does M.halts version cluster last
         (at member.old (D.told disk.old) post.old.number post.old.clients.items (K.taken sink.old) (L.sent link.old))
-        (events_of last turn) (end_at why (D.told disk.new) (K.taken sink.new) (L.sent link.new))) }
+        (C.left clock.old) (C.left clock.new) (L.received link.old) (L.received link.new) (end_at why (D.told disk.new) (K.taken sink.new) (L.sent link.new))) }
     ensures attached { L.attached link.new ≡ L.attached link.old }
 {
     arrive(alloc, version, cluster, member, disk, sink, link, post)?;
@@ -151,8 +153,8 @@ pub fn serve<M: Member, D: SectorDisk, K: Sink, L: Link, C: Clock>(
     ensures causes { HasCauses (counts (D.faults disk.old) (K.faults sink.old) (L.faults link.old)) (counts (D.faults disk.new) (K.faults sink.new) (L.faults link.new)) result }
     ensures linked { result ≡ Err Stop.Link → EndsFailed (L.received link.old) (L.received link.new) }
     ensures done { OnOk result (IsServed M.does version cluster turns first member.old member.new (D.told disk.old) (D.told disk.new) (C.left clock.old) (C.left clock.new) (L.received link.old) (L.received link.new) (K.taken sink.old) (K.taken sink.new) (L.sent link.old) (L.sent link.new)) }
-    ensures cut { IfErr result (λ why. IsCutBefore first (D.told disk.old) (L.received link.old) (L.received link.new) (K.taken sink.old) (L.sent link.old) (end_at why (D.told disk.new) (K.taken sink.new) (L.sent link.new))
-        ⊎ IsCutInTurn M.does M.halts version cluster turns first member.old (D.told disk.old) (L.received link.old) (L.received link.new) (K.taken sink.old) (L.sent link.old) (end_at why (D.told disk.new) (K.taken sink.new) (L.sent link.new))) }
+    ensures cut { IfErr result (λ why. IsCutBefore first (D.told disk.old) (C.left clock.old) (C.left clock.new) (L.received link.old) (L.received link.new) (K.taken sink.old) (L.sent link.old) (end_at why (D.told disk.new) (K.taken sink.new) (L.sent link.new))
+        ⊎ IsCutInTurn M.does M.halts version cluster turns first member.old (D.told disk.old) (C.left clock.old) (C.left clock.new) (L.received link.old) (L.received link.new) (K.taken sink.old) (L.sent link.old) (end_at why (D.told disk.new) (K.taken sink.new) (L.sent link.new))) }
     ensures attached { L.attached link.new ≡ L.attached link.old }
 {
     let mut post = Post::new(alloc)?;

@@ -57,29 +57,29 @@ pub record Soaks {S K D L C P : Type 0} (words : SoakWords) (o o' : Outside S K 
   pub ends : SoakEnds o.sink.faults o'.sink.faults o.sink.taken o'.sink.taken (soak_text words.seed words.count) status
   pub others : o' ≡ record o { sink = o'.sink }
 
--- `node ..`: the run of a member on the file of that name, which reads nothing and starts no program
+-- `node ..`: the run of a member on the file of that name; source and spawner are unchanged
 pub record Serves {S K D L C P : Type 0} (a : NodeAsked) (o o' : Outside S K D L C P) (status : Status) : Type 0 where
   pub ends : node.NodeEnds a.fresh (config_of a) a.file a.peers a.turns (of_member o) (of_member o') (member_counts o) (member_counts o') status
   pub others : o' ≡ record o { sink = o'.sink; disk = o'.disk; link = o'.link; clock = o'.clock }
 
--- `client ..`: the run of a client, which has no disk, looks at no clock and starts no program
+-- `client ..`: the run of a client; disk, clock and spawner are unchanged
 pub record Asks {S K D L C P : Type 0} (a : ClientAsked) (o o' : Outside S K D L C P) (status : Status) : Type 0 where
   pub ends : client.ClientEnds (client_of a) a.peers (of_client o) (of_client o') (client_counts o) (client_counts o') status
   pub others : o' ≡ record o { source = o'.source; sink = o'.sink; link = o'.link }
 
--- `trial ..`: the run of a trial, which reads nothing, has no disk and looks at no clock
+-- `trial ..`: the run of a trial; source, disk and clock are unchanged
 pub record Tries {S K D L C P : Type 0} (a : TrialAsked) (o o' : Outside S K D L C P) (status : Status) : Type 0 where
   pub ends : trial.TrialEnds (trial_of a) (of_trial o) (of_trial o') (trial_counts o) (trial_counts o') status
   pub others : o' ≡ record o { sink = o'.sink; link = o'.link; spawner = o'.spawner }
 
--- `migrate ..`: the file of that name becomes one of version 2, and no object is called but its disk
+-- `migrate ..`: the file of that name becomes one of version 2, and no object is changed but its disk
 pub record Moves {S K D L C P : Type 0} (a : MigrateAsked) (o o' : Outside S K D L C P) (status : Status) : Type 0 where
   pub ends : MigrationEnds a.config a.file o.disk.told o'.disk.told status
   pub others : o' ≡ record o { disk = o'.disk }
 
 -- ---- all of them
 
--- words that are none of the forms, and nothing was called
+-- words that are none of the forms, and all is unchanged
 abbrev pub Does : {S K D L C P : Type 0} → Option Asked → Outside S K D L C P → Outside S K D L C P → Status → Type 0
 Does None o o' status = (status ≡ Usage) × (o' ≡ o)
 Does (Some Replay) o o' status = Replays o o' status
@@ -89,7 +89,7 @@ Does (Some (Client a)) o o' status = Asks a o o' status
 Does (Some (Trial a)) o o' status = Tries a o o' status
 Does (Some (Migrate a)) o o' status = Moves a o o' status
 
--- memory was short for the words, and nothing was called
+-- memory was short for the words, and all is unchanged
 pub record IsShort {S K D L C P : Type 0} (o o' : Outside S K D L C P) (status : Status) : Type 0 where
   pub is : status ≡ NoMemory
   pub same : o' ≡ o

@@ -43,7 +43,7 @@ pub record Spawner (P : Type 0) : Type 0 where
   pub calls : Option (List SpawnCall)
   pub faults : ℕ
 
--- Two that are equal are so object by object: nothing was called.
+-- Two that are equal are so object by object: none was changed.
 pub record Outside (S K D L C P : Type 0) : Type 0 where
   pub source : Source S
   pub sink : Sink K

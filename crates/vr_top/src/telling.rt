@@ -1,14 +1,36 @@
 //! What a program says of its end.
 ghost use Rattle.std.specs.Io.KnownBytes.{Appends};
-ghost use Rattle.std.specs.Prelude.{◌≡◌, ◌⊎◌, IfOk, string_bytes};
+ghost use Rattle.std.specs.Prelude.{◌≡◌, ◌⊎◌, IfOk, MatchOption, string_bytes, true};
 ghost use Rattle.vr_base.specs.Causes.{Rose};
 ghost use Rattle.vr_edge.specs.Told.{AppendsFront};
 ghost use Rattle.vr_status.specs.Texts.{code_of};
-ghost use Rattle.vr_top.specs.Telling.{line_of};
+ghost use Rattle.vr_top.specs.Telling.{line_of, takes_memory};
 
 use std::alloc::{AllocError, Global};
 use vr_edge::{Sink, write_whole};
 use vr_status::{Status, code, status_line};
+
+/// The line of a status that is the same each time; of one without a text nothing.
+fn fixed_line(status: &Status) -> Option<&'static str>
+    ensures { MatchOption result (takes_memory status.now ≡ true) (λ line. line.now ≡ line_of status.now) }
+{
+    match status {
+        Status::Done => Some(""),
+        Status::Usage => Some("usage\n"),
+        Status::Refused(_) => None,
+        Status::SessionLost => Some("session lost\n"),
+        Status::ReadFault => Some("read fault\n"),
+        Status::WriteFault => Some("write fault\n"),
+        Status::DiskFault => Some("disk fault\n"),
+        Status::LinkFault => Some("link fault\n"),
+        Status::SuperLost => Some("superblock lost\n"),
+        Status::OtherMember(_, _) => None,
+        Status::NoMemory => Some("no memory\n"),
+        Status::Occupied => Some("occupied\n"),
+        Status::NoAnswer => Some("no answer\n"),
+        Status::SpawnFault => Some("spawn fault\n"),
+    }
+}
 
 /// The line of a status, of one without a text nothing.
 fn line_for(alloc: Global, status: &Status) -> Result<String, AllocError>
@@ -21,12 +43,16 @@ fn line_for(alloc: Global, status: &Status) -> Result<String, AllocError>
     Ok(line)
 }
 
-/// Writes the line of a status: a front of it where a write fails, and nothing where memory is short for it.
+/// Writes the line of a status: a front of it where a write fails, and nothing where memory is taken for it and short.
 #[tactic(auto, using(crate::proofs::Lines::no_front, crate::proofs::Lines::front_by, crate::proofs::Lines::whole_by))]
 fn tell<K: Sink>(alloc: Global, status: &Status, errors: &mut K)
     ensures front { AppendsFront (K.taken errors.old) (K.taken errors.new) (line_of status.now) }
-    ensures whole { ¬ Rose (K.faults errors.old) (K.faults errors.new) → Appends (K.taken errors.old) (K.taken errors.new) (line_of status.now) ⊎ (errors.new ≡ errors.old) }
+    ensures whole { ¬ Rose (K.faults errors.old) (K.faults errors.new) → Appends (K.taken errors.old) (K.taken errors.new) (line_of status.now) ⊎ ((takes_memory status.now ≡ true) × (errors.new ≡ errors.old)) }
 {
+    if let Some(line) = fixed_line(status) {
+        let _ = write_whole(errors, line.as_bytes());
+        return;
+    }
     let Ok(line) = line_for(alloc, status) else {
         return;
     };
@@ -37,9 +63,9 @@ fn tell<K: Sink>(alloc: Global, status: &Status, errors: &mut K)
 pub fn finish<K: Sink>(alloc: Global, status: &Status, errors: &mut K) -> u8
     ensures code { result ≡ code_of status.now }
 
-    // The line goes out, or a front of it where a write fails, or nothing where memory is short for it.
+    // The line goes out, or a front of it where a write fails. Where memory is short nothing does, of the two that take memory for their line, and each other one is told still.
     ensures front { AppendsFront (K.taken errors.old) (K.taken errors.new) (line_of status.now) }
-    ensures whole { ¬ Rose (K.faults errors.old) (K.faults errors.new) → Appends (K.taken errors.old) (K.taken errors.new) (line_of status.now) ⊎ (errors.new ≡ errors.old) }
+    ensures whole { ¬ Rose (K.faults errors.old) (K.faults errors.new) → Appends (K.taken errors.old) (K.taken errors.new) (line_of status.now) ⊎ ((takes_memory status.now ≡ true) × (errors.new ≡ errors.old)) }
 {
     tell(alloc, status, errors);
     code(status)

@@ -1,6 +1,6 @@
-use Rattle.std.proofs.Common.{Err, rules, ◌≡◌, ◌∙◌, [], ◌∷◌, ap, refl, subst}
+use Rattle.std.proofs.Common.{Err, rules, ◌≡◌, ◌∙◌, [], ◌∷◌, ap, inr, refl, subst}
 use Rattle.vr_mail.specs.Sends.{Sends}
-use Rattle.vr_serve.proofs.Cutting.{cut_event, cut_none, cut_step, if_err_by, if_err_is, memory_spares, on_ok_all}
+use Rattle.vr_serve.proofs.Cutting.{cut_event, cut_none, cut_step, if_err_by, if_err_is, on_ok_all}
 use Rattle.vr_serve.proofs.Ending.{put_spares}
 use Rattle.vr_serve.proofs.Running.{passed_one}
 use Rattle.vr_serve.specs.Causes.{stop_of}
@@ -16,10 +16,10 @@ returns-in_err-hear-clause-cut g c =
     let come : Come = record { port = c.args.port; event = c.args.event.now } in
     let disk = g.D.SectorDisk.told c.args.disk.now in
     let is : c.from_residual.result ≡ Err NoMemory = search rules in
-    if_err_is c.from_residual.result (λ why. Cut g.M.Member.does g.M.Member.halts a (come ∷ []) (end_at why disk (g.K.Sink.taken c.args.sink.now) (g.L.Link.sent c.args.link.now)))
+    if_err_is c.from_residual.result (λ why. Cut g.M.Member.does g.M.Member.halts a [] (come ∷ []) (end_at why disk (g.K.Sink.taken c.args.sink.now) (g.L.Link.sent c.args.link.now)))
     NoMemory is
     (cut_none g.M.Member.does g.M.Member.halts a (come ∷ []) (end_at NoMemory disk (g.K.Sink.taken c.args.sink.now) (g.L.Link.sent c.args.link.now))
-    (record { why = memory_spares; disk = refl; taken = refl; sent = refl }))
+    (record { why = inr refl; disk = refl; taken = refl; sent = refl }))
 
 pub returns-in_err-step-clause-cut : goal.returns-in_err-step-clause-cut
 returns-in_err-step-clause-cut g c =
@@ -29,7 +29,7 @@ returns-in_err-step-clause-cut g c =
     let halt = c.in_err-step.field-0.0 in
     let is : c.from_residual-in_err-step.result ≡ Err (stop_of halt) = search rules in
     if_err_is c.from_residual-in_err-step.result
-    (λ why. Cut g.M.Member.does g.M.Member.halts a (come ∷ []) (end_at why disk (g.K.Sink.taken c.args.sink.now) (g.L.Link.sent c.args.link.now)))
+    (λ why. Cut g.M.Member.does g.M.Member.halts a [] (come ∷ []) (end_at why disk (g.K.Sink.taken c.args.sink.now) (g.L.Link.sent c.args.link.now)))
     (stop_of halt) is
     (cut_step g.M.Member.does g.M.Member.halts a come halt c.step.new.self disk c.in_err-step.ensures.halted)
 
@@ -51,7 +51,7 @@ returns-clause-cut g c =
     let disk = g.D.SectorDisk.told c.step.new.disk in
     let taken = g.K.Sink.taken c.put_out.new.sink in
     let sent = g.L.Link.sent c.put_out.new.link in
-    if_err_by c.put_out.result _ (λ why. Cut g.M.Member.does g.M.Member.halts a (come ∷ []) (end_at why disk taken sent)) (λ why is front.
+    if_err_by c.put_out.result _ (λ why. Cut g.M.Member.does g.M.Member.halts a [] (come ∷ []) (end_at why disk taken sent)) (λ why is front.
     cut_event g.M.Member.does g.M.Member.halts a c.step.new.self come c.step.new.out (end_at why disk taken sent)
     (put_spares _ _ _ _ c.put_out.result why is c.put_out.ensures.causes) c.in_ok-step.ensures.done
     (subst (λ cs. PutsFront (text_from c.args.post.now.number c.step.new.out) (datagrams_for cs c.step.new.out) (g.K.Sink.taken c.args.sink.now) taken

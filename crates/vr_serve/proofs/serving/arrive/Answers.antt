@@ -1,6 +1,6 @@
 use Rattle.std.proofs.Common.{◌∙◌, sym, [], None, refl, subst}
 use Rattle.vr_mail.specs.Letters.{Brings}
-use Rattle.vr_serve.proofs.Cutting.{cut_none, failed_begins, received_stop_spares}
+use Rattle.vr_serve.proofs.Cutting.{cut_none, failed_begins, received_stops}
 use Rattle.vr_serve.proofs.Ending.{link_failed, same_stop}
 use Rattle.vr_serve.proofs.Running.{passed_none}
 use Rattle.vr_serve.specs.Runs.{End, at, end_at}
@@ -17,7 +17,7 @@ returns-in-Err-clause-cut g c =
       r.1,
       failed_begins c.args.version c.args.cluster r.0 c.in-Err.fault r.2,
       cut_none g.M.Member.does g.M.Member.halts a [] end
-          (record { why = rw c.received_stop.ensures (received_stop_spares c.in-Err.fault); disk = refl; taken = refl; sent = c.receive_letter.ensures.sent }),
+          (record { why = rw c.received_stop.ensures (received_stops c.in-Err.fault); disk = refl; taken = refl; sent = c.receive_letter.ensures.sent }),
     )
 
 pub returns-in-Ok-None-clause-passed : goal.returns-in-Ok-None-clause-passed

@@ -55,21 +55,21 @@ loop-preserved g c =
 pub returns-in_err-last-clause-cut : goal.returns-in_err-last-clause-cut
 returns-in_err-last-clause-cut g c =
     let b = at c.loop.member (g.D.SectorDisk.told c.loop.disk) c.loop.post.number c.loop.post.clients.items (g.K.Sink.taken c.loop.sink) (g.L.Link.sent c.loop.link) in
-    let r = c.in_err-last.ensures.cut in
     let stop = c.in_err-last.field-0.0 in
     let is : c.from_residual-in_err-last.result ≡ Err stop = search rules in
+    let left = g.C.Clock.left c.args.clock.now in
+    let left' = g.C.Clock.left c.turn.new.clock in
     let got = g.L.Link.received c.args.link.now in
     let got' = g.L.Link.received c.turn.new.link in
     let taken = g.K.Sink.taken c.args.sink.now in
     let sent = g.L.Link.sent c.args.link.now in
     let end : Stop → End = λ why. end_at why (g.D.SectorDisk.told c.turn.new.disk) (g.K.Sink.taken c.turn.new.sink) (g.L.Link.sent c.turn.new.link) in
     if_err_is c.from_residual-in_err-last.result
-    (λ why. IsCutBefore c.args.first (g.D.SectorDisk.told c.args.disk.now) got got' taken sent (end why)
-    ⊎ IsCutInTurn g.M.Member.does g.M.Member.halts c.args.version c.args.cluster c.args.turns c.args.first c.args.member.now (g.D.SectorDisk.told c.args.disk.now) got got' taken sent (end why))
+    (λ why. IsCutBefore c.args.first (g.D.SectorDisk.told c.args.disk.now) left left' got got' taken sent (end why)
+    ⊎ IsCutInTurn g.M.Member.does g.M.Member.halts c.args.version c.args.cluster c.args.turns c.args.first c.args.member.now (g.D.SectorDisk.told c.args.disk.now) left left' got got' taken sent (end why))
     stop is
     (inr (serving_cut g.M.Member.does g.M.Member.halts c.args.version c.args.cluster c.loop.counter c.loop.last c.args.turns c.args.first c.args.member.now (g.D.SectorDisk.told c.args.disk.now)
-    (g.C.Clock.left c.args.clock.now) (g.C.Clock.left c.loop.clock) got (g.L.Link.received c.loop.link) got' taken sent b r.0 (end stop) c.loop.invariant.serving c.loop-test.true
-    r.1 r.2 r.3))
+    left (g.C.Clock.left c.loop.clock) left' got (g.L.Link.received c.loop.link) got' taken sent b (end stop) c.loop.invariant.serving c.loop-test.true c.in_err-last.ensures.cut))
 
 pub returns-in_err-last-clause-linked : goal.returns-in_err-last-clause-linked
 returns-in_err-last-clause-linked g c =

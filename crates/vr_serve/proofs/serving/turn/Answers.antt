@@ -1,9 +1,9 @@
-use Rattle.std.proofs.Common.{Err, rules, ◌≡◌, inl}
-use Rattle.vr_serve.proofs.Cutting.{CutTurn, cut_after, cut_before, if_err_is, if_err_then}
+use Rattle.std.proofs.Common.{Err, rules, ◌≡◌, refl}
+use Rattle.vr_serve.proofs.Cutting.{cut_behind, if_err_is, if_err_then}
 use Rattle.vr_serve.proofs.Running.{passed_trans}
 use Rattle.vr_serve.proofs.Turning.{both}
-use Rattle.vr_serve.specs.Events.{comes_of, due, turn_of}
-use Rattle.vr_serve.specs.Runs.{End, at, end_at}
+use Rattle.vr_serve.specs.Events.{AtReceive, AtTick, comes_of, due, turn_of}
+use Rattle.vr_serve.specs.Runs.{End, IsTurnCut, at, end_at}
 use Rattle.vr_serve.specs.declared.stop.Stop.{Stop}
 use Rattle.vr_serve.proofs.serving.turn.Goals as goal
 
@@ -15,8 +15,9 @@ returns-in_err-arrive-clause-cut g c =
     let is : c.from_residual.result ≡ Err stop = search rules in
     let end : Stop → End = λ why. end_at why (g.D.SectorDisk.told c.arrive.new.disk) (g.K.Sink.taken c.arrive.new.sink) (g.L.Link.sent c.arrive.new.link) in
     if_err_is c.from_residual.result
-    (λ why. CutTurn g.M.Member.does g.M.Member.halts a c.args.version c.args.cluster c.args.last (g.L.Link.received c.args.link.now) (g.L.Link.received c.arrive.new.link) (end why)) stop is
-    (turn_of r.0 r.1 0, r.2, r.3, cut_before g.M.Member.does g.M.Member.halts a (comes_of r.1) (due c.args.last 0) (end stop) r.4)
+    (λ why. IsTurnCut g.M.Member.does g.M.Member.halts c.args.version c.args.cluster c.args.last a (g.C.Clock.left c.args.clock.now) (g.C.Clock.left c.args.clock.now)
+    (g.L.Link.received c.args.link.now) (g.L.Link.received c.arrive.new.link) (end why)) stop is
+    (record { last = AtReceive r.0 r.1; clock = refl; received = r.2; begun = r.3; cut = r.4 })
 
 pub returns-clause-turned : goal.returns-clause-turned
 returns-clause-turned g c =
@@ -40,9 +41,12 @@ returns-clause-cut g c =
     let r = c.in_ok-arrive.ensures.passed in
     let end : Stop → End = λ why. end_at why (g.D.SectorDisk.told c.beat.new.disk) (g.K.Sink.taken c.beat.new.sink) (g.L.Link.sent c.beat.new.link) in
     if_err_then c.beat.result _
-    (λ why. CutTurn g.M.Member.does g.M.Member.halts a c.args.version c.args.cluster c.args.last (g.L.Link.received c.args.link.now) (g.L.Link.received c.beat.new.link) (end why)) (λ why cut. (
-      turn_of r.0 r.1 c.now-now.result,
-      rw c.beat.ensures.received r.2,
-      inl r.3,
-      cut_after g.M.Member.does g.M.Member.halts a b (comes_of r.1) (due c.args.last c.now-now.result) (end why) r.4 cut,
-    )) c.beat.ensures.cut
+    (λ why. IsTurnCut g.M.Member.does g.M.Member.halts c.args.version c.args.cluster c.args.last a (g.C.Clock.left c.args.clock.now) (g.C.Clock.left c.now-now.new.self)
+    (g.L.Link.received c.args.link.now) (g.L.Link.received c.beat.new.link) (end why))
+    (λ why cut. record {
+      last = AtTick (turn_of r.0 r.1 c.now-now.result);
+      clock = (g.C.Clock.left c.now-now.new.self, c.now-now.ensures, refl);
+      received = rw c.beat.ensures.received r.2;
+      begun = r.3;
+      cut = cut_behind g.M.Member.does g.M.Member.halts a b (comes_of r.1) (due c.args.last c.now-now.result) (end why) r.4 cut;
+    }) c.beat.ensures.cut

@@ -19,7 +19,7 @@ returns-in_err-answer-clause-run g c =
     let err : c.from_residual.result ≡ Err c.in_err-answer.field-0.0 = search rules in
     let stays = c.in_err-answer.ensures.stays in
     let same = same_ask c.args.self.now c.loop-done.self c.args.name.now c.args.turns c.loop-done.invariant.core in
-    let failed = subst (λ a. Fails a.version (g.L.Link.received c.loop-done.link) (g.L.Link.received c.turn.new.link) c.in_err-answer.field-0.0) same c.in_err-answer.ensures.failed in
+    let failed = subst (λ a. Fails a.version a.cluster (g.L.Link.received c.loop-done.link) (g.L.Link.received c.turn.new.link) c.in_err-answer.field-0.0) same c.in_err-answer.ensures.failed in
     rw err (waited_fault (ask_in c.args.self.now c.args.name.now c.args.turns) c.loop-done.done c.args.self.now.port c.loop-done.self.port c.turn.new.self.port
     (g.L.Link.sent c.args.link.now) (g.L.Link.sent c.loop-done.link) (g.L.Link.sent c.turn.new.link)
     (g.L.Link.received c.args.link.now) (g.L.Link.received c.loop-done.link) (g.L.Link.received c.turn.new.link) c.in_err-answer.field-0.0
