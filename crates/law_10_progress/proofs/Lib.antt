@@ -1,0 +1,6 @@
+mod Lists
+mod Deciding
+mod Taking
+mod Trying
+mod Mute
+mod Ruling

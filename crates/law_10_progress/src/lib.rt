@@ -1,0 +1,25 @@
+//! How far a group goes on: what a view change makes of a quorum that is whole, and the normal case. Each function is a law: its contract is
+//! the statement, and it does nothing.
+#![tactic(auto)]
+
+ghost use Rattle.law_10_progress.specs.Deciding.{FurthestMembersTake, SureQuorumsDecide, WholeQuorumsBegin, WholeQuorumsDecide};
+
+/// A choice of a log from a view-change quorum of whose members none is in doubt of an op above their greatest checkpoint doesn't wait.
+pub fn sure_quorums_decide()
+    ensures { SureQuorumsDecide }
+{}
+
+/// A member with the greatest checkpoint of those heard may take the log that is chosen, where it knows the header of its checkpoint's op.
+pub fn furthest_members_take()
+    ensures { FurthestMembersTake }
+{}
+
+/// So from a quorum that is whole a log is chosen, and its furthest member may take it.
+pub fn whole_quorums_decide<F>()
+    ensures { WholeQuorumsDecide F }
+{}
+
+/// So its furthest member begins its view, once it is the primary of one and has heard enough of them.
+pub fn whole_quorums_begin<F>()
+    ensures { WholeQuorumsBegin F }
+{}
