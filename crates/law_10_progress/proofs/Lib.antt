@@ -4,3 +4,4 @@ mod Taking
 mod Trying
 mod Mute
 mod Ruling
+mod Standing
