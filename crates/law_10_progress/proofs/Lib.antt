@@ -5,3 +5,4 @@ mod Trying
 mod Mute
 mod Ruling
 mod Standing
+mod Making
