@@ -6,3 +6,7 @@ mod Mute
 mod Ruling
 mod Standing
 mod Making
+mod Backup
+mod Rounds
+mod Writing
+mod Answering

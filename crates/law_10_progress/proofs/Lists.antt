@@ -1,5 +1,5 @@
 -- Of lists, and of sets of replicas.
-use Rattle.std.proofs.Common.{arith, ℕ, zero, suc, ◌+◌, ◌-◌, ◌<◌, ◌≤◌, ◌≡◌, ◌≢◌, ◌∙◌, inl, inr, refl, sym, ap, subst, Bool, true, false, cond, ◌==◌, List, [], ◌∷◌, ◌++◌, length, map, get_or, set, filter, Option, Some, None}
+use Rattle.std.proofs.Common.{arith, ℕ, zero, suc, ◌+◌, ◌-◌, ◌<◌, ◌≤◌, ◌≡◌, ◌≢◌, ◌∙◌, ◌⊎◌, inl, inr, refl, sym, ap, subst, Bool, true, false, cond, ◌==◌, List, [], ◌∷◌, ◌++◌, length, map, get_or, set, filter, Option, Some, None}
 use Rattle.std.specs.Prelude.{All, Contains, not, count_by, nat_eq, nat_lt, slice_get}
 use Rattle.std.specs.List.{prefix_len, range_with_len}
 use Rattle.std.specs.Cmp.Lexicographic.{pointwise}
@@ -17,6 +17,13 @@ use Rattle.law_10_progress.specs.Answering.{AreDistinct, place_beside}
 
 pub All-each : {X : Type 0} (P : X → Type 0) (xs : List X) → ((x : X) → Contains xs x → P x) → All P xs
 All-each P xs h = λ k d l. h (get_or xs k d) (Contains-get_or xs k d l)
+
+pub contains_tail : {X : Type 0} (x : X) (xs : List X) (y : X) → Contains xs y → Contains (x ∷ xs) y
+contains_tail x xs y there = let l = there.1 in (suc there.0, omega (arith, l), there.2)
+
+pub contains_cases : {X : Type 0} (x : X) (xs : List X) (y : X) → Contains (x ∷ xs) y → (x ≡ y) ⊎ Contains xs y
+contains_cases x xs y (zero, l, e) = inl e
+contains_cases x xs y (suc k, l, e) = inr (k, omega (arith, l), e)
 
 -- ---- items by their places
 

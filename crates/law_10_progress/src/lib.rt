@@ -2,6 +2,7 @@
 //! the statement, and it does nothing.
 #![tactic(auto)]
 
+ghost use Rattle.law_10_progress.specs.Answering.{RequestsAreAnswered};
 ghost use Rattle.law_10_progress.specs.Deciding.{FurthestMembersTake, SureQuorumsDecide, WholeQuorumsBegin, WholeQuorumsDecide};
 
 /// A choice of a log from a view-change quorum of whose members none is in doubt of an op above their greatest checkpoint doesn't wait.
@@ -22,4 +23,11 @@ pub fn whole_quorums_decide<F>()
 /// So its furthest member begins its view, once it is the primary of one and has heard enough of them.
 pub fn whole_quorums_begin<F>()
     ensures { WholeQuorumsBegin F }
+{}
+
+/// A request is answered after 2 deliveries for each of replication - 1 backups, and no tick, where the primary of a view and these have nothing
+/// behind: it puts out the outcome of the request's operation. So it is in groups of every size, on files of either version, whatever else is
+/// under way, and whatever the other members do.
+pub fn requests_are_answered()
+    ensures { RequestsAreAnswered }
 {}
