@@ -5,7 +5,6 @@ use Rattle.std.proofs.lemmas.Bool.{and_parts, cases_Bool, cases_lt, leb-true, lt
 use Rattle.std.proofs.lemmas.List.{length-append, length-map}
 use Rattle.std.proofs.lemmas.List.Elements.{All-contains, All-nil, Contains-append_left, Contains-append_right}
 use Rattle.vr_base.specs.Versions.{by_version}
-use Rattle.vr_disk.specs.DiskState.{IsFace}
 use Rattle.vr_header.specs.Made.{Whole}
 use Rattle.vr_msg.specs.declared.event.Event.TheVariants as event
 use Rattle.vr_msg.specs.declared.frame.Frame.TheVariants as frame
@@ -24,7 +23,7 @@ use Rattle.vr_world.specs.Outputs.{messages, others, prepare}
 use Rattle.vr_world.specs.Replica.{Replica, forgetting, head, is_frozen, is_spent, last_view, replication, version, with_part}
 use Rattle.vr_world.specs.Rules.{make, next_entry, react}
 use Rattle.vr_world.specs.Sound.{IsSound}
-use Rattle.vr_world.specs.Steps.{Effect, Say, Setting, Step, Write, after_all, outputs}
+use Rattle.vr_world.specs.Steps.{Effect, Say, Setting, Step, Write, after_all, output_of, outputs}
 use Rattle.vr_world.specs.Words.{advance, entry_of, has_quorum, stored, writes}
 use Rattle.vr_world.specs.World.{Acted, Arrives, Asks, Happened, Happening, Hazards, Host, World, happen, happens, with_member}
 use Rattle.law_10_progress.proofs.Backup as backup
@@ -40,6 +39,9 @@ use Rattle.law_10_progress.proofs.Standing.{Stands, advance_answers}
 use Rattle.law_10_progress.proofs.Writing.{written_reads}
 use Rattle.law_10_progress.specs.Answering as answering
 use Rattle.law_10_progress.specs.Answering.{AreDistinct, HasBackup, IsLevel, IsNew, LeadsLevel, RequestsAreAnswered, Runs, answer, normal_lines, place_beside}
+
+less_none : (k : ℕ) → k - 0 ≡ k
+less_none k = omega arith
 
 -- ---- how many lines
 
@@ -116,7 +118,7 @@ module _ {F : Type 0} (hz : Hazards F) (w : World F) (q : RequestFields) (p : �
   said_last : (effect : Effect) (es ds : List Effect) → Contains (outputs ds) told → Contains (outputs (effect ∷ (es ++ ds))) told
   unfolding outputs
   said_last effect es ds there =
-      Contains-append_right (outputs (effect ∷ [])) (outputs (es ++ ds)) told (subst (λ os. Contains os told) (sym (outputs_append es ds)) (Contains-append_right (outputs es) (outputs ds) told there))
+      Contains-append_right (output_of effect) (outputs (es ++ ds)) told (subst (λ os. Contains os told) (sym (outputs_append es ds)) (Contains-append_right (outputs es) (outputs ds) told there))
 
   at_once : has_quorum made op ≡ true → Contains (happens hz w (Asks p q)).outputs told
   at_once many =
@@ -142,7 +144,7 @@ module _ {F : Type 0} (hz : Hazards F) (w : World F) (q : RequestFields) (p : �
       let own = h.runs.size in
       let at = h.runs.index in
       let there : slice_get (others made.index made.n) (place_beside p b) ≡ Some b =
-      ap (λ (xs : List ℕ). slice_get xs (place_beside p b)) others_are ∙ but_at p 0 w.n b (omega arith) (omega (arith, low)) (omega arith) (omega (arith, is, own, at)) h.other in
+      ap (λ (xs : List ℕ). slice_get xs (place_beside p b)) others_are ∙ ap (slice_get (others p w.n)) (sym (less_none (place_beside p b))) ∙ but_at p 0 w.n b (omega arith) (omega (arith, low)) (omega arith) (omega (arith, is, own, at)) h.other in
       ap (λ (ms : List Sent). slice_get ms (length w.sent + place_beside p b)) after_sent
       ∙ got_right w.sent (map (sent_to (prepare e made) made) (others made.index made.n)) (length w.sent + place_beside p b) (place_beside p b) refl
       ∙ got_map (sent_to (prepare e made) made) (others made.index made.n) (place_beside p b) b there
@@ -188,7 +190,7 @@ module _ {F : Type 0} (hz : Hazards F) (w : World F) (q : RequestFields) (p : �
         distinct = l.distinct;
         new = λ b there none. let l = none.1 in omega (arith, l);
         next_is = after_long;
-        enough = subst (λ k. replication k ≤ length bs + 1) (sym size) enough;
+        enough = let k : ℕ = replication old.n in let all : k ≤ length bs + 1 = subst (λ j. replication j ≤ length bs + 1) (sym size) enough in omega (arith, all);
       }
 
   later : has_quorum made op ≡ false → Contains (happen hz (happens hz w (Asks p q)).world lines).outputs told
@@ -217,7 +219,7 @@ unfolding next_entry
 made_version q r v same takes = subst (λ k. k ≤ by_version v 1 2) (sym same) takes
 
 pub requests_are_answered : RequestsAreAnswered
-requests_are_answered w q p bs l new face takes =
+requests_are_answered w q p bs l new long takes =
     let old = l.replica in
     let lead = l.leads in
     let level = lead.level in
@@ -229,4 +231,4 @@ requests_are_answered w q p bs l new face takes =
     let version_is : e.header.version ≤ by_version l.disk.version 1 2 = made_version q old l.disk.version new.of_version takes in
     let size = l.runs.size in
     let six = size_few old l.runs.sound in
-    (lines_length w q p bs, answered hazards w q p bs l new may (λ g o slot. refl) (λ again. written_reads l.disk again e face whole version_is) (omega (arith, size, six)))
+    (lines_length w q p bs, answered hazards w q p bs l new may (λ g o slot. refl) (λ again. written_reads l.disk again e long whole version_is) (omega (arith, size, six)))

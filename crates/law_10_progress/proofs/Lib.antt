@@ -10,3 +10,5 @@ mod Backup
 mod Rounds
 mod Writing
 mod Answering
+mod Beginning
+mod NewQuorum

@@ -140,7 +140,7 @@ module _ {F : Type 0} (hz : Hazards F) where
     ack_advances acked r f y t follows within other =
         ack_counted s (backup.vouch s q old y) e.header r f (awake_still acked r f t) (may_count acked r f y t follows within other) ∙ one_word (backup.vouch s q old y) r f
 
-    waits_then : (acked : List ℕ) (r : Replica) (f : F) → Stands s q old acked r f → has_quorum r op ≡ false → advance s r f ≡ record { replica = r; script = [] }
+    pub waits_then : (acked : List ℕ) (r : Replica) (f : F) → Stands s q old acked r f → has_quorum r op ≡ false → advance s r f ≡ record { replica = r; script = [] }
     waits_then acked r f t too_few =
         let commit : r.commit ≡ old.commit = ap (λ (x : Replica). x.commit) t.same in
         let applied : r.applied ≡ old.applied = ap (λ (x : Replica). x.applied) t.same in

@@ -3,7 +3,7 @@ use Rattle.std.proofs.Common.{arith, ◌≡◌, ◌+◌, ◌-◌, ◌*◌, ◌<�
 use Rattle.std.specs.Option.{option_and_then, option_map}
 use Rattle.vr_base.specs.Versions.{by_version}
 use Rattle.vr_disk.specs.DiskState as disk
-use Rattle.vr_disk.specs.DiskState.{Face, IsFace}
+use Rattle.vr_disk.specs.DiskState.{Face}
 use Rattle.vr_disk.specs.Regions.{prepare_sectors, sectors as sectors_count}
 use Rattle.vr_disk.proofs.Places.{behind_headers, inside}
 use Rattle.vr_disk.proofs.Together.{after_all_append, length_after_all}
@@ -47,6 +47,6 @@ face_reads v f false e n w few =
     ∙ header_leaves v e.header (disk.after_all f (prepare_calls v e)) (e.header.op % 64) ∙ prepare_reads v e f n w few
 
 -- whatever it read as before
-pub written_reads : (d : Lying) (again : Bool) (e : Whole) → IsFace d.face → IsWhole e → e.header.version ≤ by_version d.version 1 2
+pub written_reads : (d : Lying) (again : Bool) (e : Whole) → length d.face.cells ≡ sectors_count → IsWhole e → e.header.version ≤ by_version d.version 1 2
     → lying.entry (lying.after d (Write again e)) (e.header.op % 64) ≡ Some e
-written_reads d again e face w few = face_reads d.version d.face again e face.count w few
+written_reads d again e long w few = face_reads d.version d.face again e long w few

@@ -1,10 +1,13 @@
 -- The normal case: a group of which a primary and enough backups have nothing behind, and the lines by which it answers a request.
 use Rattle.std.specs.Prelude.{ℕ, ◌+◌, ◌-◌, ◌*◌, ◌<◌, ◌≤◌, ◌≡◌, ◌≢◌, ⊤, true, false, nat_lt, List, [], ◌∷◌, length, slice_get, All, Contains, Some, None, if◌then◌else◌}
+use Rattle.std.specs.List.{range_with_len}
+use Rattle.vr_base.specs.Groups.{least_members}
 use Rattle.vr_base.specs.Replicas.{no_replicas}
 use Rattle.vr_base.specs.Versions.{by_version}
+use Rattle.vr_base.specs.declared.kind.Kind.{Kind}
 use Rattle.vr_ckpt.specs.Asks.{is_fresh}
 use Rattle.vr_ckpt.specs.Folds.{outcome_of}
-use Rattle.vr_disk.specs.DiskState.{IsFace}
+use Rattle.vr_disk.specs.Regions.{sectors}
 use Rattle.vr_header.specs.Names.{name_by}
 use Rattle.vr_msg.specs.Normal.{last_op, primary}
 use Rattle.vr_msg.specs.declared.frame.Frame.TheVariants as frame
@@ -15,10 +18,11 @@ use Rattle.vr_msg.specs.declared.request.RequestFields.{RequestFields}
 use Rattle.vr_world.specs.Deciding.{session_answer}
 use Rattle.vr_world.specs.Laws.{IsMessage}
 use Rattle.vr_world.specs.Lying.{Lying, hazards, lying}
+use Rattle.vr_world.specs.Opening.{IsKind, fresh}
 use Rattle.vr_world.specs.Replica.{Replica, ackers_at, head, head_header, is_frozen, replication, version, window_end}
 use Rattle.vr_world.specs.Rules.{asker_by, next_entry}
 use Rattle.vr_world.specs.Sound.{IsSound}
-use Rattle.vr_world.specs.World.{Arrives, Asks, Happening, World, happen}
+use Rattle.vr_world.specs.World.{Arrives, Asks, Happening, World, fresh_world, happen}
 
 -- ---- the members
 
@@ -115,10 +119,19 @@ answer hash q r =
       kind = reply.Outcome (record { op = head r + 1; outcome = outcome_of r.state (next_entry hash q r) });
     })
 
--- So many lines, and the reply is among what they put out: of a world of any size whose disks may lie, where the primary's is one of the program, with
--- a file that takes entries of its version.
+-- So many lines, and the reply is among what they put out: of a world of any size whose disks may lie, where the primary's disk has all its
+-- sectors, with a file that takes entries of its version.
 abbrev pub RequestsAreAnswered : Type 0
 RequestsAreAnswered =
     (w : World Lying) (q : RequestFields) (p : ℕ) (backups : List ℕ) (l : IsLevel lying.hash w p backups) → IsNew q l.replica
-    → IsFace l.disk.face → version l.replica ≤ by_version l.disk.version 1 2
+    → length l.disk.face.cells ≡ sectors → version l.replica ≤ by_version l.disk.version 1 2
     → (length (normal_lines w q p backups) ≡ 2 * length backups + 1) × Contains (happen hazards w (normal_lines w q p backups)).outputs (answer lying.hash q l.replica)
+
+-- So it is in a new group of every size, on files of either version: the request by which a client begins its first session is answered by the primary
+-- of view 0, with the next replication - 1 members as backups.
+abbrev pub NewGroupsAnswer : Type 0
+NewGroupsAnswer =
+    (kind : Kind) (n : ℕ) (q : RequestFields) → IsKind kind → least_members kind.version ≤ n → n ≤ 6
+    → IsMessage (frame.Request q) → q.version ≡ kind.version → q.cluster ≡ 0 → q.request ≡ 0
+    → let w = fresh_world hazards kind n in
+    Contains (happen hazards w (normal_lines w q 0 (range_with_len 1 (replication n - 1)))).outputs (answer lying.hash q (fresh kind 0 n 0))

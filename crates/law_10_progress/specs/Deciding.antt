@@ -1,5 +1,6 @@
 -- What a view change makes of a quorum that is whole: the choice of a log ends, and a member with the greatest checkpoint may take that log.
-use Rattle.std.specs.Prelude.{ℕ, ◌<◌, ◌≤◌, ◌≡◌, true, false, List, length, map, All, Contains, Some}
+use Rattle.std.specs.Prelude.{ℕ, ◌<◌, ◌≤◌, ◌≡◌, true, false, List, [], ◌∷◌, length, map, All, Contains, Some}
+use Rattle.vr_base.specs.declared.kind.Kind.{Kind}
 use Rattle.vr_base.specs.declared.table.Quorums.{Quorums}
 use Rattle.vr_base.specs.Groups.{quorums_of}
 use Rattle.vr_choose.specs.Laws.{NamesAgree}
@@ -7,9 +8,11 @@ use Rattle.vr_header.specs.declared.header.Header.{Header}
 use Rattle.vr_msg.specs.declared.choice.Choice.TheVariants.{Ends}
 use Rattle.vr_msg.specs.declared.statement.Statement.{Statement}
 use Rattle.vr_msg.specs.Choice.{choice}
+use Rattle.vr_world.specs.Opening.{IsKind, fresh}
 use Rattle.vr_world.specs.Replica.{Replica, is_primary, is_started, statement_of}
+use Rattle.vr_world.specs.Rules.{with_statement}
 use Rattle.vr_world.specs.Steps.{Setting}
-use Rattle.vr_world.specs.Words.{begin_view, chosen_log, is_chain, may_take, stated, try}
+use Rattle.vr_world.specs.Words.{begin_view, chosen_log, entered, is_chain, may_take, stated, try}
 use Rattle.law_10_progress.specs.Whole.{Holder, IsMemberOf, IsSure, IsWhole, KnowsItsCheckpoint, replicas_of, top_checkpoint}
 
 -- what these replicas state of their logs, each as it is when it states it
@@ -66,3 +69,20 @@ WholeQuorumsBegin F =
     is_primary r ≡ true → is_started r ≡ false → stated r ≡ statements rs
     → ((headers : List Header) → choice q (stated r) ≡ Ends headers → is_chain s.hash headers ≡ true)
     → (headers : List Header) × (choice q (stated r) ≡ Ends headers) × (try s r f ≡ begin_view (stated r) (chosen_log r (stated r) headers) s r f)
+
+-- ---- there is such a quorum
+
+-- Of a new group of three members 0 and 1 have entered view 1, and member 1, its primary, has member 0's statement.
+abbrev pub stater : Kind → Replica
+stater kind = entered 1 (fresh kind 0 3 0)
+
+abbrev pub candidate : Kind → Replica
+candidate kind = with_statement 0 (statement_of (stater kind)) (entered 1 (fresh kind 0 3 1))
+
+-- These two are whole together, on any disks, and the second begins its view.
+abbrev pub ANewQuorumBegins : Type 0 → Type 0
+ANewQuorumBegins F =
+    (kind : Kind) → IsKind kind → (s : Setting F) (f g : F)
+    → let r = candidate kind in
+    IsWhole s (record { replica = stater kind; disk = f } ∷ record { replica = r; disk = g } ∷ [])
+    × (try s r g ≡ begin_view (stated r) (chosen_log r (stated r) []) s r g)

@@ -2,8 +2,8 @@
 //! the statement, and it does nothing.
 #![tactic(auto)]
 
-ghost use Rattle.law_10_progress.specs.Answering.{RequestsAreAnswered};
-ghost use Rattle.law_10_progress.specs.Deciding.{FurthestMembersTake, SureQuorumsDecide, WholeQuorumsBegin, WholeQuorumsDecide};
+ghost use Rattle.law_10_progress.specs.Answering.{NewGroupsAnswer, RequestsAreAnswered};
+ghost use Rattle.law_10_progress.specs.Deciding.{ANewQuorumBegins, FurthestMembersTake, SureQuorumsDecide, WholeQuorumsBegin, WholeQuorumsDecide};
 
 /// A choice of a log from a view-change quorum of whose members none is in doubt of an op above their greatest checkpoint doesn't wait.
 pub fn sure_quorums_decide()
@@ -25,9 +25,19 @@ pub fn whole_quorums_begin<F>()
     ensures { WholeQuorumsBegin F }
 {}
 
+/// There is such a quorum: two members of a new group of three that have entered view 1, whose primary has the statement of the other.
+pub fn a_new_quorum_begins<F>()
+    ensures { ANewQuorumBegins F }
+{}
+
 /// A request is answered after 2 deliveries for each of replication - 1 backups, and no tick, where the primary of a view and these have nothing
 /// behind: it puts out the outcome of the request's operation. So it is in groups of every size, on files of either version, whatever else is
 /// under way, and whatever the other members do.
 pub fn requests_are_answered()
     ensures { RequestsAreAnswered }
+{}
+
+/// So it is in a new group of every size: the request by which a client begins its first session is answered by the primary of view 0.
+pub fn new_groups_answer()
+    ensures { NewGroupsAnswer }
 {}
