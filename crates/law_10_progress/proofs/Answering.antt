@@ -1,6 +1,7 @@
 -- A request is answered: the primary makes its entry, and then the rounds.
 use Rattle.std.proofs.Common.{arith, ℕ, zero, suc, ◌+◌, ◌-◌, ◌*◌, ◌<◌, ◌≤◌, ◌≡◌, ◌≢◌, ◌∙◌, inl, inr, refl, sym, ap, subst, Bool, true, false, List, [], ◌∷◌, ◌++◌, length, map, Option, Some, None, ◌%◌}
-use Rattle.std.specs.Prelude.{All, Contains, nat_le, nat_lt, slice_get}
+use Rattle.std.specs.Prelude.{All, Contains, max, nat_le, nat_lt, slice_get}
+use Rattle.std.specs.Option.{option_map_or}
 use Rattle.std.proofs.lemmas.Bool.{and_parts, cases_Bool, cases_lt, leb-true, ltb-false, lt-ltb, or_parts}
 use Rattle.std.proofs.lemmas.List.{length-append, length-map}
 use Rattle.std.proofs.lemmas.List.Elements.{All-contains, All-nil, Contains-append_left, Contains-append_right}
@@ -25,7 +26,7 @@ use Rattle.vr_world.specs.Rules.{make, next_entry, react}
 use Rattle.vr_world.specs.Sound.{IsSound}
 use Rattle.vr_world.specs.Steps.{Effect, Say, Setting, Step, Write, after_all, output_of, outputs}
 use Rattle.vr_world.specs.Words.{advance, entry_of, has_quorum, stored, writes}
-use Rattle.vr_world.specs.World.{Acted, Arrives, Asks, Happened, Happening, Hazards, Host, World, happen, happens, with_member}
+use Rattle.vr_world.specs.World.{Acted, Arrives, Asks, AsksInVersion, Happened, Happening, Hazards, Host, World, asks, at_member, happen, happens, in_version, nothing, with_member}
 use Rattle.law_10_progress.proofs.Backup as backup
 use Rattle.law_10_progress.proofs.Lists.{All-each, but_at, but_length, got_map, got_other, got_right, got_set}
 use Rattle.law_10_progress.proofs.Making as making
@@ -38,7 +39,7 @@ use Rattle.law_10_progress.proofs.Standing as standing
 use Rattle.law_10_progress.proofs.Standing.{Stands, advance_answers}
 use Rattle.law_10_progress.proofs.Writing.{written_reads}
 use Rattle.law_10_progress.specs.Answering as answering
-use Rattle.law_10_progress.specs.Answering.{AreDistinct, HasBackup, IsLevel, IsNew, LeadsLevel, RequestsAreAnswered, Runs, answer, normal_lines, place_beside}
+use Rattle.law_10_progress.specs.Answering.{AreDistinct, HasBackup, IsAsk, IsLevel, IsNew, LeadsLevel, RequestsAreAnswered, Runs, answer, normal_lines, place_beside}
 
 less_none : (k : ℕ) → k - 0 ≡ k
 less_none k = omega arith
@@ -50,15 +51,15 @@ unfolding answering.rounds
 rounds_length p first next [] = refl
 rounds_length p first next (b ∷ bs) = let rest = rounds_length p first (next + 1) bs in omega (arith, rest)
 
-lines_length : {F : Type 0} (w : World F) (q : RequestFields) (p : ℕ) (bs : List ℕ) → length (normal_lines w q p bs) ≡ 2 * length bs + 1
+lines_length : {F : Type 0} (w : World F) (ask : Happening) (p : ℕ) (bs : List ℕ) → length (normal_lines w ask p bs) ≡ 2 * length bs + 1
 unfolding normal_lines
-lines_length w q p bs = let rest = rounds_length p (length w.sent) (length w.sent + (w.n - 1)) bs in omega (arith, rest)
+lines_length w ask p bs = let rest = rounds_length p (length w.sent) (length w.sent + (w.n - 1)) bs in omega (arith, rest)
 
 module _ {F : Type 0} (hz : Hazards F) (w : World F) (q : RequestFields) (p : ℕ) (bs : List ℕ) (l : IsLevel hz.setting.hash w p bs) (new : IsNew q l.replica)
     (may : MayStore (next_entry hz.setting.hash q l.replica) l.replica)
     (said : (g : F) (o : Output) (slot : ℕ) → hz.setting.entry (hz.setting.after g (Say o)) slot ≡ hz.setting.entry g slot)
     (back : (again : Bool) → hz.setting.entry (hz.setting.after l.disk (Write again (next_entry hz.setting.hash q l.replica))) ((next_entry hz.setting.hash q l.replica).header.op % 64) ≡ Some (next_entry hz.setting.hash q l.replica))
-    (few : w.n ≤ 6) where
+    (few : w.n ≤ 6) (ask : Happening) (is_ask : IsAsk p q ask) where
   abbrev s : Setting F
   s = hz.setting
 
@@ -99,19 +100,35 @@ module _ {F : Type 0} (hz : Hazards F) (w : World F) (q : RequestFields) (p : �
   makes : react (event.Request q) s old l.disk ≡ make e s old l.disk
   makes = request_makes s q old l.disk l.runs.awake l.leads new
 
-  asked : happens hz w (Asks p q) ≡ with_member w p (acted hz l.disk (make e s old l.disk))
-  asked = steps_at hz w p old l.disk (event.Request q) l.runs.member ∙ ap (λ (x : Step). with_member w p (acted hz l.disk x)) makes
+  steps_so : happens hz w (Asks p q) ≡ with_member w p (acted hz l.disk (react (event.Request q) s old l.disk))
+  steps_so = steps_at hz w p old l.disk (event.Request q) l.runs.member
+
+  same_request : in_version (version old) q ≡ q
+  same_request = let same = new.of_version in let m : max q.version (version old) ≡ q.version = omega (arith, same) in ap (λ (v : ℕ). record q { version = v }) m
+
+  -- in the version of its file it is the same request
+  steps_in_version : happens hz w (AsksInVersion p q) ≡ with_member w p (acted hz l.disk (react (event.Request q) s old l.disk))
+  unfolding at_member
+  steps_in_version =
+      ap (λ (o : Option (Host F)). option_map_or (λ m. with_member w p (asks hz q p m)) o (nothing w)) l.runs.member
+      ∙ ap (λ (x : RequestFields). with_member w p (acted hz l.disk (react (event.Request x) s old l.disk))) same_request
+
+  asked : happens hz w ask ≡ with_member w p (acted hz l.disk (make e s old l.disk))
+  asked = elim is_ask [
+    | inl is ↦ ap (happens hz w) is ∙ steps_so
+    | inr is ↦ ap (happens hz w) is ∙ steps_in_version
+  ] ∙ ap (λ (x : Step). with_member w p (acted hz l.disk x)) makes
 
   abbrev lines : List Happening
   lines = answering.rounds p (length w.sent) (length w.sent + (w.n - 1)) bs
 
-  contains_first : Contains (happens hz w (Asks p q)).outputs told → Contains (happen hz w (normal_lines w q p bs)).outputs told
+  contains_first : Contains (happens hz w ask).outputs told → Contains (happen hz w (normal_lines w ask p bs)).outputs told
   unfolding happen normal_lines
-  contains_first there = Contains-append_left (happens hz w (Asks p q)).outputs (happen hz (happens hz w (Asks p q)).world lines).outputs told there
+  contains_first there = Contains-append_left (happens hz w ask).outputs (happen hz (happens hz w ask).world lines).outputs told there
 
-  contains_rest : Contains (happen hz (happens hz w (Asks p q)).world lines).outputs told → Contains (happen hz w (normal_lines w q p bs)).outputs told
+  contains_rest : Contains (happen hz (happens hz w ask).world lines).outputs told → Contains (happen hz w (normal_lines w ask p bs)).outputs told
   unfolding happen normal_lines
-  contains_rest there = Contains-append_right (happens hz w (Asks p q)).outputs (happen hz (happens hz w (Asks p q)).world lines).outputs told there
+  contains_rest there = Contains-append_right (happens hz w ask).outputs (happen hz (happens hz w ask).world lines).outputs told there
 
   -- ---- where that is a quorum already
 
@@ -120,7 +137,7 @@ module _ {F : Type 0} (hz : Hazards F) (w : World F) (q : RequestFields) (p : �
   said_last effect es ds there =
       Contains-append_right (output_of effect) (outputs (es ++ ds)) told (subst (λ os. Contains os told) (sym (outputs_append es ds)) (Contains-append_right (outputs es) (outputs ds) told there))
 
-  at_once : has_quorum made op ≡ true → Contains (happens hz w (Asks p q)).outputs told
+  at_once : has_quorum made op ≡ true → Contains (happens hz w ask).outputs told
   at_once many =
       let said_it = advance_answers s q old l.leads new.fresh [] made disk stands many in
       let all = said_last (writes e old) (map Say (making.prepares s q old l.leads l.runs.sound l.disk said back)) (making.advances s q old l.leads l.runs.sound l.disk said back).script said_it in
@@ -193,14 +210,14 @@ module _ {F : Type 0} (hz : Hazards F) (w : World F) (q : RequestFields) (p : �
         enough = let k : ℕ = replication old.n in let all : k ≤ length bs + 1 = subst (λ j. replication j ≤ length bs + 1) (sym size) enough in omega (arith, all);
       }
 
-  later : has_quorum made op ≡ false → Contains (happen hz (happens hz w (Asks p q)).world lines).outputs told
+  later : has_quorum made op ≡ false → Contains (happen hz (happens hz w ask).world lines).outputs told
   later too_few =
       let waits = rounds.waits_then hz q old p w.n (length w.sent) l.leads l.runs.sound new.fresh new.of_group l.runs.awake l.runs.index l.runs.size low few [] made disk stands too_few in
       let step = asked ∙ ap (λ (x : Step). with_member w p (acted hz l.disk x)) (making.make_waits s q old l.leads l.runs.sound l.disk said back waits) in
       subst (λ (h : Happened F). Contains (happen hz h.world lines).outputs told) (sym step)
       (rounds_answer hz q old p w.n (length w.sent) l.leads l.runs.sound new.fresh new.of_group l.runs.awake l.runs.index l.runs.size low few bs [] after (length w.sent + (w.n - 1)) (midst too_few))
 
-  pub answered : Contains (happen hz w (normal_lines w q p bs)).outputs told
+  pub answered : Contains (happen hz w (normal_lines w ask p bs)).outputs told
   answered = elim (cases_Bool (has_quorum made op)) [
     | inl many ↦ contains_first (at_once many)
     | inr too_few ↦ contains_rest (later too_few)
@@ -219,7 +236,7 @@ unfolding next_entry
 made_version q r v same takes = subst (λ k. k ≤ by_version v 1 2) (sym same) takes
 
 pub requests_are_answered : RequestsAreAnswered
-requests_are_answered w q p bs l new long takes =
+requests_are_answered w q ask p bs is_ask l new long takes =
     let old = l.replica in
     let lead = l.leads in
     let level = lead.level in
@@ -231,4 +248,4 @@ requests_are_answered w q p bs l new long takes =
     let version_is : e.header.version ≤ by_version l.disk.version 1 2 = made_version q old l.disk.version new.of_version takes in
     let size = l.runs.size in
     let six = size_few old l.runs.sound in
-    (lines_length w q p bs, answered hazards w q p bs l new may (λ g o slot. refl) (λ again. written_reads l.disk again e long whole version_is) (omega (arith, size, six)))
+    (lines_length w ask p bs, answered hazards w q p bs l new may (λ g o slot. refl) (λ again. written_reads l.disk again e long whole version_is) (omega (arith, size, six)) ask is_ask)

@@ -28,10 +28,10 @@ use Rattle.vr_world.specs.Lying.{Lying, blank_lying, hazards, lying, zero_cell}
 use Rattle.vr_world.specs.Opening.{IsKind, blank, first_value, fresh}
 use Rattle.vr_world.specs.Replica.{Replica, ackers_at, head, part_at, replication, version}
 use Rattle.vr_world.specs.Sound.{IsSound}
-use Rattle.vr_world.specs.World.{World, fresh_host, fresh_world, happen}
+use Rattle.vr_world.specs.World.{Happening, World, fresh_host, fresh_world, happen}
 use Rattle.law_10_progress.proofs.Answering.{requests_are_answered}
 use Rattle.law_10_progress.proofs.Lists.{All-each, got_map, row_at}
-use Rattle.law_10_progress.specs.Answering.{AreDistinct, FollowsLevel, HasBackup, IsLevel, IsNew, LeadsLevel, NewGroupsAnswer, Runs, answer as answer_to, normal_lines}
+use Rattle.law_10_progress.specs.Answering.{AreDistinct, FollowsLevel, HasBackup, IsAsk, IsLevel, IsNew, LeadsLevel, NewGroupsAnswer, Runs, answer as answer_to, normal_lines}
 
 -- ---- a row of numbers
 
@@ -143,9 +143,10 @@ module _ (kind : Kind) (n : ℕ) (is : IsKind kind) (least : least_members kind.
   long : length (hazards.formatted kind 0 n 0).face.cells ≡ sectors_count
   long = length_after_all (format_calls kind 0 n 0) (blank_lying kind.version).face ∙ length-replicate sectors_count zero_cell
 
-  pub answers : (q : RequestFields) → IsMessage (frame.Request q) → q.version ≡ kind.version → q.cluster ≡ 0 → q.request ≡ 0
-      → Contains (happen hazards w (normal_lines w q 0 (range_with_len 1 (replication n - 1)))).outputs (answer_to lying.hash q (new 0))
-  answers q form v group first = (requests_are_answered w q 0 (range_with_len 1 (replication n - 1)) level (is_new q form v group first) long new_version).1
+  pub answers : (q : RequestFields) (ask : Happening) → IsAsk 0 q ask → IsMessage (frame.Request q) → q.version ≡ kind.version → q.cluster ≡ 0 → q.request ≡ 0
+      → Contains (happen hazards w (normal_lines w ask 0 (range_with_len 1 (replication n - 1)))).outputs (answer_to lying.hash q (new 0))
+  unfolding level blank
+  answers q ask is_ask form v group first = (requests_are_answered w q ask 0 (range_with_len 1 (replication n - 1)) is_ask level (is_new q form v group first) long new_version).1
 
 pub new_groups_answer : NewGroupsAnswer
-new_groups_answer kind n q is least most form v group first = answers kind n is least most q form v group first
+new_groups_answer kind n q ask is least most is_ask form v group first = answers kind n is least most q ask is_ask form v group first

@@ -149,12 +149,12 @@ module _ (kind : Kind) (is : IsKind kind) where
     }
 
     begins : try s r g ≡ begin_view (stated r) (chosen_log r (stated r) []) s r g
-    unfolding entered blank
+    unfolding entered blank whole
     begins =
         let end : (headers : List Header) → choice q (stated r) ≡ Ends headers → [] ≡ headers = λ headers e. let same : Ends [] ≡ Ends headers = sym chosen ∙ e in cc in
         let x = whole_quorums_begin s g members kind.version 0 3 q rs whole heard (both (Contains rs) (0, omega arith, refl) (1, omega arith, refl)) (1, omega arith, refl) leads fresh_one told
         (λ headers e. subst (λ hs. is_chain s.hash hs ≡ true) (end headers e) (empty_chain s.hash)) in
-        subst (λ hs. try s r g ≡ begin_view (stated r) (chosen_log r (stated r) hs) s r g) (sym (end x.0 x.1.0)) x.1.1
+        subst (λ hs. try s r g ≡ begin_view (stated r) (chosen_log r (stated r) hs) s r g) (sym (end x.0 x.1)) x.2
       where
         leads : is_primary r ≡ true
         leads = refl

@@ -1,5 +1,5 @@
 -- The normal case: a group of which a primary and enough backups have nothing behind, and the lines by which it answers a request.
-use Rattle.std.specs.Prelude.{ℕ, ◌+◌, ◌-◌, ◌*◌, ◌<◌, ◌≤◌, ◌≡◌, ◌≢◌, ⊤, true, false, nat_lt, List, [], ◌∷◌, length, slice_get, All, Contains, Some, None, if◌then◌else◌}
+use Rattle.std.specs.Prelude.{ℕ, ◌+◌, ◌-◌, ◌*◌, ◌<◌, ◌≤◌, ◌≡◌, ◌≢◌, ◌⊎◌, ⊤, true, false, nat_lt, List, [], ◌∷◌, length, slice_get, All, Contains, Some, None, if◌then◌else◌}
 use Rattle.std.specs.List.{range_with_len}
 use Rattle.vr_base.specs.Groups.{least_members}
 use Rattle.vr_base.specs.Replicas.{no_replicas}
@@ -22,7 +22,7 @@ use Rattle.vr_world.specs.Opening.{IsKind, fresh}
 use Rattle.vr_world.specs.Replica.{Replica, ackers_at, head, head_header, is_frozen, replication, version, window_end}
 use Rattle.vr_world.specs.Rules.{asker_by, next_entry}
 use Rattle.vr_world.specs.Sound.{IsSound}
-use Rattle.vr_world.specs.World.{Arrives, Asks, Happening, World, fresh_world, happen}
+use Rattle.vr_world.specs.World.{Arrives, Asks, AsksInVersion, Happening, World, fresh_world, happen}
 
 -- ---- the members
 
@@ -99,9 +99,13 @@ unfoldable pub rounds : ℕ → ℕ → ℕ → List ℕ → List Happening
 rounds p first next [] = []
 rounds p first next (b ∷ bs) = Arrives (first + place_beside p b) ∷ Arrives next ∷ rounds p first (next + 1) bs
 
--- a client asks the primary; then the deliveries, of two messages for each backup. No clock ticks.
-unfoldable pub normal_lines : {F : Type 0} → World F → RequestFields → ℕ → List ℕ → List Happening
-normal_lines w q p backups = Asks p q ∷ rounds p (length w.sent) (length w.sent + (w.n - 1)) backups
+-- a client asks this member for it
+abbrev pub IsAsk : ℕ → RequestFields → Happening → Type 0
+IsAsk p q line = (line ≡ Asks p q) ⊎ (line ≡ AsksInVersion p q)
+
+-- the line by which it asks the primary; then the deliveries, of two messages for each backup. No clock ticks.
+unfoldable pub normal_lines : {F : Type 0} → World F → Happening → ℕ → List ℕ → List Happening
+normal_lines w ask p backups = ask ∷ rounds p (length w.sent) (length w.sent + (w.n - 1)) backups
 
 -- ---- the law
 
@@ -123,15 +127,15 @@ answer hash q r =
 -- sectors, with a file that takes entries of its version.
 abbrev pub RequestsAreAnswered : Type 0
 RequestsAreAnswered =
-    (w : World Lying) (q : RequestFields) (p : ℕ) (backups : List ℕ) (l : IsLevel lying.hash w p backups) → IsNew q l.replica
+    (w : World Lying) (q : RequestFields) (ask : Happening) (p : ℕ) (backups : List ℕ) → IsAsk p q ask → (l : IsLevel lying.hash w p backups) → IsNew q l.replica
     → length l.disk.face.cells ≡ sectors → version l.replica ≤ by_version l.disk.version 1 2
-    → (length (normal_lines w q p backups) ≡ 2 * length backups + 1) × Contains (happen hazards w (normal_lines w q p backups)).outputs (answer lying.hash q l.replica)
+    → (length (normal_lines w ask p backups) ≡ 2 * length backups + 1) × Contains (happen hazards w (normal_lines w ask p backups)).outputs (answer lying.hash q l.replica)
 
 -- So it is in a new group of every size, on files of either version: the request by which a client begins its first session is answered by the primary
 -- of view 0, with the next replication - 1 members as backups.
 abbrev pub NewGroupsAnswer : Type 0
 NewGroupsAnswer =
-    (kind : Kind) (n : ℕ) (q : RequestFields) → IsKind kind → least_members kind.version ≤ n → n ≤ 6
+    (kind : Kind) (n : ℕ) (q : RequestFields) (ask : Happening) → IsKind kind → least_members kind.version ≤ n → n ≤ 6 → IsAsk 0 q ask
     → IsMessage (frame.Request q) → q.version ≡ kind.version → q.cluster ≡ 0 → q.request ≡ 0
     → let w = fresh_world hazards kind n in
-    Contains (happen hazards w (normal_lines w q 0 (range_with_len 1 (replication n - 1)))).outputs (answer lying.hash q (fresh kind 0 n 0))
+    Contains (happen hazards w (normal_lines w ask 0 (range_with_len 1 (replication n - 1)))).outputs (answer lying.hash q (fresh kind 0 n 0))
