@@ -1,41 +1,35 @@
 -- A request is answered: the primary makes its entry, and then the rounds.
-use Rattle.std.proofs.Common.{arith, ℕ, zero, suc, ◌+◌, ◌-◌, ◌*◌, ◌<◌, ◌≤◌, ◌≡◌, ◌≢◌, ◌∙◌, inl, inr, refl, sym, ap, subst, Bool, true, false, List, [], ◌∷◌, ◌++◌, length, map, Option, Some, None, ◌%◌}
-use Rattle.std.specs.Prelude.{All, Contains, max, nat_le, nat_lt, slice_get}
+use Rattle.std.proofs.Common.{arith, ℕ, ◌+◌, ◌-◌, ◌*◌, ◌<◌, ◌≤◌, ◌≡◌, ◌∙◌, inl, inr, refl, sym, ap, subst, Bool, true, false, List, [], ◌∷◌, ◌++◌, length, map, Option, Some, None, ◌%◌}
+use Rattle.std.specs.Prelude.{Contains, max, nat_le, nat_lt, slice_get}
 use Rattle.std.specs.Option.{option_map_or}
-use Rattle.std.proofs.lemmas.Bool.{and_parts, cases_Bool, cases_lt, leb-true, ltb-false, lt-ltb, or_parts}
+use Rattle.std.proofs.lemmas.Bool.{and_parts, cases_Bool, leb-true, ltb-false, or_parts}
 use Rattle.std.proofs.lemmas.List.{length-append, length-map}
-use Rattle.std.proofs.lemmas.List.Elements.{All-contains, All-nil, Contains-append_left, Contains-append_right}
+use Rattle.std.proofs.lemmas.List.Elements.{All-contains, Contains-append_left, Contains-append_right}
 use Rattle.vr_base.specs.Versions.{by_version}
 use Rattle.vr_header.specs.Made.{Whole}
 use Rattle.vr_msg.specs.declared.event.Event.TheVariants as event
-use Rattle.vr_msg.specs.declared.frame.Frame.TheVariants as frame
 use Rattle.vr_msg.specs.declared.output.Output.{Output}
 use Rattle.vr_msg.specs.declared.output.Sent.{Sent}
 use Rattle.vr_msg.specs.declared.request.RequestFields.{RequestFields}
-use Rattle.vr_rings.specs.Slots.{IsWhole}
 use Rattle.vr_world.proofs.FitLies.{lies_fit}
 use Rattle.vr_world.proofs.FitSteps.{whole_next}
 use Rattle.vr_world.proofs.Reacting.{may_store_next}
 use Rattle.vr_world.proofs.SendsScripts.{outputs_append}
 use Rattle.vr_world.proofs.Storing.{MayStore}
-use Rattle.vr_world.specs.Laws.{IsMessage}
-use Rattle.vr_world.specs.Lying.{Lying, hazards, lying}
-use Rattle.vr_world.specs.Outputs.{messages, others, prepare}
-use Rattle.vr_world.specs.Replica.{Replica, forgetting, head, is_frozen, is_spent, last_view, replication, version, with_part}
+use Rattle.vr_world.specs.Lying.{hazards, lying}
+use Rattle.vr_world.specs.Outputs.{others, prepare}
+use Rattle.vr_world.specs.Replica.{Replica, is_frozen, is_spent, last_view, replication, version}
 use Rattle.vr_world.specs.Rules.{make, next_entry, react}
 use Rattle.vr_world.specs.Sound.{IsSound}
 use Rattle.vr_world.specs.Steps.{Effect, Say, Setting, Step, Write, after_all, output_of, outputs}
-use Rattle.vr_world.specs.Words.{advance, entry_of, has_quorum, stored, writes}
-use Rattle.vr_world.specs.World.{Acted, Arrives, Asks, AsksInVersion, Happened, Happening, Hazards, Host, World, asks, at_member, happen, happens, in_version, nothing, with_member}
-use Rattle.law_10_progress.proofs.Backup as backup
+use Rattle.vr_world.specs.Words.{has_quorum, stored, writes}
+use Rattle.vr_world.specs.World.{Asks, AsksInVersion, Happened, Happening, Hazards, Host, World, asks, at_member, happen, happens, in_version, nothing, with_member}
 use Rattle.law_10_progress.proofs.Lists.{All-each, but_at, but_length, got_map, got_other, got_right, got_set}
 use Rattle.law_10_progress.proofs.Making as making
 use Rattle.law_10_progress.proofs.Making.{sent_to}
-use Rattle.law_10_progress.proofs.Mute.{sends}
 use Rattle.law_10_progress.proofs.Rounds as rounds
 use Rattle.law_10_progress.proofs.Rounds.{Midst, acted, rounds_answer, steps_at}
 use Rattle.law_10_progress.proofs.Ruling.{request_makes}
-use Rattle.law_10_progress.proofs.Standing as standing
 use Rattle.law_10_progress.proofs.Standing.{Stands, advance_answers}
 use Rattle.law_10_progress.proofs.Writing.{written_reads}
 use Rattle.law_10_progress.specs.Answering as answering

@@ -1,5 +1,5 @@
 -- A backup with nothing behind takes the prepare, and sends its acknowledgement alone.
-use Rattle.std.proofs.Common.{arith, ℕ, ◌+◌, ◌<◌, ◌≤◌, ◌≡◌, ◌≢◌, ◌∙◌, refl, sym, ap, false, List, [], ◌∷◌, ◌++◌, map}
+use Rattle.std.proofs.Common.{arith, ℕ, ◌<◌, ◌≡◌, ◌≢◌, ◌∙◌, refl, sym, ap, false, List, [], ◌∷◌, ◌++◌, map}
 use Rattle.vr_header.specs.declared.header.Header.{Header}
 use Rattle.vr_header.specs.Made.{Whole}
 use Rattle.vr_header.specs.Names.{name_by}
@@ -11,11 +11,11 @@ use Rattle.vr_msg.specs.declared.frame.PrepareOk.{PrepareOk}
 use Rattle.vr_msg.specs.declared.output.Output.{Output}
 use Rattle.vr_msg.specs.declared.output.Sent.{Sent}
 use Rattle.vr_msg.specs.declared.request.RequestFields.{RequestFields}
-use Rattle.vr_world.specs.Outputs.{messages, prepare, prepare_ok, send_to, to_primary}
-use Rattle.vr_world.specs.Replica.{Replica, forgetting, head, is_frozen, version, with_part}
+use Rattle.vr_world.specs.Outputs.{messages, prepare_ok, to_primary}
+use Rattle.vr_world.specs.Replica.{Replica, forgetting, is_frozen, version, with_part}
 use Rattle.vr_world.specs.Rules.{acknowledge, next_entry, react}
 use Rattle.vr_world.specs.Sound.{IsSound}
-use Rattle.vr_world.specs.Steps.{Effect, Say, Setting, Step, Word, ◌⨾◌, after_all, change, does, outputs, says}
+use Rattle.vr_world.specs.Steps.{Say, Setting, Step, Word, ◌⨾◌, after_all, change, does, outputs, says}
 use Rattle.vr_world.specs.Words.{learn, rested, stored, write, writes}
 use Rattle.law_10_progress.proofs.Making.{sent_to}
 use Rattle.law_10_progress.proofs.Mute.{Mute, mute_learn, sends, sends_append, sends_said}

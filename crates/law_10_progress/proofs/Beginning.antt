@@ -1,6 +1,6 @@
 -- A new group has nothing behind, and answers.
-use Rattle.std.proofs.Common.{arith, ℕ, zero, suc, ◌+◌, ◌-◌, ◌<◌, ◌≤◌, ◌≡◌, ◌≢◌, ◌∙◌, inl, inr, refl, sym, ap, subst, Bool, true, false, cond, ◌==◌, List, [], ◌∷◌, length, get_or, map, Option, Some, None, ◌%◌}
-use Rattle.std.specs.Prelude.{All, Contains, IfSome, slice_get}
+use Rattle.std.proofs.Common.{arith, ℕ, zero, suc, ◌+◌, ◌-◌, ◌<◌, ◌≤◌, ◌≡◌, ◌∙◌, inl, inr, refl, sym, ap, subst, Bool, true, cond, List, length, Some, None}
+use Rattle.std.specs.Prelude.{Contains, IfSome, slice_get}
 use Rattle.std.specs.List.{range_with_len}
 use Rattle.std.specs.Option.{option_map_or}
 use Rattle.std.proofs.Math.Nat.{mod-eq_of_lt}
@@ -25,9 +25,8 @@ use Rattle.vr_world.specs.Deciding.{session_answer}
 use Rattle.vr_world.specs.Formatting.{format_calls}
 use Rattle.vr_world.specs.Laws.{IsMessage}
 use Rattle.vr_world.specs.Lying.{Lying, blank_lying, hazards, lying, zero_cell}
-use Rattle.vr_world.specs.Opening.{IsKind, blank, first_value, fresh}
+use Rattle.vr_world.specs.Opening.{IsKind, blank, fresh}
 use Rattle.vr_world.specs.Replica.{Replica, ackers_at, head, part_at, replication, version}
-use Rattle.vr_world.specs.Sound.{IsSound}
 use Rattle.vr_world.specs.World.{Happening, World, fresh_host, fresh_world, happen}
 use Rattle.law_10_progress.proofs.Answering.{requests_are_answered}
 use Rattle.law_10_progress.proofs.Lists.{All-each, got_map, row_at}
@@ -110,17 +109,17 @@ module _ (kind : Kind) (n : ℕ) (is : IsKind kind) (least : least_members kind.
     runs = runs 0 (omega (arith, some));
     leads = leads_level;
     follow = All-each (HasBackup lying.hash w 0 (new 0)) (range_with_len 1 (replication n - 1)) (λ i there.
-    let row = row_in 1 (replication n - 1) i there in
-    let low = row.0 in
-    let high = row.1 in
-    let fits = quorum_fits n in
-    record {
-      other = λ e. omega (arith, e, low);
-      replica = new i;
-      disk = hazards.formatted kind 0 n i;
-      runs = runs i (omega (arith, low, high, fits));
-      follows = follows_level lying.hash i;
-    });
+        let row = row_in 1 (replication n - 1) i there in
+        let low = row.0 in
+        let high = row.1 in
+        let fits = quorum_fits n in
+        record {
+          other = λ e. omega (arith, e, low);
+          replica = new i;
+          disk = hazards.formatted kind 0 n i;
+          runs = runs i (omega (arith, low, high, fits));
+          follows = follows_level lying.hash i;
+        });
     distinct = row_apart 1 (replication n - 1);
     enough = let long = length-range_with_len 1 (replication n - 1) in omega (arith, long);
   }

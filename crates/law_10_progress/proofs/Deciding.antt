@@ -1,5 +1,5 @@
 -- From members that are in no doubt above their greatest checkpoint the choice doesn't wait: each of them denies the first op that isn't intact.
-use Rattle.std.proofs.Common.{arith, ℕ, zero, suc, ◌+◌, ◌-◌, ◌≤◌, ◌<◌, ◌≡◌, ◌∙◌, inl, inr, refl, sym, ap, subst, Bool, true, false, cond, ◌==◌, List, [], ◌∷◌, length, map, get_or, Option, Some, None}
+use Rattle.std.proofs.Common.{arith, ℕ, ◌+◌, ◌-◌, ◌≤◌, ◌<◌, ◌≡◌, ◌∙◌, refl, sym, ap, subst, Bool, true, false, cond, ◌==◌, List, [], ◌∷◌, length, Option, Some, None}
 use Rattle.std.specs.Prelude.{All, Contains, IfSome, count_by, not}
 use Rattle.std.proofs.lemmas.Bool.{both_ways, eqb-true, le-leb, le-ltb}
 use Rattle.std.proofs.lemmas.List.Elements.{All-cons, All-contains, All-head, All-map, All-nil, All-tail, All-weaker}
@@ -18,14 +18,13 @@ use Rattle.vr_header.specs.Same.{same_header}
 use Rattle.vr_header.specs.declared.header.Header.{Header}
 use Rattle.vr_header.specs.declared.part.Part.{Part}
 use Rattle.vr_header.specs.declared.part.Part.TheVariants.{Here, Lost, Wanted, Unknown, Nothing}
-use Rattle.vr_msg.specs.Choice.{choice, denials, denies, denies_as_newest, denies_as_older, denies_by, denies_named, intact, intact_by, is_here, log_headers, named, row_end, stated_header, stated_part, top_commit, top_view}
+use Rattle.vr_msg.specs.Choice.{choice, denials, denies, denies_as_newest, denies_as_older, intact, intact_by, is_here, log_headers, named, row_end, stated_header, stated_part, top_commit, top_view}
 use Rattle.vr_msg.specs.Logs.{header_of}
-use Rattle.vr_msg.specs.declared.choice.Choice.TheVariants.{Ends}
 use Rattle.vr_msg.specs.declared.statement.Statement.{Statement}
-use Rattle.vr_world.proofs.Stating.{given, given_at, run_of}
+use Rattle.vr_world.proofs.Stating.{given_at, run_of}
 use Rattle.vr_world.specs.Replica.{Replica, part_at, run_start, statement_of}
 use Rattle.vr_world.specs.Sound.{IsSound}
-use Rattle.law_10_progress.specs.Deciding.{AreHeard, SureQuorumsDecide, statements}
+use Rattle.law_10_progress.specs.Deciding.{SureQuorumsDecide, statements}
 use Rattle.law_10_progress.specs.Whole.{IsMemberOf, IsSure, is_in_doubt, top_checkpoint}
 
 -- ---- what a statement says of an op is what its replica knows of it

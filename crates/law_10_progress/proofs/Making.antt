@@ -1,5 +1,5 @@
 -- The entry of a request is made and stored, and acknowledgements of it are counted.
-use Rattle.std.proofs.Common.{arith, ℕ, zero, suc, ◌+◌, ◌-◌, ◌<◌, ◌≤◌, ◌≡◌, ◌≢◌, ◌∙◌, inl, inr, refl, sym, ap, subst, Bool, true, false, cond, List, [], ◌∷◌, ◌++◌, length, drop, get_or, map, set, Option, Some, None, ◌%◌, append-nil}
+use Rattle.std.proofs.Common.{arith, ℕ, ◌+◌, ◌-◌, ◌<◌, ◌≤◌, ◌≡◌, ◌∙◌, inl, inr, refl, sym, ap, subst, Bool, true, cond, List, [], ◌∷◌, ◌++◌, length, get_or, map, Option, Some, None, ◌%◌, append-nil}
 use Rattle.std.specs.Prelude.{All}
 use Rattle.std.specs.Option.{option_and_then}
 use Rattle.std.proofs.lemmas.Bool.{cases_eq}
@@ -27,7 +27,7 @@ use Rattle.vr_world.specs.Replica.{Replica, ackers_at, forgetting, head, knows, 
 use Rattle.vr_world.specs.Rules.{acknowledged, make, next_entry}
 use Rattle.vr_world.specs.Sound.{IsSound}
 use Rattle.vr_world.specs.Steps.{Effect, Say, Setting, Step, Write, ◌⨾◌, after_all, change, does, outputs, says}
-use Rattle.vr_world.specs.Words.{advance, entry_of, has_quorum, stored, write, writes}
+use Rattle.vr_world.specs.Words.{advance, entry_of, stored, write, writes}
 use Rattle.law_10_progress.proofs.Lists.{has_new, has_old, with_flags}
 use Rattle.law_10_progress.proofs.Mute.{sends, sends_said}
 use Rattle.law_10_progress.proofs.Standing as standing

@@ -1,5 +1,5 @@
 -- Two members of a new group of three that have entered view 1 are whole together, and the primary of view 1 begins.
-use Rattle.std.proofs.Common.{arith, ℕ, zero, suc, ◌+◌, ◌-◌, ◌<◌, ◌≤◌, ◌≡◌, ◌∙◌, inl, inr, refl, sym, ap, subst, Bool, true, false, cond, ◌==◌, List, [], ◌∷◌, length, get_or, map, replicate, Option, Some, None}
+use Rattle.std.proofs.Common.{arith, ℕ, zero, suc, ◌-◌, ◌<◌, ◌≤◌, ◌≡◌, ◌∙◌, inl, inr, refl, sym, ap, subst, Bool, true, false, cond, List, [], ◌∷◌, get_or, replicate, Some, None}
 use Rattle.std.specs.Prelude.{All, Contains, nat_lt}
 use Rattle.std.proofs.lemmas.Bool.{cases_eq, cases_lt, eq-eqb, lt-ltb, ne_eqb}
 use Rattle.std.proofs.lemmas.List.Elements.{All-cons, All-contains, All-map, All-nil}
@@ -26,7 +26,7 @@ use Rattle.vr_world.specs.Words.{begin_view, chosen_log, entered, is_chain, stat
 use Rattle.law_10_progress.proofs.Deciding.{stated_at, stated_first}
 use Rattle.law_10_progress.proofs.Trying.{whole_quorums_begin}
 use Rattle.law_10_progress.specs.Deciding.{ANewQuorumBegins, AreHeard, candidate, stater, statements}
-use Rattle.law_10_progress.specs.Whole.{HasItsCheckpoint, Holder, IsMemberOf, IsSure, IsWhole, KnowsItsCheckpoint, ReadsAbove, is_in_doubt}
+use Rattle.law_10_progress.specs.Whole.{Holder, IsMemberOf, IsSure, IsWhole, ReadsAbove, is_in_doubt}
 
 -- ---- nothing is known
 
@@ -113,7 +113,7 @@ module _ (kind : Kind) (is : IsKind kind) where
     quorums = refl;
     enough = omega arith;
     members = both (IsMemberOf kind.version 0 3) (record { sound = sound_entered 0 (omega arith); of_version = refl; of_group = refl; of_size = refl })
-      (record { sound = sound_candidate; of_version = refl; of_group = refl; of_size = refl });
+        (record { sound = sound_candidate; of_version = refl; of_group = refl; of_size = refl });
     agree = agree;
   }
 

@@ -1,5 +1,5 @@
 -- The lines of the normal case, one backup after the other.
-use Rattle.std.proofs.Common.{arith, ℕ, zero, suc, ◌+◌, ◌-◌, ◌<◌, ◌≤◌, ◌≡◌, ◌≢◌, ◌∙◌, inl, inr, refl, sym, ap, subst, Bool, true, false, List, [], ◌∷◌, ◌++◌, length, map, set, Option, Some, None, ◌%◌}
+use Rattle.std.proofs.Common.{arith, ℕ, ◌+◌, ◌<◌, ◌≤◌, ◌≡◌, ◌≢◌, ◌∙◌, inl, inr, refl, sym, ap, subst, true, false, List, [], ◌∷◌, ◌++◌, length, Option, Some, None, ◌%◌}
 use Rattle.std.specs.Prelude.{All, Contains, slice_get}
 use Rattle.std.specs.Cmp.Derive.{both_true}
 use Rattle.std.specs.Option.{option_map_or}
@@ -8,8 +8,6 @@ use Rattle.std.proofs.lemmas.Bool.{cases_Bool, eq-eqb, true≢false}
 use Rattle.std.proofs.lemmas.List.{append-nil, length-append}
 use Rattle.std.proofs.lemmas.List.Elements.{All-contains, All-head, All-tail, Contains-append_left, Contains-append_right}
 use Rattle.vr_header.specs.Made.{Whole}
-use Rattle.vr_header.specs.Names.{name_by}
-use Rattle.vr_header.specs.declared.header.Header.{Header}
 use Rattle.vr_msg.specs.Logs.{header_of}
 use Rattle.vr_msg.specs.Normal.{primary}
 use Rattle.vr_msg.specs.declared.event.Event.{Event}
@@ -22,7 +20,7 @@ use Rattle.vr_msg.specs.declared.request.RequestFields.{RequestFields}
 use Rattle.vr_ckpt.specs.Asks.{is_fresh}
 use Rattle.vr_world.specs.Deciding.{session_answer}
 use Rattle.vr_world.specs.Outputs.{messages}
-use Rattle.vr_world.specs.Replica.{Replica, head, is_frozen, leads, part_at, replication, version}
+use Rattle.vr_world.specs.Replica.{Replica, is_frozen, leads, part_at, replication, version}
 use Rattle.vr_world.specs.Rules.{acknowledged, next_entry, react}
 use Rattle.vr_world.specs.Sound.{IsSound}
 use Rattle.vr_world.specs.Steps.{Setting, Step, ◌⨾◌, after_all, change, outputs}
@@ -33,9 +31,8 @@ use Rattle.law_10_progress.proofs.Lists.{All-each, contains_cases, contains_tail
 use Rattle.law_10_progress.proofs.Making.{counted_stands, sent_to}
 use Rattle.law_10_progress.proofs.Mute.{sends}
 use Rattle.law_10_progress.proofs.Ruling.{MayCount, ack_counted}
-use Rattle.law_10_progress.proofs.Standing as standing
-use Rattle.law_10_progress.proofs.Standing.{Stands, advance_answers, advance_waits, apart_from, quorum_of}
-use Rattle.law_10_progress.specs.Answering.{AreDistinct, FollowsLevel, HasBackup, LeadsLevel, Runs, answer, place_beside, rounds}
+use Rattle.law_10_progress.proofs.Standing.{Stands, advance_answers, advance_waits, quorum_of}
+use Rattle.law_10_progress.specs.Answering.{AreDistinct, FollowsLevel, HasBackup, LeadsLevel, answer, place_beside, rounds}
 
 module _ {F : Type 0} (hz : Hazards F) where
   -- ---- lines
@@ -256,11 +253,11 @@ module _ {F : Type 0} (hz : Hazards F) where
               (m.new b first_here, m.apart.1),
             );
             prepared = λ c there. subst (λ ys. slice_get ys (first + place_beside p c) ≡ Some (prepare_to c)) (sym sent)
-            (got_left w.sent (sends x1.script) (first + place_beside p c) (prepare_to c) (m.prepared c (contains_tail b rest c there)));
+                (got_left w.sent (sends x1.script) (first + place_beside p c) (prepare_to c) (m.prepared c (contains_tail b rest c there)));
             follow = All-each (HasBackup s.hash w2 p old) rest (λ c there.
-            let hc = All-contains (HasBackup s.hash w p old) rest c (All-tail (HasBackup s.hash w p old) b rest m.follow) there in
-            still_backs w w2 c refl
-            (got_other w1.members p c (host r2 (after_all s m.disk [])) hc.other ∙ got_other w.members b c (host x1.replica (after_all s hb.disk x1.script)) (λ same. m.distinct.0 (subst (Contains rest) same there))) hc);
+                let hc = All-contains (HasBackup s.hash w p old) rest c (All-tail (HasBackup s.hash w p old) b rest m.follow) there in
+                still_backs w w2 c refl
+                (got_other w1.members p c (host r2 (after_all s m.disk [])) hc.other ∙ got_other w.members b c (host x1.replica (after_all s hb.disk x1.script)) (λ same. m.distinct.0 (subst (Contains rest) same there))) hc);
             distinct = m.distinct.1;
             new = λ c there old_one. elim (contains_cases b acked c old_one) [
               | inl same ↦ m.distinct.0 (subst (Contains rest) (sym same) there)

@@ -1,46 +1,37 @@
 -- The primary's state between its prepares and the answer: the entry is stored, and not enough have acknowledged it.
-use Rattle.std.proofs.Common.{arith, ℕ, zero, suc, ◌+◌, ◌-◌, ◌<◌, ◌≤◌, ◌≡◌, ◌≢◌, ◌∙◌, ◌⊎◌, inl, inr, refl, sym, ap, subst, Bool, true, false, cond, ◌&&◌, List, [], ◌∷◌, ◌++◌, length, drop, get_or, map, set, Option, Some, None, ◌%◌}
+use Rattle.std.proofs.Common.{arith, ℕ, zero, suc, ◌+◌, ◌-◌, ◌<◌, ◌≤◌, ◌≡◌, ◌∙◌, refl, sym, ap, subst, Bool, true, false, cond, ◌&&◌, List, [], ◌∷◌, ◌++◌, length, map, Option, Some}
 use Rattle.std.specs.Prelude.{All, Contains, nat_le, nat_lt}
 use Rattle.std.specs.Cmp.Derive.{both_true}
 use Rattle.std.specs.List.{prefix_len, range_with_len}
-use Rattle.std.specs.Option.{option_and_then}
-use Rattle.std.proofs.lemmas.Bool.{cases_eq, eq-eqb, le-leb, lt-ltb, true≢false}
-use Rattle.std.proofs.lemmas.List.{get_or-drop, get_or-set_same}
-use Rattle.std.proofs.lemmas.List.Elements.{All-cons, All-nil, All-weaker, Contains-append_left, Contains-append_right}
-use Rattle.vr_base.specs.Replicas.{has_replica, no_replicas, size, with_replica}
+use Rattle.std.proofs.lemmas.Bool.{eq-eqb, le-leb, lt-ltb}
+use Rattle.std.proofs.lemmas.List.Elements.{All-cons, All-weaker, Contains-append_left, Contains-append_right}
+use Rattle.vr_base.specs.Replicas.{has_replica, size, with_replica}
 use Rattle.vr_base.specs.declared.replicas.Replicas.{Replicas}
 use Rattle.vr_ckpt.specs.Asks.{is_fresh}
 use Rattle.vr_ckpt.specs.Folds as state
 use Rattle.vr_ckpt.specs.SessionAnswer.{SessionAnswer}
 use Rattle.vr_ckpt.specs.SessionAnswer.TheVariants as said
-use Rattle.vr_header.proofs.SameHeaders.{same_header_of}
 use Rattle.vr_header.specs.declared.header.Header.{Header}
 use Rattle.vr_header.specs.declared.part.Part.{Part}
 use Rattle.vr_header.specs.declared.part.Part.TheVariants.{Here, Lost, Wanted, Unknown, Nothing}
 use Rattle.vr_header.specs.Made.{Whole}
-use Rattle.vr_header.specs.Same.{same_header}
 use Rattle.vr_msg.specs.Choice.{ops}
 use Rattle.vr_msg.specs.Normal.{primary}
 use Rattle.vr_msg.specs.declared.output.Output.{Output}
 use Rattle.vr_msg.specs.declared.request.RequestFields.{RequestFields}
 use Rattle.vr_msg.specs.declared.reply.ReplyKind.{ReplyKind}
 use Rattle.vr_msg.specs.declared.reply.ReplyKind.TheVariants as reply
-use Rattle.vr_world.proofs.Heads.{forgetting_at, forgetting_head, gone, head_knows, head_reaches, with_part_at, with_part_other, with_part_spans}
-use Rattle.vr_world.proofs.Keeping.{spans_of}
-use Rattle.vr_world.proofs.Ruling.{keeps_acknowledged}
 use Rattle.vr_world.proofs.SendsScripts.{outputs_append, outputs_said}
-use Rattle.vr_world.proofs.Storing.{MayStore, kept_stored, with_part_known}
 use Rattle.vr_world.specs.Deciding.{session_answer}
 use Rattle.vr_world.specs.Outputs.{applied_reply, asker_of, commit_line, kind_of, replies}
-use Rattle.vr_world.specs.Replica.{Replica, ackers_at, forgetting, head, is_frozen, is_here, knows, leads, part_at, replication, version, with_part}
-use Rattle.vr_world.specs.Rules.{acknowledged, next_entry}
+use Rattle.vr_world.specs.Replica.{Replica, ackers_at, head, is_here, leads, part_at, replication}
+use Rattle.vr_world.specs.Rules.{next_entry}
 use Rattle.vr_world.specs.Sound.{IsSound}
 use Rattle.vr_world.specs.Steps.{Effect, Say, Setting, Step, Word, ◌⨾◌, after_all, by, change, outputs, quiet, reading, says, times, when}
 use Rattle.vr_world.specs.Words as words
-use Rattle.vr_world.specs.Words.{advance, advanced, apply, apply_entry, apply_next, entry_of, has_quorum, is_loaded, or_lost, stored, votes, with_entry, with_entry_at}
-use Rattle.vr_msg.specs.declared.frame.PrepareOk.{PrepareOk}
-use Rattle.law_10_progress.proofs.Lists.{All-each, front_none, front_some, has_new, has_old, size_most, with_flags}
-use Rattle.law_10_progress.specs.Answering.{AreDistinct, IsNew, LeadsLevel, answer}
+use Rattle.vr_world.specs.Words.{advance, advanced, apply, apply_entry, apply_next, entry_of, has_quorum, is_loaded, or_lost, votes, with_entry, with_entry_at}
+use Rattle.law_10_progress.proofs.Lists.{front_none, front_some, has_new, has_old, size_most}
+use Rattle.law_10_progress.specs.Answering.{AreDistinct, LeadsLevel, answer}
 
 -- ---- the entry that is made is stored
 

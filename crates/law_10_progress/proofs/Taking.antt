@@ -1,21 +1,17 @@
 -- A member with the greatest checkpoint may take the log that is chosen.
-use Rattle.std.proofs.Common.{arith, ℕ, zero, suc, ◌+◌, ◌-◌, ◌≤◌, ◌<◌, ◌≡◌, ◌∙◌, ◌⊎◌, inl, inr, refl, sym, ap, subst, Bool, true, false, cond, ◌&&◌, ◌||◌, ◌==◌, List, [], ◌∷◌, length, map, Option, Some, None}
-use Rattle.std.specs.Prelude.{All, Contains, is_some, min, max, nat_le, nat_lt}
+use Rattle.std.proofs.Common.{arith, ℕ, zero, suc, ◌+◌, ◌≤◌, ◌<◌, ◌≡◌, ◌∙◌, ◌⊎◌, inl, inr, refl, sym, ap, subst, Bool, true, false, cond, ◌||◌, ◌==◌, List, [], ◌∷◌, length, Some}
+use Rattle.std.specs.Prelude.{All, Contains, is_some, nat_lt}
 use Rattle.std.specs.List.{find}
-use Rattle.std.specs.Option.{option_map_or}
-use Rattle.std.specs.Cmp.Derive.{both_true}
 use Rattle.std.proofs.lemmas.Bool.{cases_lt, eq-eqb, le-leb, lt-ltb, true≢false}
 use Rattle.std.proofs.lemmas.List.{length-map}
 use Rattle.std.proofs.lemmas.List.Elements.{All-contains, All-head, All-map, All-tail, All-weaker}
-use Rattle.vr_base.specs.declared.table.Quorums.{Quorums}
 use Rattle.vr_choose.proofs.Bounds.{bounded, some_statements}
 use Rattle.vr_choose.proofs.Choices.{choice_meets}
 use Rattle.vr_choose.proofs.Logs.{found}
 use Rattle.vr_choose.proofs.Standing.{headers_stand}
 use Rattle.vr_header.specs.declared.header.Header.{Header}
-use Rattle.vr_header.specs.declared.part.Part.{Part}
-use Rattle.vr_header.specs.declared.part.Part.TheVariants.{Here, Nothing}
-use Rattle.vr_msg.specs.Choice.{IsChoice, IsGap, choice, farthest, log_start, start_of, stated_part, top_commit}
+use Rattle.vr_header.specs.declared.part.Part.TheVariants.{Here}
+use Rattle.vr_msg.specs.Choice.{IsChoice, log_start, stated_part, top_commit}
 use Rattle.vr_msg.specs.Logs.{IsStatement}
 use Rattle.vr_msg.specs.declared.choice.Choice.TheVariants.{Ends}
 use Rattle.vr_msg.specs.declared.statement.Statement.{Statement}
@@ -26,10 +22,10 @@ use Rattle.vr_world.proofs.Trying.{log_end_is}
 use Rattle.vr_world.specs.Replica.{Replica, header_at, head, knows, part_at, run_start, statement_of, version, window_end}
 use Rattle.vr_world.specs.Sound.{IsSound}
 use Rattle.vr_world.specs.Words.{Log, chosen_log, fits, is_chain, is_newer, log_end, may_take}
-use Rattle.law_10_progress.proofs.Deciding.{commit_most, sound_of, stated_at, stated_commit, stated_first, top_low}
+use Rattle.law_10_progress.proofs.Deciding.{commit_most, sound_of, stated_at, stated_commit, stated_first}
 use Rattle.law_10_progress.proofs.Lists.{All-each}
-use Rattle.law_10_progress.specs.Deciding.{AreHeard, FurthestMembersTake, statements}
-use Rattle.law_10_progress.specs.Whole.{IsMemberOf, KnowsItsCheckpoint, top_checkpoint}
+use Rattle.law_10_progress.specs.Deciding.{FurthestMembersTake, statements}
+use Rattle.law_10_progress.specs.Whole.{IsMemberOf, top_checkpoint}
 
 -- ---- what a log is asked
 

@@ -1,6 +1,6 @@
 -- A primary that has heard a quorum that is whole begins its view.
-use Rattle.std.proofs.Common.{arith, ℕ, ◌+◌, ◌≤◌, ◌<◌, ◌≡◌, ◌∙◌, inl, inr, refl, sym, ap, subst, Bool, true, false, cond, ◌&&◌, ◌==◌, List, [], ◌∷◌, map, Option, Some, None}
-use Rattle.std.specs.Prelude.{All, Contains, not}
+use Rattle.std.proofs.Common.{arith, ◌≤◌, ◌<◌, ◌≡◌, ◌∙◌, inl, inr, refl, sym, ap, subst, true, false, List, [], ◌∷◌, Option}
+use Rattle.std.specs.Prelude.{All, Contains}
 use Rattle.std.specs.Option.{option_map_or}
 use Rattle.std.proofs.lemmas.Bool.{cases_eq, eq-eqb, true≢false}
 use Rattle.std.proofs.lemmas.List.Elements.{All-contains, All-head, All-tail}
@@ -8,16 +8,15 @@ use Rattle.vr_base.specs.declared.table.Quorums.{Quorums}
 use Rattle.vr_base.specs.Groups.{quorums_of}
 use Rattle.vr_header.specs.declared.header.Header.{Header}
 use Rattle.vr_msg.specs.Choice.{choice}
-use Rattle.vr_msg.specs.declared.choice.Choice.{Choice}
 use Rattle.vr_msg.specs.declared.choice.Choice.TheVariants.{Ends, TooFew}
 use Rattle.vr_world.specs.Replica.{Replica, is_primary, is_started}
-use Rattle.vr_world.specs.Steps.{Setting, Step, by, naming, quiet, when}
-use Rattle.vr_world.specs.Words.{Log, begin_view, chosen_log, decided, is_chain, may_take, obey_choice, stated, try, try_log}
+use Rattle.vr_world.specs.Steps.{Setting, by, naming}
+use Rattle.vr_world.specs.Words.{begin_view, chosen_log, decided, may_take, stated, try, try_log}
 use Rattle.law_10_progress.proofs.Deciding.{sure_quorums_decide}
 use Rattle.law_10_progress.proofs.Lists.{All-each}
 use Rattle.law_10_progress.proofs.Taking.{furthest_members_take, top_most}
-use Rattle.law_10_progress.specs.Deciding.{AreHeard, Decides, WholeQuorumsBegin, WholeQuorumsDecide, statements}
-use Rattle.law_10_progress.specs.Whole.{Holder, IsMemberOf, IsSure, IsWhole, replicas_of, top_checkpoint}
+use Rattle.law_10_progress.specs.Deciding.{WholeQuorumsBegin, WholeQuorumsDecide}
+use Rattle.law_10_progress.specs.Whole.{IsMemberOf, IsSure, replicas_of, top_checkpoint}
 
 -- the greatest checkpoint of some of them, the furthest one among these, is that of all
 same_top : (all rs : List Replica) (r : Replica) → All (Contains all) rs → Contains rs r → r.checkpoint ≡ top_checkpoint all → top_checkpoint rs ≡ top_checkpoint all

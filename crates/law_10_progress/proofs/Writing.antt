@@ -1,5 +1,5 @@
 -- What is written to a slot reads, on sectors that may lie.
-use Rattle.std.proofs.Common.{arith, ◌≡◌, ◌+◌, ◌-◌, ◌*◌, ◌<◌, ◌≤◌, ◌%◌, refl, ap, ◌∙◌, ℕ, Bool, true, false, cond, eqb, List, [], ◌∷◌, ◌++◌, length, take, replicate, Some}
+use Rattle.std.proofs.Common.{arith, ◌≡◌, ◌-◌, ◌*◌, ◌≤◌, ◌%◌, ap, ◌∙◌, ℕ, Bool, true, false, cond, eqb, ◌++◌, length, take, replicate, Some}
 use Rattle.std.specs.Option.{option_and_then, option_map}
 use Rattle.vr_base.specs.Versions.{by_version}
 use Rattle.vr_disk.specs.DiskState as disk

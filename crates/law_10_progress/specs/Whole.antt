@@ -73,4 +73,4 @@ pub record IsWhole {F : Type 0} (s : Setting F) (members : List (Holder F)) : Ty
   pub known : KnowsItsCheckpoint furthest.replica
   -- none knows an op k + 64, the last of the window above k, or all have checkpoint k
   pub room : All (λ r. knows r (top_checkpoint (replicas_of members) + 64) ≡ false) (replicas_of members)
-    ⊎ All (λ r. r.checkpoint ≡ top_checkpoint (replicas_of members)) (replicas_of members)
+      ⊎ All (λ r. r.checkpoint ≡ top_checkpoint (replicas_of members)) (replicas_of members)
