@@ -1,7 +1,7 @@
 -- From members that are in no doubt above their greatest checkpoint the choice doesn't wait: each of them denies the first op that isn't intact.
 use Rattle.std.proofs.Common.{arith, ℕ, ◌+◌, ◌-◌, ◌≤◌, ◌<◌, ◌≡◌, ◌∙◌, refl, sym, ap, subst, Bool, true, false, cond, ◌==◌, List, [], ◌∷◌, length, Option, Some, None}
 use Rattle.std.specs.Prelude.{All, Contains, IfSome, count_by, not}
-use Rattle.std.proofs.lemmas.Bool.{both_ways, eqb-true, le-leb, le-ltb}
+use Rattle.std.proofs.lemmas.Bool.{both_ways, eqb-true, le-leb, le-ltb, lt-ltb}
 use Rattle.std.proofs.lemmas.List.Elements.{All-cons, All-contains, All-head, All-map, All-nil, All-tail, All-weaker}
 use Rattle.std.proofs.lemmas.List.{length-map}
 use Rattle.std.proofs.lemmas.List.Folds.{list_any-from_Any}
@@ -42,6 +42,9 @@ unfolding statement_of
 stated_at r k h l =
     let place : run_start r + 1 + (k - (run_start r + 1)) ≡ k = omega (arith, l) in
     rw (le-ltb k (run_start r + 1) (omega (arith, l))) (given_at r (k - (run_start r + 1)) h ∙ ap (part_at r) place)
+
+pub before_first : (s : Statement) (k : ℕ) → k < s.body.first → stated_part k s ≡ Nothing
+before_first s k l = rw (lt-ltb k s.body.first l) refl
 
 -- ---- numbers of those heard
 

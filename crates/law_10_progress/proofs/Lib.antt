@@ -12,3 +12,4 @@ mod Writing
 mod Answering
 mod Beginning
 mod NewQuorum
+mod Agreeing

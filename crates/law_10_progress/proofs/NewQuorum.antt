@@ -23,7 +23,7 @@ use Rattle.vr_world.specs.Replica.{Replica, head, is_primary, is_started, knows,
 use Rattle.vr_world.specs.Sound.{IsSound}
 use Rattle.vr_world.specs.Steps.{Setting}
 use Rattle.vr_world.specs.Words.{begin_view, chosen_log, entered, is_chain, stated, try}
-use Rattle.law_10_progress.proofs.Deciding.{stated_at, stated_first}
+use Rattle.law_10_progress.proofs.Deciding.{before_first, stated_at, stated_first}
 use Rattle.law_10_progress.proofs.Trying.{whole_quorums_begin}
 use Rattle.law_10_progress.specs.Deciding.{ANewQuorumBegins, AreHeard, candidate, stater, statements}
 use Rattle.law_10_progress.specs.Whole.{Holder, IsMemberOf, IsSure, IsWhole, ReadsAbove, is_in_doubt}
@@ -50,9 +50,6 @@ states_none r sound e k = elim (cases_lt (run_start r) k) [
   | inl after ↦ ap header_of (stated_at r k sound after ∙ part_none r e k)
   | inr before ↦ ap header_of (before_first (statement_of r) k (let first = stated_first r in omega (arith, first, before)))
 ]
-  where
-    before_first : (s : Statement) (k : ℕ) → k < s.body.first → stated_part k s ≡ Nothing
-    before_first s k l = rw (lt-ltb k s.body.first l) refl
 
 sure : (k : ℕ) (r : Replica) → KnowsNothing r → IsSure k r
 sure k r e = record { each = λ op l. ap is_in_doubt (part_none r e op) }

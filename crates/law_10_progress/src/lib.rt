@@ -2,8 +2,14 @@
 //! the statement, and it does nothing.
 #![tactic(auto)]
 
+ghost use Rattle.law_10_progress.specs.Agreeing.{HeardAgree};
 ghost use Rattle.law_10_progress.specs.Answering.{NewGroupsAnswer, RequestsAreAnswered};
 ghost use Rattle.law_10_progress.specs.Deciding.{ANewQuorumBegins, FurthestMembersTake, SureQuorumsDecide, WholeQuorumsBegin, WholeQuorumsDecide};
+
+/// In every run of a group that was just made, those statements of the greatest log view that a running replica has agree on their headers.
+pub fn heard_agree()
+    ensures { HeardAgree }
+{}
 
 /// A choice of a log from a view-change quorum of whose members none is in doubt of an op above their greatest checkpoint doesn't wait.
 pub fn sure_quorums_decide()
