@@ -1,32 +1,56 @@
 -- The statements that a replica has are of one log a view.
-use Rattle.std.proofs.Common.{arith, ℕ, ◌+◌, ◌<◌, ◌≤◌, ◌≡◌, ◌∙◌, inl, inr, refl, sym, ap, subst, Bool, true, false, cond, ◌==◌, List, [], ◌∷◌, get_or, Option, Some, None}
-use Rattle.std.specs.Prelude.{All, filter_map}
+use Rattle.std.proofs.Common.{arith, ℕ, zero, suc, ◌+◌, ◌-◌, ◌<◌, ◌≤◌, ◌≡◌, ◌∙◌, inl, inr, refl, sym, ap, subst, Bool, true, false, cond, ◌==◌, eqb, List, [], ◌∷◌, length, get_or, Option, Some, None}
+use Rattle.std.specs.Prelude.{All, Contains, filter_map, slice_get}
+use Rattle.std.specs.Cmp.Derive.{both_true}
+use Rattle.std.specs.Option.{option_map_or}
 use Rattle.std.specs.List.{cons_option, range_with_len}
-use Rattle.std.proofs.lemmas.Bool.{cases_lt}
+use Rattle.std.proofs.lemmas.Bool.{cases_eq, cases_lt, eq-eqb, eqb-true, lt-leb, true≢false}
 use Rattle.std.proofs.lemmas.List.Elements.{All-cons, All-contains, All-head, All-nil, All-tail}
+use Rattle.law_1_machine.proofs.Choice.{choice as machine_choice}
+use Rattle.law_1_machine.proofs.Counting.{each_at}
+use Rattle.law_1_machine.proofs.Lasting.{statement_ok}
 use Rattle.law_1_machine.proofs.Moves.{reached_good}
+use Rattle.law_1_machine.specs.Claims.{AllTrue, MayBegin, MemoryOk, StatementOk}
+use Rattle.law_1_machine.specs.Headers.{Headers}
+use Rattle.law_1_machine.specs.Invariant.{Invariant, Tied}
+use Rattle.law_1_machine.specs.Members.{Do_view_change}
 use Rattle.law_1_machine.specs.Group as machine
 use Rattle.law_1_machine.specs.History.{History, InLog}
 use Rattle.law_1_machine.specs.Parts.{header}
+use Rattle.law_2_chains.proofs.Beginning.{own_is, own_tells}
+use Rattle.law_2_chains.proofs.Choosing.{chosen_is, heard_at, source_is, told_some}
 use Rattle.law_2_chains.proofs.Facts.{one_log, true_statements}
 use Rattle.law_2_chains.proofs.Waking.{fresh_runs_so}
 use Rattle.law_2_chains.proofs.Writing.{told_header}
-use Rattle.law_2_chains.specs.Bridge.{Bridges, Follows}
+use Rattle.law_2_chains.specs.Bridge.{Bridges, Follows, IsRunning}
 use Rattle.law_2_chains.specs.Chains.{Setup, statement_told}
+use Rattle.law_2_chains.specs.Choices.{told_if}
 use Rattle.law_2_chains.specs.Reflecting.{entries_by}
+use Rattle.law_2_chains.specs.Tables.{Fits, Tables}
+use Rattle.vr_base.specs.Groups.{quorums_of}
+use Rattle.vr_base.specs.declared.table.Quorums.{Quorums}
 use Rattle.vr_choose.specs.Laws.{NamesAgree}
 use Rattle.vr_header.specs.declared.header.Header.{Header}
-use Rattle.vr_msg.specs.Choice.{stated_header, stated_part, top_view}
+use Rattle.vr_header.specs.Names.{name_by}
+use Rattle.vr_msg.specs.Choice.{choice, named, stated_header, stated_part, top_commit, top_view}
 use Rattle.vr_msg.specs.Logs.{header_of}
+use Rattle.vr_msg.specs.Normal.{same_sum}
+use Rattle.vr_msg.specs.declared.choice.Choice.TheVariants.{Ends}
 use Rattle.vr_msg.specs.declared.statement.Statement.{Statement}
 use Rattle.vr_world.proofs.FitGroups.{groups_fit}
+use Rattle.vr_world.proofs.Trying.{all_stated, chosen_log_is}
 use Rattle.vr_world.specs.Group.{Group, Member, Played}
-use Rattle.vr_world.specs.GroupFit.{IsFitGroup, IsFitPlayed}
-use Rattle.vr_world.specs.Replica.{Replica, is_frozen, part_at, run_start, statement_of}
+use Rattle.vr_world.specs.GroupFit.{IsFitGroup, IsFitPlayed, IsFitReplica}
+use Rattle.vr_world.specs.Lying.{Lying, lying}
+use Rattle.vr_world.specs.Own.{IsAt}
+use Rattle.vr_world.specs.Replica.{Replica, is_frozen, is_primary, is_started, part_at, run_start, statement_of}
 use Rattle.vr_world.specs.Sound.{IsSound}
-use Rattle.vr_world.specs.Words.{stated}
+use Rattle.vr_world.specs.Words.{Log, begin_view, chosen_log, is_chain, is_chain_from, log_header, stated, try}
 use Rattle.law_10_progress.proofs.Deciding.{before_first, stated_at, stated_first}
-use Rattle.law_10_progress.specs.Agreeing.{AllAgree, HeardAgree}
+use Rattle.law_10_progress.proofs.Trying.{whole_quorums_begin}
+use Rattle.law_10_progress.specs.Agreeing.{BeginsByWhole, EachAwake, HearsOneLog, InEachRun}
+use Rattle.law_10_progress.specs.Deciding.{AreHeard, statements}
+use Rattle.law_10_progress.specs.Whole.{Holder, IsMemberOf, IsWhole, replicas_of}
 
 each_kept : {X : Type 0} (P : X → Type 0) (f : ℕ → Option X) (is : List ℕ) → ((i : ℕ) (x : X) → f i ≡ Some x → P x) → All P (filter_map f is)
 each_kept P f [] h = All-nil P
@@ -60,35 +84,175 @@ agree_so g ss all k s t a b in_s in_t u v e f =
     let y = All-contains (OfLog g) ss t all in_t k b f in
     x.2 ∙ ap (λ w. g.log w k) (u ∙ sym v) ∙ sym y.2
 
-bridge_agrees : (u : Setup) (g : Group) (s : machine.Group Header) → IsFitGroup u.cluster g → Bridges u g s → AllAgree g
-unfolding stated
-bridge_agrees u g s fit b at m r e running awake =
-    let is = (b.members at m e).running r running in
-    let inv = reached_good u.quorums (entries_by u.hash u.cluster) s b.reached in
-    let one = one_log u.quorums (entries_by u.hash u.cluster) inv.0 s inv.1 in
-    let told = true_statements u.quorums (entries_by u.hash u.cluster) inv.0 s inv.1 in
-    let tables = is.tables awake in
-    let sound = ((fit.members at m e).running r running).0.sound in
-    let own : OfLog inv.0 (statement_of r) =
-    λ k h i.
-    let known = ap header (is.reflects.parts k) ∙ told_header (part_at r k) ∙ own_header r k h sound i in
-    subst (λ w. InLog inv.0 w k h) (is.reflects.log_view ∙ sym (own_view r)) (one.known at is.memory k h is.running known) in
-    agree_so inv.0 (stated r) (each_kept (OfLog inv.0) (λ i. cond (i == r.index) (Some (statement_of r)) (get_or r.statements i None)) (range_with_len 0 r.n) (λ i t here.
-    elim (i == r.index) as (λ c. cond c (Some (statement_of r)) (get_or r.statements i None) ≡ Some t → OfLog inv.0 t) [
-      | true ↦ λ same. let is_own : statement_of r ≡ t = cc in subst (OfLog inv.0) is_own own
-      | false ↦ λ there. λ k h j. told.named i r.view (statement_told t) k h (tables.stated i t there) (told_header (stated_part k t) ∙ j)
-    ] here))
+-- ---- headers of one log in a row
 
-follows_agree : (u : Setup) (s : machine.Group Header) (run : List Played) → All (IsFitPlayed u.cluster) run → Follows u s run → All (λ (p : Played). AllAgree p.moved.group) run
-follows_agree u s [] fit follows = All-nil (λ (p : Played). AllAgree p.moved.group)
-follows_agree u s (p ∷ ps) fit follows =
-    let a = follows.0 in
-    All-cons (λ (p : Played). AllAgree p.moved.group) p ps
-    (bridge_agrees u p.moved.group a (All-head (IsFitPlayed u.cluster) p ps fit).1 follows.1.bridges)
-    (follows_agree u a ps (All-tail (IsFitPlayed u.cluster) p ps fit) follows.2)
+module _ (hash : List ℕ → List ℕ) (f : ℕ → Header) where
+  abbrev Follow : ℕ → Type 0
+  Follow k = same_sum (f (suc k)).parent (name_by hash (f k)) ≡ true
 
-pub heard_agree : HeardAgree
-heard_agree kinds cluster n run are low some most fits ran =
-    let so = fresh_runs_so kinds cluster n run are low some most fits ran in
-    let fit = groups_fit.runs kinds cluster n run are low some most fits ran in
-    follows_agree so.setup so.first run (subst (λ c. All (IsFitPlayed c) run) (sym so.cluster_is) fit) so.follows
+  chain_from : (a : ℕ) (d : Header) (hs : List Header) → d ≡ f a → ((i k : ℕ) (h : Header) → k ≡ suc a + i → slice_get hs i ≡ Some h → h ≡ f k)
+      → ((k : ℕ) → a ≤ k → k < a + length hs → Follow k) → is_chain_from hash d hs ≡ true
+  unfolding is_chain_from
+  chain_from a d [] first each follow = refl
+  chain_from a d (h ∷ hs) first each follow =
+      let next : h ≡ f (suc a) = each 0 (suc a) h (omega arith) refl in
+      let stands : same_sum h.parent (name_by hash d) ≡ true =
+      subst (λ x. same_sum x.parent (name_by hash d) ≡ true) (sym next) (subst (λ x. same_sum (f (suc a)).parent (name_by hash x) ≡ true) (sym first) (follow a (omega arith) (omega arith))) in
+      both_true stands (chain_from (suc a) h hs next (λ i k x e got. each (suc i) k x (omega (arith, e)) got) (λ k low high. follow k (omega (arith, low)) (omega (arith, high))))
+
+  chain_of : (a : ℕ) (hs : List Header) → ((i k : ℕ) (h : Header) → k ≡ a + i → slice_get hs i ≡ Some h → h ≡ f k)
+      → ((k : ℕ) → a ≤ k → k + 1 < a + length hs → Follow k) → is_chain hash hs ≡ true
+  chain_of a [] each follow = refl
+  chain_of a (h ∷ hs) each follow =
+      chain_from a h hs (each 0 a h (omega arith) refl) (λ i k x e got. each (suc i) k x (omega (arith, e)) got) (λ k low high. follow k low (omega (arith, high)))
+
+-- ---- a running replica of a group that the machine's stands for
+
+module _ (u : Setup) (fits : Fits u) (g : Group) (s : machine.Group Header) (fit : IsFitGroup u.cluster g) (b : Bridges u g s) (at : ℕ) (m : Member) (r : Replica)
+    (e : slice_get g.members at ≡ Some m) (running : m.replica ≡ Some r) (awake : is_frozen r ≡ false) where
+  is : IsRunning u s at m r
+  is = (b.members at m e).running r running
+
+  tables : Tables u s at r
+  tables = is.tables awake
+
+  fit_r : IsFitReplica r × IsAt u.cluster g.n at m.last.fields.version r
+  fit_r = (fit.members at m e).running r running
+
+  sound : IsSound r
+  sound = fit_r.0.sound
+
+  hs : Headers Header
+  hs = entries_by u.hash u.cluster
+
+  inv : (h : History Header) × Invariant u.quorums (entries_by u.hash u.cluster) h s
+  inv = reached_good u.quorums (entries_by u.hash u.cluster) s b.reached
+
+  own : OfLog inv.0 (statement_of r)
+  own k h i =
+      let one = one_log u.quorums (entries_by u.hash u.cluster) inv.0 s inv.1 in
+      let known = ap header (is.reflects.parts k) ∙ told_header (part_at r k) ∙ own_header r k h sound i in
+      subst (λ w. InLog inv.0 w k h) (is.reflects.log_view ∙ sym (own_view r)) (one.known at is.memory k h is.running known)
+
+  agree : NamesAgree (stated r)
+  unfolding stated
+  agree =
+      let told = true_statements u.quorums (entries_by u.hash u.cluster) inv.0 s inv.1 in
+      agree_so inv.0 (stated r) (each_kept (OfLog inv.0) (λ i. cond (i == r.index) (Some (statement_of r)) (get_or r.statements i None)) (range_with_len 0 r.n) (λ i t here.
+      elim (i == r.index) as (λ c. cond c (Some (statement_of r)) (get_or r.statements i None) ≡ Some t → OfLog inv.0 t) [
+        | true ↦ λ same. let is_own : statement_of r ≡ t = cc in subst (OfLog inv.0) is_own own
+        | false ↦ λ there. λ k h j. told.named i r.view (statement_told t) k h (tables.stated i t there) (told_header (stated_part k t) ∙ j)
+      ] here))
+
+  -- each statement is true of the history
+  mem : Tied (s.members at).last is.memory × MemoryOk u.quorums inv.0 at (s.members at).slots is.memory
+  mem = each_at (λ x. Tied (s.members at).last x × MemoryOk u.quorums inv.0 at (s.members at).slots x) (s.members at).memory is.memory is.running (inv.1.members at).memory
+
+  own_true : r.log_view < r.view → StatementOk u.quorums inv.0 at r.view (statement_told (statement_of r))
+  own_true lower =
+      let view = is.reflects.view in
+      let log_view = is.reflects.log_view in
+      let tags = (statement_told (statement_of r)).tags in
+      subst (StatementOk u.quorums inv.0 at r.view) (sym (own_is r is.memory is.reflects))
+      (statement_ok u.quorums (entries_by u.hash u.cluster) inv.0 at r.view (s.members at).slots is.memory tags (own_tells r is.memory sound is.reflects) inv.1.history mem.1
+      ((inv.1.members at).marked.view ∙ sym mem.0.view) ((inv.1.members at).marked.log_view ∙ sym mem.0.log_view) (sym view) (omega (arith, lower, log_view)))
+
+  all_true : r.log_view < r.view → AllTrue u.quorums inv.0 r.view (λ j. told_if (heard_at r j))
+  all_true lower j t told =
+      let y = told_some (heard_at r j) t told in
+      elim (eqb j r.index) as (λ c. eqb j r.index ≡ c → cond c (Some (statement_of r)) (get_or r.statements j None) ≡ Some y.0 → StatementOk u.quorums inv.0 j r.view t) [
+        | true ↦ λ c z.
+            let same : statement_of r ≡ y.0 = cc in
+            let place : at ≡ j = sym (eqb-true j r.index c ∙ fit_r.1.index) in
+            subst (StatementOk u.quorums inv.0 j r.view) (ap statement_told same ∙ y.2) (subst (λ i. StatementOk u.quorums inv.0 i r.view (statement_told (statement_of r))) place (own_true lower))
+        | false ↦ λ c z. subst (StatementOk u.quorums inv.0 j r.view) y.2 (inv.1.facts (Do_view_change j r.view (statement_told y.0)) (tables.stated j y.0 z)).1
+      ] refl y.1
+
+  module _ (q : Quorums) (headers : List Header) (lower : r.log_view < r.view) (quorums : quorums_of r.n ≡ Some q) (ends : choice q (stated r) ≡ Ends headers) where
+    size_is : r.n ≡ u.quorums.n
+    size_is = fit_r.1.n ∙ b.size
+
+    nack_is : q.nack ≡ u.quorums.nack
+    nack_is = sym (ap (λ (o : Option Quorums). option_map_or (λ x. x.nack) o 0) quorums) ∙ ap (λ n. option_map_or (λ x. x.nack) (quorums_of n) 0) size_is ∙ fits.nack_is
+
+    abbrev log : Log
+    log = chosen_log r (stated r) headers
+
+    may : MayBegin u.quorums inv.0 (λ j. told_if (heard_at r j)) r.view (top_view (stated r)) (top_commit (stated r)) log.head (named (stated r))
+    may = machine_choice u.quorums (entries_by u.hash u.cluster) inv.0 inv.1.history r.view (top_view (stated r)) (top_commit (stated r)) log.head (λ j. told_if (heard_at r j)) (named (stated r)) (all_true lower)
+        (chosen_is r sound q headers ends u fits size_is nack_is)
+
+    of_one : (k : ℕ) (h : Header) → log_header log k ≡ Some h → h ≡ inv.0.log (top_view (stated r)) k
+    of_one k h is_there =
+        let y = source_is r sound q headers ends u fits size_is nack_is k h is_there in
+        elim (y.2) [
+          | inl a ↦ may.of_log k h a.1 y.1 a.0
+          | inr a ↦ may.low a.0 a.1 k h a.2 a.3 a.4
+        ]
+
+    chain : is_chain u.hash headers ≡ true
+    chain =
+        let count = (chosen_log_is r q (stated r) headers (all_stated r sound) ends).count in
+        let long = may.fits in
+        chain_of u.hash (inv.0.log (top_view (stated r))) (log.lo + 1) headers
+        (λ i k h at_i got.
+        let place : i ≡ k - (log.lo + 1) = omega (arith, at_i) in
+        let there : log_header log k ≡ Some h = rw (lt-leb k log.lo (omega (arith, at_i))) (subst (λ j. slice_get headers j ≡ Some h) place got) in
+        of_one k h there)
+        (λ k low high. inv.1.history.chained (top_view (stated r)) k may.begun (omega (arith, high, count, long)))
+
+-- ---- in each run
+
+module _ (P : Replica → Type 0)
+    (each : (u : Setup) → Fits u → u.hash ≡ lying.hash → (g : Group) (s : machine.Group Header) → IsFitGroup u.cluster g → Bridges u g s → EachAwake P g) where
+  follows_so : (u : Setup) → Fits u → u.hash ≡ lying.hash → (s : machine.Group Header) (run : List Played) → All (IsFitPlayed u.cluster) run → Follows u s run → All (λ (p : Played). EachAwake P p.moved.group) run
+  follows_so u fits hash s [] fit follows = All-nil (λ (p : Played). EachAwake P p.moved.group)
+  follows_so u fits hash s (p ∷ ps) fit follows =
+      let a = follows.0 in
+      All-cons (λ (p : Played). EachAwake P p.moved.group) p ps
+      (each u fits hash p.moved.group a (All-head (IsFitPlayed u.cluster) p ps fit).1 follows.1.bridges)
+      (follows_so u fits hash a ps (All-tail (IsFitPlayed u.cluster) p ps fit) follows.2)
+
+  in_each_run : InEachRun P
+  in_each_run kinds cluster n run are low some most fits ran =
+      let so = fresh_runs_so kinds cluster n run are low some most fits ran in
+      let fit = groups_fit.runs kinds cluster n run are low some most fits ran in
+      follows_so so.setup so.fits so.hash_is so.first run (subst (λ c. All (IsFitPlayed c) run) (sym so.cluster_is) fit) so.follows
+
+hears : (u : Setup) → Fits u → u.hash ≡ lying.hash → (g : Group) (s : machine.Group Header) → IsFitGroup u.cluster g → Bridges u g s → EachAwake HearsOneLog g
+hears u fits hash g s fit b at m r e running awake = record {
+  agree = agree u fits g s fit b at m r e running awake;
+  chain = λ q headers lower quorums ends. subst (λ h. is_chain h headers ≡ true) hash (chain u fits g s fit b at m r e running awake q headers lower quorums ends);
+}
+
+pub heard_is_one_log : InEachRun HearsOneLog
+heard_is_one_log = in_each_run HearsOneLog hears
+
+-- ---- so the primary of a view begins it
+
+abbrev Begins : Lying → Quorums → List Replica → Replica → Type 0
+Begins d q rs r =
+    HearsOneLog r → Contains rs r → is_primary r ≡ true → is_started r ≡ false → stated r ≡ statements rs
+    → (headers : List Header) × (choice q (stated r) ≡ Ends headers) × (try lying r d ≡ begin_view (stated r) (chosen_log r (stated r) headers) lying r d)
+
+furthest_begins : (d : Lying) (members : List (Holder Lying)) (file cluster n : ℕ) (q : Quorums) (rs : List Replica) (w : IsWhole lying members) → AreHeard file cluster n q rs
+    → All (Contains (replicas_of members)) rs → Begins d q rs w.furthest.replica
+furthest_begins d members file cluster n q rs w heard of one there leads fresh told =
+    let r = w.furthest.replica in
+    let member = All-contains (IsMemberOf file cluster n) rs r heard.members there in
+    let views = member.sound.order.views in
+    let lower : r.log_view < r.view = elim (cases_eq r.log_view r.view) [
+      | inl same ↦ absurd (true≢false (sym (eq-eqb r.view r.log_view (sym same)) ∙ fresh))
+      | inr other ↦ omega (arith, views, other)
+    ] in
+    whole_quorums_begin lying d members file cluster n q rs w heard (subst NamesAgree told one.agree) of there leads fresh told
+    (λ headers ends. one.chain q headers lower (ap quorums_of member.of_size ∙ heard.quorums) ends)
+
+begins_by : (r : Replica) → HearsOneLog r → BeginsByWhole r
+begins_by r one = record {
+  begins = λ d members file cluster n q rs w furthest heard of there leads fresh told.
+      subst (Begins d q rs) furthest (furthest_begins d members file cluster n q rs w heard of) one there leads fresh told;
+}
+
+pub runs_begin : InEachRun BeginsByWhole
+runs_begin = in_each_run BeginsByWhole (λ u fits hash g s fit b at m r e running awake. begins_by r (hears u fits hash g s fit b at m r e running awake))

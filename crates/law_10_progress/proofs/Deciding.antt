@@ -160,12 +160,12 @@ all_deny rs k all sure agree above gap =
 
 pub sure_quorums_decide : SureQuorumsDecide
 unfolding choice
-sure_quorums_decide file cluster n q rs heard sure =
+sure_quorums_decide file cluster n q rs heard agree sure =
     let ss = statements rs in
     let all = sound_of file cluster n rs heard.members in
     let long = row_long ss in
     let k : ℕ = row_end ss + 1 in
-    let deny = all_deny rs k all sure heard.agree (omega (arith, long)) (row_broken ss) in
+    let deny = all_deny rs k all sure agree (omega (arith, long)) (row_broken ss) in
     let counted = all_counted (denies ss k) ss deny in
     let few = nack_low n q heard.quorums in
     let enough = heard.enough in

@@ -111,7 +111,6 @@ module _ (kind : Kind) (is : IsKind kind) where
     enough = omega arith;
     members = both (IsMemberOf kind.version 0 3) (record { sound = sound_entered 0 (omega arith); of_version = refl; of_group = refl; of_size = refl })
         (record { sound = sound_candidate; of_version = refl; of_group = refl; of_size = refl });
-    agree = agree;
   }
 
   chosen : choice q (stated r) ≡ Ends []
@@ -149,7 +148,7 @@ module _ (kind : Kind) (is : IsKind kind) where
     unfolding entered blank whole
     begins =
         let end : (headers : List Header) → choice q (stated r) ≡ Ends headers → [] ≡ headers = λ headers e. let same : Ends [] ≡ Ends headers = sym chosen ∙ e in cc in
-        let x = whole_quorums_begin s g members kind.version 0 3 q rs whole heard (both (Contains rs) (0, omega arith, refl) (1, omega arith, refl)) (1, omega arith, refl) leads fresh_one told
+        let x = whole_quorums_begin s g members kind.version 0 3 q rs whole heard agree (both (Contains rs) (0, omega arith, refl) (1, omega arith, refl)) (1, omega arith, refl) leads fresh_one told
         (λ headers e. subst (λ hs. is_chain s.hash hs ≡ true) (end headers e) (empty_chain s.hash)) in
         subst (λ hs. try s r g ≡ begin_view (stated r) (chosen_log r (stated r) hs) s r g) (sym (end x.0 x.1)) x.2
       where

@@ -33,13 +33,13 @@ same_top all rs r of there top =
         omega (arith, rest, own)
 
 pub whole_quorums_decide : {F : Type 0} → WholeQuorumsDecide F
-whole_quorums_decide s members file cluster n q rs w heard of there =
+whole_quorums_decide s members file cluster n q rs w heard agree of there =
     let all = replicas_of members in
     let r = w.furthest.replica in
     let same = same_top all rs r of there w.top in
     let sure : All (IsSure (top_checkpoint rs)) rs = All-each (IsSure (top_checkpoint rs)) rs (λ x at.
     subst (λ k. IsSure k x) (sym same) (All-contains (IsSure (top_checkpoint all)) all x w.sure (All-contains (Contains all) rs x of at))) in
-    let ends = sure_quorums_decide file cluster n q rs heard sure in
+    let ends = sure_quorums_decide file cluster n q rs heard agree sure in
     record {
       headers = ends.0;
       ends = ends.1;
@@ -52,9 +52,9 @@ unfolding try by try_log naming
 tried s f r headers leads fresh ends may = rw (leads, fresh, ends, may) refl
 
 pub whole_quorums_begin : {F : Type 0} → WholeQuorumsBegin F
-whole_quorums_begin s f members file cluster n q rs w heard of there leads fresh told chain =
+whole_quorums_begin s f members file cluster n q rs w heard agree of there leads fresh told chain =
     let r = w.furthest.replica in
-    let d = whole_quorums_decide s members file cluster n q rs w heard of there in
+    let d = whole_quorums_decide s members file cluster n q rs w heard agree of there in
     let member = All-contains (IsMemberOf file cluster n) rs r heard.members there in
     let views = member.sound.order.views in
     let before : r.log_view < r.view = elim (cases_eq r.log_view r.view) [

@@ -19,20 +19,19 @@ use Rattle.law_10_progress.specs.Whole.{Holder, IsMemberOf, IsSure, IsWhole, Kno
 abbrev pub statements : List Replica → List Statement
 statements rs = map statement_of rs
 
--- Members whose statements a choice is made from: at least a view-change quorum of one group. Those of the greatest log view agree on their
--- headers, as they do in every run, since each view has one log (`each_view_has_one_log`).
+-- members whose statements a choice is made from: at least a view-change quorum of one group
 pub record AreHeard (file cluster n : ℕ) (q : Quorums) (rs : List Replica) : Type 0 where
   pub quorums : quorums_of n ≡ Some q
   pub enough : q.view_change ≤ length rs
   pub members : All (IsMemberOf file cluster n) rs
-  pub agree : NamesAgree (statements rs)
 
 -- ---- the choice
 
--- where none of them is in doubt of an op above their greatest checkpoint, the choice doesn't wait
+-- Where none of them is in doubt of an op above their greatest checkpoint, the choice doesn't wait. Those of the greatest log view agree on their headers,
+-- as they do in every run, since each view has one log.
 abbrev pub SureQuorumsDecide : Type 0
 SureQuorumsDecide =
-    (file cluster n : ℕ) (q : Quorums) (rs : List Replica) → AreHeard file cluster n q rs → All (IsSure (top_checkpoint rs)) rs
+    (file cluster n : ℕ) (q : Quorums) (rs : List Replica) → AreHeard file cluster n q rs → NamesAgree (statements rs) → All (IsSure (top_checkpoint rs)) rs
     → (headers : List Header) × (choice q (statements rs) ≡ Ends headers)
 
 -- ---- who may take what is chosen
@@ -57,14 +56,14 @@ pub record Decides (q : Quorums) (rs : List Replica) (r : Replica) : Type 0 wher
 abbrev pub WholeQuorumsDecide : Type 0 → Type 0
 WholeQuorumsDecide F =
     (s : Setting F) (members : List (Holder F)) (file cluster n : ℕ) (q : Quorums) (rs : List Replica) (w : IsWhole s members) → AreHeard file cluster n q rs
-    → All (Contains (replicas_of members)) rs → Contains rs w.furthest.replica → Decides q rs w.furthest.replica
+    → NamesAgree (statements rs) → All (Contains (replicas_of members)) rs → Contains rs w.furthest.replica → Decides q rs w.furthest.replica
 
 -- So it begins its view when it tries, where it is the view's primary, isn't started, has just these statements, and the headers of the log that they
 -- decide are a chain.
 abbrev pub WholeQuorumsBegin : Type 0 → Type 0
 WholeQuorumsBegin F =
     (s : Setting F) (f : F) (members : List (Holder F)) (file cluster n : ℕ) (q : Quorums) (rs : List Replica) (w : IsWhole s members) → AreHeard file cluster n q rs
-    → All (Contains (replicas_of members)) rs → Contains rs w.furthest.replica
+    → NamesAgree (statements rs) → All (Contains (replicas_of members)) rs → Contains rs w.furthest.replica
     → let r = w.furthest.replica in
     is_primary r ≡ true → is_started r ≡ false → stated r ≡ statements rs
     → ((headers : List Header) → choice q (stated r) ≡ Ends headers → is_chain s.hash headers ≡ true)

@@ -2,14 +2,9 @@
 //! the statement, and it does nothing.
 #![tactic(auto)]
 
-ghost use Rattle.law_10_progress.specs.Agreeing.{HeardAgree};
+ghost use Rattle.law_10_progress.specs.Agreeing.{BeginsByWhole, HearsOneLog, InEachRun};
 ghost use Rattle.law_10_progress.specs.Answering.{NewGroupsAnswer, RequestsAreAnswered};
 ghost use Rattle.law_10_progress.specs.Deciding.{ANewQuorumBegins, FurthestMembersTake, SureQuorumsDecide, WholeQuorumsBegin, WholeQuorumsDecide};
-
-/// In every run of a group that was just made, those statements of the greatest log view that a running replica has agree on their headers.
-pub fn heard_agree()
-    ensures { HeardAgree }
-{}
 
 /// A choice of a log from a view-change quorum of whose members none is in doubt of an op above their greatest checkpoint doesn't wait.
 pub fn sure_quorums_decide()
@@ -29,6 +24,17 @@ pub fn whole_quorums_decide<F>()
 /// So its furthest member begins its view, once it is the primary of one and has heard enough of them.
 pub fn whole_quorums_begin<F>()
     ensures { WholeQuorumsBegin F }
+{}
+
+/// In every run of a group that was just made, what a running replica has heard of logs is of one log a view, and the headers of a log that it
+/// chooses are a chain.
+pub fn heard_is_one_log()
+    ensures { InEachRun HearsOneLog }
+{}
+
+/// So in every run a primary that has heard enough of a quorum that is whole, itself the furthest of them, begins its view when it tries.
+pub fn runs_begin()
+    ensures { InEachRun BeginsByWhole }
 {}
 
 /// There is such a quorum: two members of a new group of three that have entered view 1, whose primary has the statement of the other.
