@@ -1,6 +1,6 @@
 -- The statements that a replica has are of one log a view.
-use Rattle.std.proofs.Common.{arith, ℕ, zero, suc, ◌+◌, ◌-◌, ◌<◌, ◌≤◌, ◌≡◌, ◌∙◌, inl, inr, refl, sym, ap, subst, Bool, true, false, cond, ◌==◌, eqb, List, [], ◌∷◌, length, get_or, Option, Some, None}
-use Rattle.std.specs.Prelude.{All, Contains, filter_map, slice_get}
+use Rattle.std.proofs.Common.{arith, ℕ, suc, ◌+◌, ◌-◌, ◌<◌, ◌≤◌, ◌≡◌, ◌∙◌, inl, inr, refl, sym, ap, subst, true, false, cond, ◌==◌, eqb, List, [], ◌∷◌, length, get_or, Option, Some, None}
+use Rattle.std.specs.Prelude.{All, Contains, filter_map, slice_get, slice_index_or}
 use Rattle.std.specs.Cmp.Derive.{both_true}
 use Rattle.std.specs.Option.{option_map_or}
 use Rattle.std.specs.List.{cons_option, range_with_len}
@@ -10,8 +10,8 @@ use Rattle.law_1_machine.proofs.Choice.{choice as machine_choice}
 use Rattle.law_1_machine.proofs.Counting.{each_at}
 use Rattle.law_1_machine.proofs.Lasting.{statement_ok}
 use Rattle.law_1_machine.proofs.Moves.{reached_good}
+use Rattle.law_1_machine.specs.Basics.{In}
 use Rattle.law_1_machine.specs.Claims.{AllTrue, MayBegin, MemoryOk, StatementOk}
-use Rattle.law_1_machine.specs.Headers.{Headers}
 use Rattle.law_1_machine.specs.Invariant.{Invariant, Tied}
 use Rattle.law_1_machine.specs.Members.{Do_view_change}
 use Rattle.law_1_machine.specs.Group as machine
@@ -22,10 +22,11 @@ use Rattle.law_2_chains.proofs.Choosing.{chosen_is, heard_at, source_is, told_so
 use Rattle.law_2_chains.proofs.Facts.{one_log, true_statements}
 use Rattle.law_2_chains.proofs.Waking.{fresh_runs_so}
 use Rattle.law_2_chains.proofs.Writing.{told_header}
-use Rattle.law_2_chains.specs.Bridge.{Bridges, Follows, IsRunning}
+use Rattle.law_2_chains.specs.Bridge.{Bridges, Follows, IsRunning, IsSent}
+use Rattle.law_2_chains.specs.Chains as sent
 use Rattle.law_2_chains.specs.Chains.{Setup, statement_told}
 use Rattle.law_2_chains.specs.Choices.{told_if}
-use Rattle.law_2_chains.specs.Reflecting.{entries_by}
+use Rattle.law_2_chains.specs.Reflecting.{Reflects, entries_by}
 use Rattle.law_2_chains.specs.Tables.{Fits, Tables}
 use Rattle.vr_base.specs.Groups.{quorums_of}
 use Rattle.vr_base.specs.declared.table.Quorums.{Quorums}
@@ -43,12 +44,12 @@ use Rattle.vr_world.specs.Group.{Group, Member, Played}
 use Rattle.vr_world.specs.GroupFit.{IsFitGroup, IsFitPlayed, IsFitReplica}
 use Rattle.vr_world.specs.Lying.{Lying, lying}
 use Rattle.vr_world.specs.Own.{IsAt}
-use Rattle.vr_world.specs.Replica.{Replica, is_frozen, is_primary, is_started, part_at, run_start, statement_of}
+use Rattle.vr_world.specs.Replica.{Replica, head, is_frozen, is_primary, is_started, part_at, run_start, statement_of}
 use Rattle.vr_world.specs.Sound.{IsSound}
 use Rattle.vr_world.specs.Words.{Log, begin_view, chosen_log, is_chain, is_chain_from, log_header, stated, try}
 use Rattle.law_10_progress.proofs.Deciding.{before_first, stated_at, stated_first}
 use Rattle.law_10_progress.proofs.Trying.{whole_quorums_begin}
-use Rattle.law_10_progress.specs.Agreeing.{BeginsByWhole, EachAwake, HearsOneLog, InEachRun}
+use Rattle.law_10_progress.specs.Agreeing.{BeginsByWhole, EachHearer, HearsOneLog, InEachRun, MayHear}
 use Rattle.law_10_progress.specs.Deciding.{AreHeard, statements}
 use Rattle.law_10_progress.specs.Whole.{Holder, IsMemberOf, IsWhole, replicas_of}
 
@@ -109,7 +110,11 @@ module _ (hash : List ℕ → List ℕ) (f : ℕ → Header) where
 -- ---- a running replica of a group that the machine's stands for
 
 module _ (u : Setup) (fits : Fits u) (g : Group) (s : machine.Group Header) (fit : IsFitGroup u.cluster g) (b : Bridges u g s) (at : ℕ) (m : Member) (r : Replica)
-    (e : slice_get g.members at ≡ Some m) (running : m.replica ≡ Some r) (awake : is_frozen r ≡ false) where
+    (e : slice_get g.members at ≡ Some m) (running : m.replica ≡ Some r) (awake : is_frozen r ≡ false) (ss : List (Option Statement)) (may_hear : MayHear g r ss) (sound : IsSound (record r { statements = ss })) where
+  -- with these statements
+  abbrev x : Replica
+  x = record r { statements = ss }
+
   is : IsRunning u s at m r
   is = (b.members at m e).running r running
 
@@ -119,72 +124,93 @@ module _ (u : Setup) (fits : Fits u) (g : Group) (s : machine.Group Header) (fit
   fit_r : IsFitReplica r × IsAt u.cluster g.n at m.last.fields.version r
   fit_r = (fit.members at m e).running r running
 
-  sound : IsSound r
-  sound = fit_r.0.sound
+  reflects : Reflects x is.memory
+  unfolding head part_at
+  reflects =
+      let f = is.reflects in
+      record {
+        view = f.view;
+        log_view = f.log_view;
+        checkpoint = f.checkpoint;
+        commit = f.commit;
+        applied = f.applied;
+        reach = f.reach;
+        parts = f.parts;
+        loaded = f.loaded;
+        waits = f.waits;
+      }
 
-  hs : Headers Header
-  hs = entries_by u.hash u.cluster
+  -- each of them was sent in the machine
+  sent_ones : (j : ℕ) (t : Statement) → slice_index_or ss j None ≡ Some t → In (Do_view_change j r.view (statement_told t)) s.sent
+  sent_ones j t there = elim (may_hear j t there) [
+    | inl had ↦ tables.stated j t had
+    | inr w ↦
+        let told : In (Do_view_change w.told.replica w.told.view (statement_told w.told.statement)) s.sent =
+        subst (sent.WasSent u s.sent) w.is (All-contains (IsSent u s) g.sent w.sent b.sent w.there) in
+        subst (λ i. In (Do_view_change i r.view (statement_told t)) s.sent) w.by
+        (subst (λ v. In (Do_view_change w.told.replica v (statement_told t)) s.sent) w.for_view (subst (λ z. In (Do_view_change w.told.replica w.told.view (statement_told z)) s.sent) w.states told))
+  ]
 
   inv : (h : History Header) × Invariant u.quorums (entries_by u.hash u.cluster) h s
   inv = reached_good u.quorums (entries_by u.hash u.cluster) s b.reached
 
-  own : OfLog inv.0 (statement_of r)
+  own : OfLog inv.0 (statement_of x)
   own k h i =
       let one = one_log u.quorums (entries_by u.hash u.cluster) inv.0 s inv.1 in
-      let known = ap header (is.reflects.parts k) ∙ told_header (part_at r k) ∙ own_header r k h sound i in
-      subst (λ w. InLog inv.0 w k h) (is.reflects.log_view ∙ sym (own_view r)) (one.known at is.memory k h is.running known)
+      let known = ap header (reflects.parts k) ∙ told_header (part_at x k) ∙ own_header x k h sound i in
+      subst (λ w. InLog inv.0 w k h) (reflects.log_view ∙ sym (own_view x)) (one.known at is.memory k h is.running known)
 
-  agree : NamesAgree (stated r)
+  agree : NamesAgree (stated x)
   unfolding stated
   agree =
       let told = true_statements u.quorums (entries_by u.hash u.cluster) inv.0 s inv.1 in
-      agree_so inv.0 (stated r) (each_kept (OfLog inv.0) (λ i. cond (i == r.index) (Some (statement_of r)) (get_or r.statements i None)) (range_with_len 0 r.n) (λ i t here.
-      elim (i == r.index) as (λ c. cond c (Some (statement_of r)) (get_or r.statements i None) ≡ Some t → OfLog inv.0 t) [
-        | true ↦ λ same. let is_own : statement_of r ≡ t = cc in subst (OfLog inv.0) is_own own
-        | false ↦ λ there. λ k h j. told.named i r.view (statement_told t) k h (tables.stated i t there) (told_header (stated_part k t) ∙ j)
+      agree_so inv.0 (stated x) (each_kept (OfLog inv.0) (λ i. cond (i == x.index) (Some (statement_of x)) (get_or x.statements i None)) (range_with_len 0 x.n) (λ i t here.
+      elim (i == x.index) as (λ c. cond c (Some (statement_of x)) (get_or x.statements i None) ≡ Some t → OfLog inv.0 t) [
+        | true ↦ λ same. let is_own : statement_of x ≡ t = cc in subst (OfLog inv.0) is_own own
+        | false ↦ λ there. λ k h j. told.named i x.view (statement_told t) k h (sent_ones i t there) (told_header (stated_part k t) ∙ j)
       ] here))
 
   -- each statement is true of the history
   mem : Tied (s.members at).last is.memory × MemoryOk u.quorums inv.0 at (s.members at).slots is.memory
   mem = each_at (λ x. Tied (s.members at).last x × MemoryOk u.quorums inv.0 at (s.members at).slots x) (s.members at).memory is.memory is.running (inv.1.members at).memory
 
-  own_true : r.log_view < r.view → StatementOk u.quorums inv.0 at r.view (statement_told (statement_of r))
+  own_true : x.log_view < x.view → StatementOk u.quorums inv.0 at x.view (statement_told (statement_of x))
   own_true lower =
-      let view = is.reflects.view in
-      let log_view = is.reflects.log_view in
-      let tags = (statement_told (statement_of r)).tags in
-      subst (StatementOk u.quorums inv.0 at r.view) (sym (own_is r is.memory is.reflects))
-      (statement_ok u.quorums (entries_by u.hash u.cluster) inv.0 at r.view (s.members at).slots is.memory tags (own_tells r is.memory sound is.reflects) inv.1.history mem.1
+      let view = reflects.view in
+      let log_view = reflects.log_view in
+      let tags = (statement_told (statement_of x)).tags in
+      subst (StatementOk u.quorums inv.0 at x.view) (sym (own_is x is.memory reflects))
+      (statement_ok u.quorums (entries_by u.hash u.cluster) inv.0 at x.view (s.members at).slots is.memory tags (own_tells x is.memory sound reflects) inv.1.history mem.1
       ((inv.1.members at).marked.view ∙ sym mem.0.view) ((inv.1.members at).marked.log_view ∙ sym mem.0.log_view) (sym view) (omega (arith, lower, log_view)))
 
-  all_true : r.log_view < r.view → AllTrue u.quorums inv.0 r.view (λ j. told_if (heard_at r j))
+  all_true : x.log_view < x.view → AllTrue u.quorums inv.0 x.view (λ j. told_if (heard_at x j))
   all_true lower j t told =
-      let y = told_some (heard_at r j) t told in
-      elim (eqb j r.index) as (λ c. eqb j r.index ≡ c → cond c (Some (statement_of r)) (get_or r.statements j None) ≡ Some y.0 → StatementOk u.quorums inv.0 j r.view t) [
+      let y = told_some (heard_at x j) t told in
+      elim (eqb j x.index) as (λ c. eqb j x.index ≡ c → cond c (Some (statement_of x)) (get_or x.statements j None) ≡ Some y.0 → StatementOk u.quorums inv.0 j x.view t) [
         | true ↦ λ c z.
-            let same : statement_of r ≡ y.0 = cc in
-            let place : at ≡ j = sym (eqb-true j r.index c ∙ fit_r.1.index) in
-            subst (StatementOk u.quorums inv.0 j r.view) (ap statement_told same ∙ y.2) (subst (λ i. StatementOk u.quorums inv.0 i r.view (statement_told (statement_of r))) place (own_true lower))
-        | false ↦ λ c z. subst (StatementOk u.quorums inv.0 j r.view) y.2 (inv.1.facts (Do_view_change j r.view (statement_told y.0)) (tables.stated j y.0 z)).1
+            let same : statement_of x ≡ y.0 = cc in
+            let place : at ≡ j = sym (eqb-true j x.index c ∙ fit_r.1.index) in
+            subst (StatementOk u.quorums inv.0 j x.view) (ap statement_told same ∙ y.2) (subst (λ i. StatementOk u.quorums inv.0 i x.view (statement_told (statement_of x))) place (own_true lower))
+        | false ↦ λ c z. subst (StatementOk u.quorums inv.0 j x.view) y.2 (inv.1.facts (Do_view_change j x.view (statement_told y.0)) (sent_ones j y.0 z)).1
       ] refl y.1
 
-  module _ (q : Quorums) (headers : List Header) (lower : r.log_view < r.view) (quorums : quorums_of r.n ≡ Some q) (ends : choice q (stated r) ≡ Ends headers) where
-    size_is : r.n ≡ u.quorums.n
+  module _ (q : Quorums) (headers : List Header) (lower : x.log_view < x.view) (quorums : quorums_of x.n ≡ Some q) (ends : choice q (stated x) ≡ Ends headers) where
+    size_is : x.n ≡ u.quorums.n
     size_is = fit_r.1.n ∙ b.size
 
     nack_is : q.nack ≡ u.quorums.nack
     nack_is = sym (ap (λ (o : Option Quorums). option_map_or (λ x. x.nack) o 0) quorums) ∙ ap (λ n. option_map_or (λ x. x.nack) (quorums_of n) 0) size_is ∙ fits.nack_is
 
     abbrev log : Log
-    log = chosen_log r (stated r) headers
+    log = chosen_log x (stated x) headers
 
-    may : MayBegin u.quorums inv.0 (λ j. told_if (heard_at r j)) r.view (top_view (stated r)) (top_commit (stated r)) log.head (named (stated r))
-    may = machine_choice u.quorums (entries_by u.hash u.cluster) inv.0 inv.1.history r.view (top_view (stated r)) (top_commit (stated r)) log.head (λ j. told_if (heard_at r j)) (named (stated r)) (all_true lower)
-        (chosen_is r sound q headers ends u fits size_is nack_is)
+    may : MayBegin u.quorums inv.0 (λ j. told_if (heard_at x j)) x.view (top_view (stated x)) (top_commit (stated x)) log.head (named (stated x))
+    may = machine_choice u.quorums (entries_by u.hash u.cluster) inv.0 inv.1.history x.view (top_view (stated x)) (top_commit (stated x)) log.head (λ j. told_if (heard_at x j)) (named (stated x)) (all_true lower)
+        (chosen_is x sound q headers ends u fits size_is nack_is)
 
-    of_one : (k : ℕ) (h : Header) → log_header log k ≡ Some h → h ≡ inv.0.log (top_view (stated r)) k
+    of_one : (k : ℕ) (h : Header) → log_header log k ≡ Some h → h ≡ inv.0.log (top_view (stated x)) k
     of_one k h is_there =
-        let y = source_is r sound q headers ends u fits size_is nack_is k h is_there in
+        let y = source_is x sound q headers ends u fits size_is nack_is k h is_there in
         elim (y.2) [
           | inl a ↦ may.of_log k h a.1 y.1 a.0
           | inr a ↦ may.low a.0 a.1 k h a.2 a.3 a.4
@@ -192,24 +218,24 @@ module _ (u : Setup) (fits : Fits u) (g : Group) (s : machine.Group Header) (fit
 
     chain : is_chain u.hash headers ≡ true
     chain =
-        let count = (chosen_log_is r q (stated r) headers (all_stated r sound) ends).count in
+        let count = (chosen_log_is x q (stated x) headers (all_stated x sound) ends).count in
         let long = may.fits in
-        chain_of u.hash (inv.0.log (top_view (stated r))) (log.lo + 1) headers
+        chain_of u.hash (inv.0.log (top_view (stated x))) (log.lo + 1) headers
         (λ i k h at_i got.
         let place : i ≡ k - (log.lo + 1) = omega (arith, at_i) in
         let there : log_header log k ≡ Some h = rw (lt-leb k log.lo (omega (arith, at_i))) (subst (λ j. slice_get headers j ≡ Some h) place got) in
         of_one k h there)
-        (λ k low high. inv.1.history.chained (top_view (stated r)) k may.begun (omega (arith, high, count, long)))
+        (λ k low high. inv.1.history.chained (top_view (stated x)) k may.begun (omega (arith, high, count, long)))
 
 -- ---- in each run
 
 module _ (P : Replica → Type 0)
-    (each : (u : Setup) → Fits u → u.hash ≡ lying.hash → (g : Group) (s : machine.Group Header) → IsFitGroup u.cluster g → Bridges u g s → EachAwake P g) where
-  follows_so : (u : Setup) → Fits u → u.hash ≡ lying.hash → (s : machine.Group Header) (run : List Played) → All (IsFitPlayed u.cluster) run → Follows u s run → All (λ (p : Played). EachAwake P p.moved.group) run
-  follows_so u fits hash s [] fit follows = All-nil (λ (p : Played). EachAwake P p.moved.group)
+    (each : (u : Setup) → Fits u → u.hash ≡ lying.hash → (g : Group) (s : machine.Group Header) → IsFitGroup u.cluster g → Bridges u g s → EachHearer P g) where
+  follows_so : (u : Setup) → Fits u → u.hash ≡ lying.hash → (s : machine.Group Header) (run : List Played) → All (IsFitPlayed u.cluster) run → Follows u s run → All (λ (p : Played). EachHearer P p.moved.group) run
+  follows_so u fits hash s [] fit follows = All-nil (λ (p : Played). EachHearer P p.moved.group)
   follows_so u fits hash s (p ∷ ps) fit follows =
       let a = follows.0 in
-      All-cons (λ (p : Played). EachAwake P p.moved.group) p ps
+      All-cons (λ (p : Played). EachHearer P p.moved.group) p ps
       (each u fits hash p.moved.group a (All-head (IsFitPlayed u.cluster) p ps fit).1 follows.1.bridges)
       (follows_so u fits hash a ps (All-tail (IsFitPlayed u.cluster) p ps fit) follows.2)
 
@@ -219,10 +245,10 @@ module _ (P : Replica → Type 0)
       let fit = groups_fit.runs kinds cluster n run are low some most fits ran in
       follows_so so.setup so.fits so.hash_is so.first run (subst (λ c. All (IsFitPlayed c) run) (sym so.cluster_is) fit) so.follows
 
-hears : (u : Setup) → Fits u → u.hash ≡ lying.hash → (g : Group) (s : machine.Group Header) → IsFitGroup u.cluster g → Bridges u g s → EachAwake HearsOneLog g
-hears u fits hash g s fit b at m r e running awake = record {
-  agree = agree u fits g s fit b at m r e running awake;
-  chain = λ q headers lower quorums ends. subst (λ h. is_chain h headers ≡ true) hash (chain u fits g s fit b at m r e running awake q headers lower quorums ends);
+hears : (u : Setup) → Fits u → u.hash ≡ lying.hash → (g : Group) (s : machine.Group Header) → IsFitGroup u.cluster g → Bridges u g s → EachHearer HearsOneLog g
+hears u fits hash g s fit b at m r ss e running awake may_hear sound = record {
+  agree = agree u fits g s fit b at m r e running awake ss may_hear sound;
+  chain = λ q headers lower quorums ends. subst (λ h. is_chain h headers ≡ true) hash (chain u fits g s fit b at m r e running awake ss may_hear sound q headers lower quorums ends);
 }
 
 pub heard_is_one_log : InEachRun HearsOneLog
@@ -255,4 +281,4 @@ begins_by r one = record {
 }
 
 pub runs_begin : InEachRun BeginsByWhole
-runs_begin = in_each_run BeginsByWhole (λ u fits hash g s fit b at m r e running awake. begins_by r (hears u fits hash g s fit b at m r e running awake))
+runs_begin = in_each_run BeginsByWhole (λ u fits hash g s fit b at m r ss e running awake may_hear sound. begins_by (record r { statements = ss }) (hears u fits hash g s fit b at m r ss e running awake may_hear sound))

@@ -1,7 +1,7 @@
 -- Two members of a new group of three that have entered view 1 are whole together, and the primary of view 1 begins.
 use Rattle.std.proofs.Common.{arith, ℕ, zero, suc, ◌-◌, ◌<◌, ◌≤◌, ◌≡◌, ◌∙◌, inl, inr, refl, sym, ap, subst, Bool, true, false, cond, List, [], ◌∷◌, get_or, replicate, Some, None}
 use Rattle.std.specs.Prelude.{All, Contains, nat_lt}
-use Rattle.std.proofs.lemmas.Bool.{cases_eq, cases_lt, eq-eqb, lt-ltb, ne_eqb}
+use Rattle.std.proofs.lemmas.Bool.{cases_eq, cases_lt, eq-eqb, ne_eqb}
 use Rattle.std.proofs.lemmas.List.Elements.{All-cons, All-contains, All-map, All-nil}
 use Rattle.vr_base.specs.Groups.{least_members}
 use Rattle.vr_base.specs.declared.kind.Kind.{Kind}
@@ -10,7 +10,7 @@ use Rattle.vr_choose.specs.Laws.{NamesAgree}
 use Rattle.vr_header.specs.declared.header.Header.{Header}
 use Rattle.vr_header.specs.declared.part.Part.{Part}
 use Rattle.vr_header.specs.declared.part.Part.TheVariants.{Here, Nothing}
-use Rattle.vr_msg.specs.Choice.{choice, log_headers, named_by, row_end, stated_header, stated_part}
+use Rattle.vr_msg.specs.Choice.{choice, log_headers, named_by, row_end, stated_header}
 use Rattle.vr_msg.specs.Logs.{has_header, header_of}
 use Rattle.vr_msg.specs.declared.choice.Choice.TheVariants.{Ends}
 use Rattle.vr_msg.specs.declared.statement.Statement.{Statement}
