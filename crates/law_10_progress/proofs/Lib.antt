@@ -1,0 +1,15 @@
+mod Lists
+mod Deciding
+mod Taking
+mod Trying
+mod Mute
+mod Ruling
+mod Standing
+mod Making
+mod Backup
+mod Rounds
+mod Writing
+mod Answering
+mod Beginning
+mod NewQuorum
+mod Agreeing

@@ -1,0 +1,4 @@
+pub mod Whole
+pub mod Deciding
+pub mod Answering
+pub mod Agreeing
