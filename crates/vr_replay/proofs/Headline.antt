@@ -1,6 +1,5 @@
 -- Every schedule's outputs have one log.
 use Rattle.std.proofs.Common.{List, [], ◌∷◌, ℕ, ◌+◌, ◌<◌, ◌≤◌, ◌≡◌, Bool, true, false, cond, ltb, refl, arith, Option, None, Some}
-use Rattle.std.specs.Prelude.{IfSome}
 use Rattle.std.specs.Option.{option_map_or}
 use Rattle.vr_base.specs.Groups.{least_members}
 use Rattle.vr_base.specs.declared.kind.Kind.{Kind}
@@ -83,7 +82,3 @@ schedule_has_one_log bytes some =
     let s = schedule_of bytes in
     let r = schedule_read (lines_of bytes) in
     lines_keep s.kind s.kind.version s.n s.lines r.version (r.few some) r.many (let few = few_lines bytes in omega (arith, few)) r.of r.asked
-
-pub headline : (left : Option (List ℕ)) → IfSome left (λ bytes. ScheduleHasOneLog (schedule_of bytes))
-headline None = tt
-headline (Some bytes) = schedule_has_one_log bytes

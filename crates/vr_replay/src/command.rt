@@ -1,5 +1,5 @@
 //! A replay over the source and the sink that are handed in.
-ghost use Rattle.std.specs.Prelude.{◌≡◌, ◌⊎◌, ℕ, IfSome};
+ghost use Rattle.std.specs.Prelude.{◌≡◌, ◌⊎◌, ℕ, IfSome, List};
 ghost use Rattle.vr_base.specs.Causes.{Rose};
 ghost use Rattle.vr_replay.specs.Headline.{ScheduleHasOneLog};
 ghost use Rattle.vr_replay.specs.Schedule.{schedule_of};
@@ -34,7 +34,7 @@ fn read_schedule<S: Source, K: Sink>(alloc: Global, source: &mut S, sink: &mut K
 }
 
 /// Replays the schedule of a source, and writes the lines of its outputs to the sink.
-#[tactic(auto, using(crate::proofs::Headline::headline))]
+#[tactic(auto, using(crate::proofs::Headline::schedule_has_one_log))]
 pub fn replay<S: Source, K: Sink>(alloc: Global, source: &mut S, sink: &mut K) -> Status
     // How it ends, and what was read and written; no other answer is given.
     ensures ends { Ends (S.faults source.old) (S.faults source.new) (K.faults sink.old) (K.faults sink.new) (S.left source.old) (S.left source.new) (K.taken sink.old) (K.taken sink.new) result }
@@ -53,7 +53,7 @@ pub fn replay<S: Source, K: Sink>(alloc: Global, source: &mut S, sink: &mut K) -
     ensures complete { ¬ Rose (S.faults source.old) (S.faults source.new) → ¬ Rose (K.faults sink.old) (K.faults sink.new) → IfSome (S.left source.old) (λ bytes. (result ≡ status_for (refused_in bytes)) ⊎ (result ≡ Status.NoMemory)) }
 
     // Whatever the schedule, its outputs have one log.
-    ensures headline { IfSome (S.left source.old) (λ bytes. ScheduleHasOneLog (schedule_of bytes)) }
+    ensures headline { (bytes : List ℕ) → ScheduleHasOneLog (schedule_of bytes) }
 {
     read_schedule(alloc, source, sink)
 }

@@ -100,8 +100,9 @@ pub record Ends {S K D L C P : Type 0} (asked : Option Asked) (o o' : Outside S 
   pub answer : gives asked status ≡ true
   pub causes : HasCauses o o' status
 
--- The outputs of the schedule that words ask for have one log: of `replay` that of its source, where the source tells it, of `soak` that of its number.
-abbrev pub HasOneLog : Option Asked → Option (List ℕ) → Type 0
-HasOneLog (Some Replay) left = IfSome left (λ bytes. ScheduleHasOneLog (schedule_of bytes))
-HasOneLog (Some (Soak words)) left = SoakHasOneLog words.seed words.count
-HasOneLog _ left = ⊤
+-- The outputs of the schedule that words ask for have one log: of `replay` those of each schedule that its source may give, of `soak` those of the schedule of its
+-- number.
+abbrev pub HasOneLog : Option Asked → Type 0
+HasOneLog (Some Replay) = (bytes : List ℕ) → ScheduleHasOneLog (schedule_of bytes)
+HasOneLog (Some (Soak words)) = SoakHasOneLog words.seed words.count
+HasOneLog _ = ⊤

@@ -61,7 +61,7 @@ pub fn run<S: Source, K: Sink, D: SectorDisk, L: Link, C: Clock, P: Spawner>(
         Ends (asked (map string_bytes words.now.items)) (told source.old sink.old disk.old link.old clock.old spawner.old) (told source.new sink.new disk.new link.new clock.new spawner.new) result }
 
     // Whatever the schedule of `replay`, and whatever the number of `soak`: its outputs have one log.
-    ensures headline { HasOneLog (asked (map string_bytes words.now.items)) (S.left source.old) }
+    ensures headline { HasOneLog (asked (map string_bytes words.now.items)) }
 {
     match parse(alloc, words.as_slice()) {
         Ok(command) => obey(alloc, command, source, sink, disk, link, clock, spawner),
