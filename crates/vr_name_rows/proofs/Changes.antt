@@ -3,6 +3,7 @@ use Rattle.std.proofs.Common.{ℕ, ◌≡◌, List, [], ◌∷◌, map, Some, No
 use Rattle.vr_base.specs.Bytes.{sha256, first_words, schedule, rounds, compress, hash_after, digest_bytes, bytes16, bytes32, bytes64, name_of}
 use Rattle.vr_base.specs.Kinds.{strict}
 use Rattle.vr_base.specs.Replicas.{no_replicas, with_replica}
+use Rattle.vr_base.specs.declared.mode.Mode.TheVariants.{Strict}
 use Rattle.vr_header.specs.Bodies.{operation_bytes}
 use Rattle.vr_header.specs.Same.{same_header}
 use Rattle.vr_header.specs.Spelling.{named_bytes}
@@ -23,7 +24,7 @@ use Rattle.vr_name_rows.proofs.Steps.{b0, p1}
 -- ---- the backup that lost both places, and counts ticks
 
 abbrev pub m0 : Replica
-m0 = record b0 { parts = Unknown ∷ replicate 63 Nothing }
+m0 = record (b0 Strict) { parts = Unknown ∷ replicate 63 Nothing }
 
 -- after so many ticks
 abbrev pub waiting : ℕ → Replica
@@ -94,7 +95,7 @@ waits_1 d = refl
 -- ---- the old primary comes back, and states that it has the entry
 
 abbrev a0u : Replica
-a0u = record p1 { view = 1 }
+a0u = record (p1 Strict) { view = 1 }
 
 abbrev pub a0e : Replica
 a0e = record a0u { saved = value_of a0u }

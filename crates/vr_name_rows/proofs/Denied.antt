@@ -5,6 +5,7 @@ use Rattle.std.specs.List.{AllByRecursion}
 use Rattle.std.specs.Option.{option_map}
 use Rattle.vr_base.specs.Bytes.{sha256, first_words, schedule, rounds, compress, hash_after, digest_bytes, bytes16, bytes32, bytes64, name_of}
 use Rattle.vr_base.specs.Kinds.{strict}
+use Rattle.vr_base.specs.declared.mode.Mode.TheVariants.{Strict}
 use Rattle.vr_header.specs.Bodies.{operation_bytes}
 use Rattle.vr_header.specs.NoCollision.{NoCollision}
 use Rattle.vr_header.specs.Same.{same_header}
@@ -74,10 +75,10 @@ start_line_text w x q d es work is p all = line_text one w x (off d) es refl (wo
 -- ---- the disks
 
 abbrev pub x1 : Lying
-x1 = after_all lying (blank_disk 0) (makes first p1)
+x1 = after_all lying (blank_disk Strict 0) (makes first (p1 Strict))
 
 abbrev y1 : Lying
-y1 = after_all lying (blank_disk 1) (stores first b1)
+y1 = after_all lying (blank_disk Strict 1) (stores first (b1 Strict))
 
 abbrev y2 : Lying
 y2 = once y1
@@ -92,7 +93,7 @@ abbrev y5 : Lying
 y5 = after_all lying y4 enters_1
 
 abbrev pub z1 : Lying
-z1 = after_all lying (blank_disk 2) enters_2
+z1 = after_all lying (blank_disk Strict 2) enters_2
 
 abbrev y6 : Lying
 y6 = after_all lying y5 (map Say (wait_line 1 m2))
@@ -108,11 +109,11 @@ y7 = after_all lying y6 (chooses y6).script
 
 pub sits_x1 : Sits (value 0) (but_first kept_slot) x1
 unfolding after_all
-sits_x1 = said _ _ _ (send 2 (prepare first p1) p1) (said _ _ _ (send 1 (prepare first p1) p1) sits_0)
+sits_x1 = said _ _ _ (send 2 (prepare first (p1 Strict)) (p1 Strict)) (said _ _ _ (send 1 (prepare first (p1 Strict)) (p1 Strict)) sits_0)
 
 sits_y1 : Sits (value 1) (but_first kept_slot) y1
 unfolding after_all
-sits_y1 = said _ _ _ (send 0 (prepare_ok name_of first_header b1) b1) sits_1
+sits_y1 = said _ _ _ (send 0 (prepare_ok name_of first_header (b1 Strict)) (b1 Strict)) sits_1
 
 half_y2 : Half (value 1) (but_first half_slot) y2
 half_y2 = halved (value 1) y1 sits_y1
@@ -122,10 +123,10 @@ lost_y3 = lost (value 1) y2 half_y2
 
 -- ---- what the steps begin
 
-pub makes_one : AllByRecursion (IsOf one) (makes first p1)
+pub makes_one : AllByRecursion (IsOf one) (makes first (p1 Strict))
 makes_one = ((inl refl, first_taken), (tt, (tt, tt)))
 
-stores_one : AllByRecursion (IsOf one) (stores first b1)
+stores_one : AllByRecursion (IsOf one) (stores first (b1 Strict))
 stores_one = ((inl refl, first_taken), (tt, tt))
 
 wakes_1_one : AllByRecursion (IsOf one) wakes_1
@@ -166,7 +167,7 @@ plain_x2 = plain_all one wakes_0 x1 wakes_0_one sits_x1.plain
 -- ---- the whole row
 
 abbrev c_first : Host Lying
-c_first = quiet_host
+c_first = (quiet_host Strict)
 
 abbrev c_last : Host Lying
 c_last = host c1 z1
@@ -174,18 +175,18 @@ c_last = host c1 z1
 hashed : Hashes (IsText one) (fresh_world hazards strict 3) acknowledged
 hashed =
     let xs = acknowledged in
-    let w0 = three (host p0 (blank_disk 0)) (host b0 (blank_disk 1)) c_first [] in
-    let w1 = three (host p1 x1) (host b0 (blank_disk 1)) c_first sent_1 in
-    let w2 = three (host p1 x1) (host b1 y1) c_first sent_2 in
-    let w3 = three (host p1 x1) (off y1) c_first sent_2 in
-    let w4 = three (host p1 x1) (off y2) c_first sent_2 in
-    let w5 = three (host p1 x1) (off y3) c_first sent_2 in
-    let w6 = three (host p1 x1) (host m0 y4) c_first sent_2 in
-    let w7 = three (off x1) (host m0 y4) c_first sent_2 in
-    let w8 = three (off x1) (host (waiting 1) y4) c_first sent_2 in
-    let w9 = three (off x1) (host (waiting 2) y4) c_first sent_2 in
-    let w10 = three (off x1) (host (waiting 3) y4) c_first sent_2 in
-    let w11 = three (off x1) (host (waiting 4) y4) c_first sent_2 in
+    let w0 = three (host (p0 Strict) (blank_disk Strict 0)) (host (b0 Strict) (blank_disk Strict 1)) c_first [] in
+    let w1 = three (host (p1 Strict) x1) (host (b0 Strict) (blank_disk Strict 1)) c_first (sent_1 Strict) in
+    let w2 = three (host (p1 Strict) x1) (host (b1 Strict) y1) c_first (sent_2 Strict) in
+    let w3 = three (host (p1 Strict) x1) (off y1) c_first (sent_2 Strict) in
+    let w4 = three (host (p1 Strict) x1) (off y2) c_first (sent_2 Strict) in
+    let w5 = three (host (p1 Strict) x1) (off y3) c_first (sent_2 Strict) in
+    let w6 = three (host (p1 Strict) x1) (host m0 y4) c_first (sent_2 Strict) in
+    let w7 = three (off x1) (host m0 y4) c_first (sent_2 Strict) in
+    let w8 = three (off x1) (host (waiting 1) y4) c_first (sent_2 Strict) in
+    let w9 = three (off x1) (host (waiting 2) y4) c_first (sent_2 Strict) in
+    let w10 = three (off x1) (host (waiting 3) y4) c_first (sent_2 Strict) in
+    let w11 = three (off x1) (host (waiting 4) y4) c_first (sent_2 Strict) in
     let w12 = three (off x1) (host m1 y5) c_first sent_3 in
     let w13 = three (off x1) (host m1 y5) c_last sent_4 in
     let w14 = three (off x1) (host m2 y6) c_last sent_4 in
@@ -199,21 +200,21 @@ hashed =
     let start_0 = starts_0 x1 sits_x1.opens sits_x1.looks in
     let h14 : Hashes (IsText one) w14 (drop 14 xs) = then_lines (IsText one) w14 w15 (Starts 0) (drop 15 xs) (wakes_at_0 (host m2 y6) c_last x1 start_0) (start_line_text w14 (Starts 0) a0 x1 wakes_0 refl start_0 sits_x1.plain wakes_0_one) h15 in
     let h13 : Hashes (IsText one) w13 (drop 13 xs) = then_lines (IsText one) w13 w14 (Arrives 7) (drop 14 xs) (waits_at_1 (off x1) c_last y5) (step_line w13 (Arrives 7) (event.Deliver (do_view_change c1)) m1 m2 y5 (map Say (wait_line 1 m2)) refl (waits_1 y5) plain_y5 (tt, tt)) h14 in
-    let h12 : Hashes (IsText one) w12 (drop 12 xs) = then_lines (IsText one) w12 w13 (Arrives 4) (drop 13 xs) (enters_at_2 (off x1) (host m1 y5) (blank_disk 2)) (step_line w12 (Arrives 4) (event.Deliver (start_view_change m1)) c0 c1 (blank_disk 2) enters_2 refl (changes_2 (blank_disk 2)) (blank_plain one).2 enters_2_one) h13 in
+    let h12 : Hashes (IsText one) w12 (drop 12 xs) = then_lines (IsText one) w12 w13 (Arrives 4) (drop 13 xs) (enters_at_2 (off x1) (host m1 y5) (blank_disk Strict 2)) (step_line w12 (Arrives 4) (event.Deliver (start_view_change m1)) c0 c1 (blank_disk Strict 2) enters_2 refl (changes_2 (blank_disk Strict 2)) (blank_plain Strict one).2 enters_2_one) h13 in
     let h11 : Hashes (IsText one) w11 (drop 11 xs) = then_lines (IsText one) w11 w12 (Ticks 1) (drop 12 xs) (enters_at_1 (off x1) c_first y4) (step_line w11 (Ticks 1) event.Tick (waiting 4) m1 y4 enters_1 refl (ticks_4 y4) plain_y4 enters_1_one) h12 in
     let h10 : Hashes (IsText one) w10 (drop 10 xs) = then_lines (IsText one) w10 w11 (Ticks 1) (drop 11 xs) (ticks_at_1 (off x1) c_first (waiting 3) (waiting 4) y4 (ticks_3 y4)) (step_line w10 (Ticks 1) event.Tick (waiting 3) (waiting 4) y4 [] refl (ticks_3 y4) plain_y4 tt) h11 in
     let h9 : Hashes (IsText one) w9 (drop 9 xs) = then_lines (IsText one) w9 w10 (Ticks 1) (drop 10 xs) (ticks_at_1 (off x1) c_first (waiting 2) (waiting 3) y4 (ticks_2 y4)) (step_line w9 (Ticks 1) event.Tick (waiting 2) (waiting 3) y4 [] refl (ticks_2 y4) plain_y4 tt) h10 in
     let h8 : Hashes (IsText one) w8 (drop 8 xs) = then_lines (IsText one) w8 w9 (Ticks 1) (drop 9 xs) (ticks_at_1 (off x1) c_first (waiting 1) (waiting 2) y4 (ticks_1 y4)) (step_line w8 (Ticks 1) event.Tick (waiting 1) (waiting 2) y4 [] refl (ticks_1 y4) plain_y4 tt) h9 in
     let h7 : Hashes (IsText one) w7 (drop 7 xs) = then_lines (IsText one) w7 w8 (Ticks 1) (drop 8 xs) (ticks_at_1 (off x1) c_first m0 (waiting 1) y4 (ticks_0 y4)) (step_line w7 (Ticks 1) event.Tick m0 (waiting 1) y4 [] refl (ticks_0 y4) plain_y4 tt) h8 in
-    let h6 : Hashes (IsText one) w6 (drop 6 xs) = then_lines (IsText one) w6 w7 (Stops 0) (drop 7 xs) (stops_0 (host m0 y4) c_first p1 x1) (idle_text w6 (Stops 0) refl refl) h7 in
+    let h6 : Hashes (IsText one) w6 (drop 6 xs) = then_lines (IsText one) w6 w7 (Stops 0) (drop 7 xs) (stops_0 (host m0 y4) c_first (p1 Strict) x1) (idle_text w6 (Stops 0) refl refl) h7 in
     let start_1 = starts_1 y3 lost_y3.opens lost_y3.looks in
-    let h5 : Hashes (IsText one) w5 (drop 5 xs) = then_lines (IsText one) w5 w6 (Starts 1) (drop 6 xs) (wakes_at_1 (host p1 x1) c_first y3 start_1) (start_line_text w5 (Starts 1) m0 y3 wakes_1 refl start_1 lost_y3.plain wakes_1_one) h6 in
-    let h4 : Hashes (IsText one) w4 (drop 4 xs) = then_lines (IsText one) w4 w5 (Lies 1 (Damage 148)) (drop 5 xs) (lies_1 (host p1 x1) c_first y2 y3 148 (done y2 148 half_y2.plain.version (inr refl) half_y2.face (gone_148 y2.face half_y2.gone))) (fault_line w4 (off y2) 148 refl (fault_text y2 148 half_y2.plain.version (reads_twice (value 1) y2 half_y2) half_y2.held)) h5 in
-    let h3 : Hashes (IsText one) w3 (drop 3 xs) = then_lines (IsText one) w3 w4 (Lies 1 (Damage 81)) (drop 4 xs) (lies_1 (host p1 x1) c_first y1 y2 81 (done y1 81 sits_y1.plain.version (inl refl) sits_y1.face (gone_81 y1.face sits_y1.plain.count sits_y1.header))) (fault_line w3 (off y1) 81 refl (fault_text y1 81 sits_y1.plain.version (reads_once y1 sits_y1.plain) sits_y1.held)) h4 in
-    let h2 : Hashes (IsText one) w2 (drop 2 xs) = then_lines (IsText one) w2 w3 (Stops 1) (drop 3 xs) (stops_1 (host p1 x1) c_first b1 y1) (idle_text w2 (Stops 1) refl refl) h3 in
-    let h1 : Hashes (IsText one) w1 (drop 1 xs) = then_lines (IsText one) w1 w2 (Arrives 0) (drop 2 xs) (goes_1 x1 (blank_disk 1)) (step_line w1 (Arrives 0) (event.Deliver (prepare first p1)) b0 b1 (blank_disk 1) (stores first b1) refl (step_1 (blank_disk 1)) (blank_plain one).1 stores_one) h2 in
-    let h0 : Hashes (IsText one) w0 xs = then_lines (IsText one) w0 w1 (AsksInVersion 0 registers) (drop 1 xs) (goes_0 (blank_disk 0) (host b0 (blank_disk 1))) (step_line w0 (AsksInVersion 0 registers) (event.Request registers) p0 p1 (blank_disk 0) (makes first p1) (asks_0 (blank_disk 0)) (step_0 (blank_disk 0)) (blank_plain one).0 makes_one) h1 in
-    subst (λ (w : World Lying). Hashes (IsText one) w xs) (sym begins) h0
+    let h5 : Hashes (IsText one) w5 (drop 5 xs) = then_lines (IsText one) w5 w6 (Starts 1) (drop 6 xs) (wakes_at_1 (host (p1 Strict) x1) c_first y3 start_1) (start_line_text w5 (Starts 1) m0 y3 wakes_1 refl start_1 lost_y3.plain wakes_1_one) h6 in
+    let h4 : Hashes (IsText one) w4 (drop 4 xs) = then_lines (IsText one) w4 w5 (Lies 1 (Damage 148)) (drop 5 xs) (lies_1 (host (p1 Strict) x1) c_first y2 y3 148 (done y2 148 half_y2.plain.version (inr refl) half_y2.face (gone_148 y2.face half_y2.gone))) (fault_line w4 (off y2) 148 refl (fault_text y2 148 half_y2.plain.version (reads_twice (value 1) y2 half_y2) half_y2.held)) h5 in
+    let h3 : Hashes (IsText one) w3 (drop 3 xs) = then_lines (IsText one) w3 w4 (Lies 1 (Damage 81)) (drop 4 xs) (lies_1 (host (p1 Strict) x1) c_first y1 y2 81 (done y1 81 sits_y1.plain.version (inl refl) sits_y1.face (gone_81 y1.face sits_y1.plain.count sits_y1.header))) (fault_line w3 (off y1) 81 refl (fault_text y1 81 sits_y1.plain.version (reads_once y1 sits_y1.plain) sits_y1.held)) h4 in
+    let h2 : Hashes (IsText one) w2 (drop 2 xs) = then_lines (IsText one) w2 w3 (Stops 1) (drop 3 xs) (stops_1 (host (p1 Strict) x1) c_first (b1 Strict) y1) (idle_text w2 (Stops 1) refl refl) h3 in
+    let h1 : Hashes (IsText one) w1 (drop 1 xs) = then_lines (IsText one) w1 w2 (Arrives 0) (drop 2 xs) (goes_1 Strict x1 (blank_disk Strict 1)) (step_line w1 (Arrives 0) (event.Deliver (prepare first (p1 Strict))) (b0 Strict) (b1 Strict) (blank_disk Strict 1) (stores first (b1 Strict)) refl (step_1 Strict (blank_disk Strict 1)) (blank_plain Strict one).1 stores_one) h2 in
+    let h0 : Hashes (IsText one) w0 xs = then_lines (IsText one) w0 w1 (AsksInVersion 0 registers) (drop 1 xs) (goes_0 Strict (blank_disk Strict 0) (host (b0 Strict) (blank_disk Strict 1))) (step_line w0 (AsksInVersion 0 registers) (event.Request registers) (p0 Strict) (p1 Strict) (blank_disk Strict 0) (makes first (p1 Strict)) (asks_0 Strict (blank_disk Strict 0)) (step_0 Strict (blank_disk Strict 0)) (blank_plain Strict one).0 makes_one) h1 in
+    subst (λ (w : World Lying). Hashes (IsText one) w xs) (sym (begins Strict)) h0
 
 pub also : (b : List ℕ) → IsText one b → IsText both b
 also _ root = root

@@ -30,6 +30,13 @@ asks_put = 71 ∷ 110 ∷ 98 ∷ 199 ∷ 229 ∷ 8 ∷ 9 ∷ 139 ∷ 86 ∷ 70 �
 abbrev pub second_name : List ℕ
 second_name = 247 ∷ 81 ∷ 179 ∷ 56 ∷ 22 ∷ 176 ∷ 47 ∷ 82 ∷ 80 ∷ 151 ∷ 69 ∷ 31 ∷ 139 ∷ 253 ∷ 171 ∷ 100 ∷ []
 
+-- of client 8's register, in view 1, after the first entry
+abbrev pub asks_later : List ℕ
+asks_later = 207 ∷ 201 ∷ 149 ∷ 72 ∷ 13 ∷ 103 ∷ 61 ∷ 181 ∷ 150 ∷ 99 ∷ 29 ∷ 4 ∷ 208 ∷ 131 ∷ 44 ∷ 148 ∷ []
+
+abbrev pub third_name : List ℕ
+third_name = 138 ∷ 102 ∷ 254 ∷ 128 ∷ 217 ∷ 46 ∷ 45 ∷ 12 ∷ 222 ∷ 161 ∷ 80 ∷ 190 ∷ 97 ∷ 122 ∷ 140 ∷ 188 ∷ []
+
 abbrev pub first_header : Header
 first_header = record {
   body = record { 0 = register_name };
@@ -68,11 +75,33 @@ second_header = record {
   aux = 0;
 }
 
+abbrev pub third_header : Header
+third_header = record {
+  body = record { 0 = register_name };
+  parent = record { 0 = first_name };
+  request_name = record { 0 = asks_later };
+  cluster = 0;
+  client = 8;
+  request = 0;
+  view = 1;
+  op = 2;
+  commit = 0;
+  size = 129;
+  command = command.Entry;
+  replica = 0;
+  version = 1;
+  kind = 0;
+  aux = 0;
+}
+
 abbrev pub first : Whole
 first = record { header = first_header; operation = Register }
 
 abbrev pub second : Whole
 second = record { header = second_header; operation = Put (codes "a") (codes "b") }
+
+abbrev pub third : Whole
+third = record { header = third_header; operation = Register }
 
 pub root_named : name_of (named_bytes (root_header 0)) ≡ root_name
 unfolding operation_bytes named_bytes bytes16 bytes32 bytes64 name_of sha256 first_words schedule rounds compress hash_after digest_bytes
@@ -101,3 +130,11 @@ asks_put_named = refl
 pub second_named : name_of (named_bytes second_header) ≡ second_name
 unfolding operation_bytes named_bytes bytes16 bytes32 bytes64 name_of sha256 first_words schedule rounds compress hash_after digest_bytes
 second_named = refl
+
+pub asks_later_named : name_of (named_bytes (request_header 1 0 8 0 Register)) ≡ asks_later
+unfolding operation_bytes named_bytes bytes16 bytes32 bytes64 name_of sha256 first_words schedule rounds compress hash_after digest_bytes
+asks_later_named = refl
+
+pub third_named : name_of (named_bytes third_header) ≡ third_name
+unfolding operation_bytes named_bytes bytes16 bytes32 bytes64 name_of sha256 first_words schedule rounds compress hash_after digest_bytes
+third_named = refl

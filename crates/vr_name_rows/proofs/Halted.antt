@@ -6,6 +6,7 @@ use Rattle.std.proofs.lemmas.List.{drop-drop, drop_at}
 use Rattle.vr_base.specs.Bytes.{name_of, piece}
 use Rattle.vr_base.specs.Kinds.{strict}
 use Rattle.vr_base.proofs.FieldLaws.{length-name_of}
+use Rattle.vr_base.specs.declared.mode.Mode.TheVariants.{Strict}
 use Rattle.vr_disk.specs.DiskState.{Cell, Face, IsFace, Write, after, after_all, cut, reads}
 use Rattle.vr_disk.specs.Regions.{block_place, header_place, prepare_place, sectors}
 use Rattle.vr_disk.specs.Sectors.{together, writes}
@@ -56,12 +57,12 @@ copy_text = drop_at (name_of (named_bytes (value 1))) (named_bytes (value 1)) 16
 
 -- ---- the disk before
 
-on_1 : (m : Member) × IsOn (blank_disk 1) m × (value 1 ≡ m.last)
+on_1 : (m : Member) × IsOn (blank_disk Strict 1) m × (value 1 ≡ m.last)
 unfolding fresh_world blank
-on_1 = let q = beside.each 1 (fresh_host hazards strict 3 1) refl in let on = q.2.running (fresh strict 0 3 1) refl in (q.0, on.0, on.1)
+on_1 = let q = (beside Strict).each 1 (fresh_host hazards strict 3 1) refl in let on = q.2.running (fresh strict 0 3 1) refl in (q.0, on.0, on.1)
 
 abbrev f0 : Face
-f0 = (blank_disk 1).face
+f0 = (blank_disk Strict 1).face
 
 rests : f0.waiting ≡ []
 rests = on_1.1.calm.rests
@@ -73,7 +74,7 @@ count : length f0.cells ≡ sectors
 count = on_1.1.calm.face.count
 
 none_0 : (slot : ℕ) (x : Whole) → whole_in 1 f0 slot ≡ Some x → ⊥
-none_0 slot x e = (blank_plain []).1.reads slot x e
+none_0 slot x e = (blank_plain Strict []).1.reads slot x e
 
 -- ---- faces that differ from it in three sectors alone
 
@@ -221,7 +222,7 @@ known_after (suc zero) l = known_front f2 alike_2 front_1
 known_after (suc (suc zero)) l = known_front f3 alike_3 front_2
 known_after (suc (suc (suc k))) l = absurd (omega (arith, l))
 
-known_met : (g : Face) → IsMet (effect.Write false first) (blank_disk 1) 2 26 g → IsKnown g
+known_met : (g : Face) → IsMet (effect.Write false first) (blank_disk Strict 1) 2 26 g → IsKnown g
 known_met _ (met_after k l) = known_after k (omega (arith, l))
 known_met _ left = record { reads = λ slot x e. absurd (torn_none slot x e); alike = torn_alike }
 
@@ -231,7 +232,7 @@ some_bytes a b e = cc
 same_write : (a b : Bool) (x y : Whole) → effect.Write a x ≡ effect.Write b y → x ≡ y
 same_write a b x y e = cc
 
-pub cut_text : (b : List ℕ) → IsHashedBy (effect.Write false first) (blank_disk 1) 2 26 b → IsNear b
+pub cut_text : (b : List ℕ) → IsHashedBy (effect.Write false first) (blank_disk Strict 1) 2 26 b → IsNear b
 cut_text b (hashed_reads g met h) = inl (subst (IsText one) (sym h.4) (operation h.1 (inl ((known_met g met).reads h.0 h.1 h.3))))
 cut_text b (copies g met h) =
     let copy : Some h.1 ≡ Some (copy_bytes (value 1)) = sym h.3 ∙ (alike_copy g (known_met g met).alike h.0 h.2 ∙ copies_there 1 h.0 h.2) in
@@ -248,7 +249,7 @@ torn_look slot l =
     let before : (o : Option Whole) → whole_in 1 f0 slot ≡ o → o ≡ None = λ o. elim o as (λ o. whole_in 1 f0 slot ≡ o → o ≡ None) [ None ↦ λ e. refl | Some x ↦ λ e. absurd (none_0 slot x e) ] in
     ap (λ h. record { header = h; entry = whole_in 1 torn slot; blank = false }) (alike_header torn torn_alike slot l)
     ∙ (ap (λ e. record { header = header_in f0 slot; entry = e; blank = false }) (none (whole_in 1 torn slot) refl ∙ sym (before (whole_in 1 f0 slot) refl))
-    ∙ blank_look 1 slot (blank_plain []).1 l)
+    ∙ blank_look 1 slot (blank_plain Strict []).1 l)
 
 pub record LeftBlank (d : Lying) : Type 0 where
   pub plain : Plain one d
@@ -261,7 +262,7 @@ left_blank d file is = subst (λ (f : Face). LeftBlank (record { face = f; held 
     version = file;
     count = torn_face.count;
     reads = λ slot x e. absurd (torn_none slot x e);
-    blocks = λ name c q. (blank_plain one).1.blocks name c (sym (alike_named torn torn_alike name) ∙ q);
+    blocks = λ name c q. (blank_plain Strict one).1.blocks name c (sym (alike_named torn torn_alike name) ∙ q);
   };
   opens = alike_opens torn torn_alike ∙ opens_0;
   looks = record { version = file; at = torn_look };

@@ -2,12 +2,15 @@ pub mod Happenings
 pub mod Entries
 pub mod Values
 pub mod Disks
+pub mod Kept
 pub mod Taken
 pub mod Lines
 pub mod Names
 pub mod Steps
 pub mod Path
+pub mod One
 pub mod Changes
+pub mod Dropped
 pub mod Found
 pub mod Starts
 pub mod Formatted
@@ -19,5 +22,7 @@ pub mod Denied
 pub mod Torn
 pub mod Halted
 pub mod Revived
+pub mod Moved
 pub mod TornRow
+pub mod DroppedRow
 pub mod Meeting

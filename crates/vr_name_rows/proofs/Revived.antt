@@ -3,6 +3,7 @@ use Rattle.std.proofs.Common.{ℕ, ◌≡◌, List, [], ◌∷◌, map, Some, re
 use Rattle.std.specs.List.{AllByRecursion}
 use Rattle.vr_base.specs.Bytes.{name_of, sha256}
 use Rattle.vr_base.specs.Replicas.{no_replicas, with_replica}
+use Rattle.vr_base.specs.declared.mode.Mode.TheVariants.{Strict}
 use Rattle.vr_msg.specs.Choice.{choice, named_by, row_end, log_headers}
 use Rattle.vr_msg.specs.declared.event.Event.TheVariants as event
 use Rattle.vr_super.specs.Opens.{opens}
@@ -29,21 +30,21 @@ unfolding name_of sha256
 quiet_blank = refl
 
 abbrev pub revives : List Effect
-revives = Mend (value 1) ∷ map Say (start_line b0)
+revives = Mend (value 1) ∷ map Say (start_line (b0 Strict))
 
-blank_is : (d : Lying) → with_found (value 1) d (record { replica = found_all (value 1) (of_op reserved) window (blank (value 1)); script = [] }) ≡ record { replica = b0; script = revives }
+blank_is : (d : Lying) → with_found (value 1) d (record { replica = found_all (value 1) (of_op reserved) window (blank (value 1)); script = [] }) ≡ record { replica = (b0 Strict); script = revives }
 unfolding ◌⨾◌ does change says by each quiet times after_all blank clouded forgetting head part_at with_part words.load words.apply
 blank_is d = refl
 
-pub starts_blank : (d : Lying) → opens d.face ≡ Some (value 1) → Looks reserved d → opened lying d ≡ Some (record { replica = b0; script = revives })
+pub starts_blank : (d : Lying) → opens d.face ≡ Some (value 1) → Looks reserved d → opened lying d ≡ Some (record { replica = (b0 Strict); script = revives })
 starts_blank d is looks = starts_as 1 reserved d is looks quiet_blank ∙ ap Some (blank_is d)
 
 -- ---- it counts ticks, and enters the next view
 
 abbrev pub idles : ℕ → Replica
-idles k = record b0 { idle = k; cursor = k }
+idles k = record (b0 Strict) { idle = k; cursor = k }
 
-pub idles_0 : (d : Lying) → rules.react event.Tick lying b0 d ≡ record { replica = idles 1; script = [] }
+pub idles_0 : (d : Lying) → rules.react event.Tick lying (b0 Strict) d ≡ record { replica = idles 1; script = [] }
 unfolding rules.react rules.on_tick by first_of blank says ◌⨾◌ change quiet reading words.with_entry_at part_at head words.ask words.visit words.visit_place words.visit_slot after_all
 idles_0 d = refl
 
@@ -60,7 +61,7 @@ unfolding rules.react rules.on_tick by first_of blank says ◌⨾◌ change quie
 idles_3 d = refl
 
 abbrev n1u : Replica
-n1u = record b0 { view = 1; heard = with_replica no_replicas 1; cursor = 4 }
+n1u = record (b0 Strict) { view = 1; heard = with_replica no_replicas 1; cursor = 4 }
 
 abbrev pub n1 : Replica
 n1 = record n1u { saved = value_of n1u }
@@ -69,7 +70,7 @@ abbrev tells_change : Replica → ℕ → Effect
 tells_change r to = Say (send to (start_view_change r) r)
 
 abbrev pub enters_next : List Effect
-enters_next = Save b0.saved (value_of n1u) ∷ tells_change n1 0 ∷ tells_change n1 2 ∷ []
+enters_next = Save (b0 Strict).saved (value_of n1u) ∷ tells_change n1 0 ∷ tells_change n1 2 ∷ []
 
 pub idles_4 : (d : Lying) → rules.react event.Tick lying (idles 4) d ≡ record { replica = n1; script = enters_next }
 unfolding rules.react rules.on_tick by first_of blank says send_to_all ◌⨾◌ change quiet does reading words.enter words.entered words.save part_at head after_all

@@ -6,6 +6,7 @@ use Rattle.std.proofs.lemmas.Bool.{cases_eq, ne_eqb}
 use Rattle.std.proofs.Common.{get_or-set_same}
 use Rattle.vr_base.specs.Kinds.{strict}
 use Rattle.vr_base.specs.Bytes.{piece}
+use Rattle.vr_base.specs.declared.mode.Mode.TheVariants.{Strict}
 use Rattle.vr_disk.specs.DiskState.{Call, Cell, Face, IsFace, Sync, Write, after, after_all, blank as no_cell, cell, written}
 use Rattle.vr_disk.specs.Regions.{header_place, sectors}
 use Rattle.vr_disk.specs.Sectors.{writes}
@@ -61,15 +62,15 @@ pub record Sits (v : SuperValue) (table : ℕ → Slot) (d : Lying) : Type 0 whe
 none_read : (d : Lying) (slot : ℕ) → Plain [] d → whole_in 1 d.face slot ≡ None
 none_read d slot p = elim (whole_in 1 d.face slot) as (λ o. whole_in 1 d.face slot ≡ o → o ≡ None) [ None ↦ λ e. refl | Some x ↦ λ e. absurd (p.reads slot x e) ] refl
 
-pub blank_look : (i slot : ℕ) → Plain [] (blank_disk i) → slot < 64 → look (blank_disk i) slot ≡ reserved slot
+pub blank_look : (i slot : ℕ) → Plain [] (blank_disk Strict i) → slot < 64 → look (blank_disk Strict i) slot ≡ reserved slot
 blank_look i slot p l =
-    ap (λ h. record { header = h; entry = whole_in 1 (blank_disk i).face slot; blank = false }) (header_is i slot l)
-    ∙ ap (λ e. record { header = Some (reserved_header 1 0 slot); entry = e; blank = false }) (none_read (blank_disk i) slot p)
+    ap (λ h. record { header = h; entry = whole_in 1 (blank_disk Strict i).face slot; blank = false }) (header_is i slot l)
+    ∙ ap (λ e. record { header = Some (reserved_header 1 0 slot); entry = e; blank = false }) (none_read (blank_disk Strict i) slot p)
 
 -- ---- what is written
 
 abbrev stored : ℕ → Lying
-stored i = lying.after (blank_disk i) (effect.Write false first)
+stored i = lying.after (blank_disk Strict i) (effect.Write false first)
 
 written_header : (f : Face) → length f.cells ≡ sectors → header_in (after_all f (new_calls 1 first)) 1 ≡ Some first_header
 written_header f n =
@@ -81,18 +82,18 @@ other_header : (f : Face) (slot : ℕ) → slot < 64 → slot ≢ 1 → header_i
 other_header f slot l other =
     same_header (new_calls 1 first) f slot (spares_append (header_place slot) (prepare_calls 1 first) (header_calls first_header) (prepare_spares 1 first (header_place slot) (inl (omega (arith, l)))) (header_spares first_header (header_place slot) (λ q. other (omega (arith, q)))))
 
-stored_look : (i slot : ℕ) → Plain [] (blank_disk i) → slot < 64 → look (stored i) slot ≡ but_first kept_slot slot
+stored_look : (i slot : ℕ) → Plain [] (blank_disk Strict i) → slot < 64 → look (stored i) slot ≡ but_first kept_slot slot
 stored_look i slot p l =
     elim (cases_eq slot 1) [
       | inl same ↦
           let at : look (stored i) 1 ≡ kept_slot =
-          ap (λ h. record { header = h; entry = whole_in 1 (stored i).face 1; blank = false }) (written_header (blank_disk i).face p.count)
-          ∙ ap (λ e. record { header = Some first_header; entry = e; blank = false }) (written_there false first (blank_disk i).face p.count first_taken) in
+          ap (λ h. record { header = h; entry = whole_in 1 (stored i).face 1; blank = false }) (written_header (blank_disk Strict i).face p.count)
+          ∙ ap (λ e. record { header = Some first_header; entry = e; blank = false }) (written_there false first (blank_disk Strict i).face p.count first_taken) in
           subst (λ (s : ℕ). look (stored i) s ≡ but_first kept_slot s) (sym same) at
       | inr other ↦
           let not : eqb slot 1 ≡ false = ne_eqb slot 1 other in
-          ap (λ h. record { header = h; entry = whole_in 1 (stored i).face slot; blank = false }) (other_header (blank_disk i).face slot l other)
-          ∙ (ap (λ e. record { header = header_in (blank_disk i).face slot; entry = e; blank = false }) (written_apart false first (blank_disk i).face slot other)
+          ap (λ h. record { header = h; entry = whole_in 1 (stored i).face slot; blank = false }) (other_header (blank_disk Strict i).face slot l other)
+          ∙ (ap (λ e. record { header = header_in (blank_disk Strict i).face slot; entry = e; blank = false }) (written_apart false first (blank_disk Strict i).face slot other)
           ∙ (blank_look i slot p l
           ∙ ap (λ (b : Bool). cond b kept_slot (reserved slot)) (sym not)))
     ]
@@ -123,16 +124,16 @@ prepare_truth f n =
 some_bytes : (a b : List ℕ) → Some a ≡ Some b → a ≡ b
 some_bytes a b e = cc
 
-module _ (i : ℕ) (p : Plain [] (blank_disk i)) (p1 : Plain one (blank_disk i)) (m : Member) (on : IsOn (blank_disk i) m) (last : value i ≡ m.last) where
-  may : MayCome (effect.Write false first) (blank_disk i) m.last
+module _ (i : ℕ) (p : Plain [] (blank_disk Strict i)) (p1 : Plain one (blank_disk Strict i)) (m : Member) (on : IsOn (blank_disk Strict i) m) (last : value i ≡ m.last) where
+  may : MayCome (effect.Write false first) (blank_disk Strict i) m.last
   may = record { fit = (first_taken.whole, ap (λ (v : SuperValue). v.fields.cluster) last, omega arith); calls = new_are 1 first first_taken.whole }
 
   then_on : IsOn (stored i) (ends (effect.Write false first) (begins (effect.Write false first) m))
-  then_on = stay (effect.Write false first) (blank_disk i) m on may
+  then_on = stay (effect.Write false first) (blank_disk Strict i) m on may
 
   held_own : held_at (stored i).held 1 ≡ Some (prepare_bytes first)
   held_own =
-      let d = blank_disk i in
+      let d = (blank_disk Strict) i in
       let leaves : NewLeaves 1 first d.face = new_leaves 1 first (Some (quiet_disk d.face)) on.calm.face first_taken.whole first_taken.takes on.calm.rests in
       at_slot (λ slot. held_after_all 1 d.face (new_calls 1 first) slot (held_at d.held slot)) 1 (omega arith) ∙ leaves.held m.last.fields.mode (held_at d.held 1) (on.calm.stand.each 1 (omega arith))
 
@@ -141,20 +142,20 @@ module _ (i : ℕ) (p : Plain [] (blank_disk i)) (p1 : Plain one (blank_disk i))
       elim (cases_eq 1 slot) [
         | inl same ↦ some_bytes b (prepare_bytes first) (sym (subst (λ (s : ℕ). held_at (stored i).held s ≡ Some b) (sym same) e) ∙ held_own)
         | inr other ↦
-            let none : held_at (stored i).held slot ≡ None = others_after (new_calls 1 first) (blank_disk i) 1 on.calm (λ slot l d. new_apart 1 first slot l d) slot l other ∙ nothing_held i slot l in
+            let none : held_at (stored i).held slot ≡ None = others_after (new_calls 1 first) (blank_disk Strict i) 1 on.calm (λ slot l d. new_apart 1 first slot l d) slot l other ∙ nothing_held i slot l in
             let bad : None ≡ Some b = sym none ∙ e in
             absurd cc
       ]
 
   stored_sits : Sits (value i) (but_first kept_slot) (stored i)
   stored_sits = record {
-    plain = plain_after one (effect.Write false first) (blank_disk i) (inl refl, first_taken) p1;
+    plain = plain_after one (effect.Write false first) (blank_disk Strict i) (inl refl, first_taken) p1;
     face = then_on.calm.face;
     opens = then_on.value ∙ ap Some (sym last);
     looks = record { version = refl; at = λ slot l. stored_look i slot p l };
     held = held_all;
-    header = header_truth (blank_disk i).face p.count;
-    prepare = prepare_truth (blank_disk i).face p.count;
+    header = header_truth (blank_disk Strict i).face p.count;
+    prepare = prepare_truth (blank_disk Strict i).face p.count;
   }
 
 -- what is said changes nothing
@@ -173,18 +174,18 @@ said v table d o s = record {
 -- ---- of the first two members
 
 abbrev pub wrote : ℕ → Lying
-wrote i = lying.after (blank_disk i) (effect.Write false first)
+wrote i = lying.after (blank_disk Strict i) (effect.Write false first)
 
-sits : (i : ℕ) → slice_get (fresh_world hazards strict 3).members i ≡ Some (fresh_host hazards strict 3 i) → Plain [] (blank_disk i) → Plain one (blank_disk i) → (fresh strict 0 3 i).saved ≡ value i → Sits (value i) (but_first kept_slot) (wrote i)
+sits : (i : ℕ) → slice_get (fresh_world hazards strict 3).members i ≡ Some (fresh_host hazards strict 3 i) → Plain [] (blank_disk Strict i) → Plain one (blank_disk Strict i) → (fresh strict 0 3 i).saved ≡ value i → Sits (value i) (but_first kept_slot) (wrote i)
 sits i at p p1 saved =
-    let q = beside.each i (fresh_host hazards strict 3 i) at in
+    let q = (beside Strict).each i (fresh_host hazards strict 3 i) at in
     let on = q.2.running (fresh strict 0 3 i) refl in
     stored_sits i p p1 q.0 on.0 (sym saved ∙ on.1)
 
 pub sits_0 : Sits (value 0) (but_first kept_slot) (wrote 0)
 unfolding fresh_world blank
-sits_0 = sits 0 refl (blank_plain []).0 (blank_plain one).0 refl
+sits_0 = sits 0 refl (blank_plain Strict []).0 (blank_plain Strict one).0 refl
 
 pub sits_1 : Sits (value 1) (but_first kept_slot) (wrote 1)
 unfolding fresh_world blank
-sits_1 = sits 1 refl (blank_plain []).1 (blank_plain one).1 refl
+sits_1 = sits 1 refl (blank_plain Strict []).1 (blank_plain Strict one).1 refl

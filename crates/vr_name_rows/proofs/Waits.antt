@@ -1,6 +1,7 @@
 -- An acknowledged entry isn't denied: the worlds that the lines of that row come through.
 use Rattle.std.proofs.Common.{ℕ, ◌≡◌, refl, ap, List, [], ◌∷◌, ◌++◌, map, Option, Some, None}
 use Rattle.std.specs.Option.{option_map_or}
+use Rattle.vr_base.specs.declared.mode.Mode.TheVariants.{Strict}
 use Rattle.vr_msg.specs.declared.event.Event.TheVariants as event
 use Rattle.vr_msg.specs.declared.output.Sent.{Sent}
 use Rattle.vr_lie.specs.declared.fault.Fault.TheVariants.{Damage}
@@ -25,14 +26,14 @@ off d = record { replica = None; disk = d; fuse = None }
 abbrev pub three : Host Lying → Host Lying → Host Lying → List Sent → World Lying
 three a b c sent = record { n = 3; members = a ∷ b ∷ c ∷ []; sent = sent }
 
-abbrev changes_to : Replica → ℕ → Sent
+abbrev pub changes_to : Replica → ℕ → Sent
 changes_to r to = record { from = r.index; to = to; message = start_view_change r }
 
-abbrev states_to : Replica → Sent
+abbrev pub states_to : Replica → Sent
 states_to r = record { from = r.index; to = 1; message = do_view_change r }
 
 abbrev pub sent_3 : List Sent
-sent_3 = sent_2 ++ changes_to m1 0 ∷ changes_to m1 2 ∷ []
+sent_3 = (sent_2 Strict) ++ changes_to m1 0 ∷ changes_to m1 2 ∷ []
 
 abbrev pub sent_4 : List Sent
 sent_4 = sent_3 ++ changes_to c1e 0 ∷ changes_to c1e 1 ∷ states_to c1 ∷ []
@@ -43,30 +44,30 @@ sent_5 = sent_4 ++ changes_to a0 1 ∷ changes_to a0 2 ∷ []
 abbrev pub sent_6 : List Sent
 sent_6 = sent_5 ++ states_to a1 ∷ []
 
-pub stops_1 : (a c : Host Lying) (r : Replica) (y : Lying) → (happens hazards (three a (host r y) c sent_2) (Stops 1)).world ≡ three a (off y) c sent_2
+pub stops_1 : (a c : Host Lying) (r : Replica) (y : Lying) → (happens hazards (three a (host r y) c (sent_2 Strict)) (Stops 1)).world ≡ three a (off y) c (sent_2 Strict)
 unfolding at_member messages
 stops_1 a c r y = refl
 
-pub lies_1 : (a c : Host Lying) (y g : Lying) (i : ℕ) → hazards.faulted y (Damage i) ≡ Some g → (happens hazards (three a (off y) c sent_2) (Lies 1 (Damage i))).world ≡ three a (off g) c sent_2
+pub lies_1 : (a c : Host Lying) (y g : Lying) (i : ℕ) → hazards.faulted y (Damage i) ≡ Some g → (happens hazards (three a (off y) c (sent_2 Strict)) (Lies 1 (Damage i))).world ≡ three a (off g) c (sent_2 Strict)
 unfolding at_member messages
-lies_1 a c y g i e = ap (λ (o : Option Lying). (with_member (three a (off y) c sent_2) 1 (lied (off y) o)).world) e
+lies_1 a c y g i e = ap (λ (o : Option Lying). (with_member (three a (off y) c (sent_2 Strict)) 1 (lied (off y) o)).world) e
 
-pub wakes_at_1 : (a c : Host Lying) (y : Lying) → opened lying y ≡ Some (record { replica = m0; script = wakes_1 }) → (happens hazards (three a (off y) c sent_2) (Starts 1)).world ≡ three a (host m0 (after_all lying y wakes_1)) c sent_2
+pub wakes_at_1 : (a c : Host Lying) (y : Lying) → opened lying y ≡ Some (record { replica = m0; script = wakes_1 }) → (happens hazards (three a (off y) c (sent_2 Strict)) (Starts 1)).world ≡ three a (host m0 (after_all lying y wakes_1)) c (sent_2 Strict)
 unfolding at_member outputs messages blank
-wakes_at_1 a c y e = ap (λ (o : Option Step). (with_member (three a (off y) c sent_2) 1 (option_map_or (acts hazards 1 (off y)) o (stays (off y)))).world) e
+wakes_at_1 a c y e = ap (λ (o : Option Step). (with_member (three a (off y) c (sent_2 Strict)) 1 (option_map_or (acts hazards 1 (off y)) o (stays (off y)))).world) e
 
-pub stops_0 : (b c : Host Lying) (r : Replica) (x : Lying) → (happens hazards (three (host r x) b c sent_2) (Stops 0)).world ≡ three (off x) b c sent_2
+pub stops_0 : (b c : Host Lying) (r : Replica) (x : Lying) → (happens hazards (three (host r x) b c (sent_2 Strict)) (Stops 0)).world ≡ three (off x) b c (sent_2 Strict)
 unfolding at_member messages
 stops_0 b c r x = refl
 
 -- a tick that puts out nothing
-pub ticks_at_1 : (a c : Host Lying) (r q : Replica) (y : Lying) → react event.Tick lying r y ≡ record { replica = q; script = [] } → (happens hazards (three a (host r y) c sent_2) (Ticks 1)).world ≡ three a (host q y) c sent_2
+pub ticks_at_1 : (a c : Host Lying) (r q : Replica) (y : Lying) → react event.Tick lying r y ≡ record { replica = q; script = [] } → (happens hazards (three a (host r y) c (sent_2 Strict)) (Ticks 1)).world ≡ three a (host q y) c (sent_2 Strict)
 unfolding at_member outputs messages after_all
-ticks_at_1 a c r q y e = ap (λ (s : Step). three a (host s.replica (after_all lying y s.script)) c (sent_2 ++ messages (outputs s.script))) e
+ticks_at_1 a c r q y e = ap (λ (s : Step). three a (host s.replica (after_all lying y s.script)) c (sent_2 Strict ++ messages (outputs s.script))) e
 
-pub enters_at_1 : (a c : Host Lying) (y : Lying) → (happens hazards (three a (host (waiting 4) y) c sent_2) (Ticks 1)).world ≡ three a (host m1 (after_all lying y enters_1)) c sent_3
+pub enters_at_1 : (a c : Host Lying) (y : Lying) → (happens hazards (three a (host (waiting 4) y) c (sent_2 Strict)) (Ticks 1)).world ≡ three a (host m1 (after_all lying y enters_1)) c sent_3
 unfolding at_member outputs messages blank
-enters_at_1 a c y = ap (λ (s : Step). three a (host s.replica (after_all lying y s.script)) c (sent_2 ++ messages (outputs s.script))) (ticks_4 y)
+enters_at_1 a c y = ap (λ (s : Step). three a (host s.replica (after_all lying y s.script)) c (sent_2 Strict ++ messages (outputs s.script))) (ticks_4 y)
 
 pub enters_at_2 : (a b : Host Lying) (z : Lying) → (happens hazards (three a b (host c0 z) sent_3) (Arrives 4)).world ≡ three a b (host c1 (after_all lying z enters_2)) sent_4
 unfolding at_member outputs messages blank

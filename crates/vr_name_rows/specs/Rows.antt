@@ -15,10 +15,10 @@ abbrev pub text : List (List ℕ) → List ℕ
 text [] = []
 text (line ∷ lines) = line ++ 10 ∷ text lines
 
--- a register and a put, in a group of three
-abbrev pub plain_path : List ℕ
-plain_path = text (
-    codes "cluster 3"
+-- a register and a put, in a group of three that this line makes
+abbrev pub path_of : List ℕ → List ℕ
+path_of group = text (
+    group
     ∷ codes "request 0 7 0 register"
     ∷ codes "deliver 0"
     ∷ codes "deliver 2"
@@ -26,6 +26,13 @@ plain_path = text (
     ∷ codes "deliver 3"
     ∷ codes "deliver 5"
     ∷ [])
+
+abbrev pub plain_path : List ℕ
+plain_path = path_of (codes "cluster 3")
+
+-- the same on careful files
+abbrev pub careful_path : List ℕ
+careful_path = path_of (codes "cluster 3 careful")
 
 -- An acknowledged entry whose two places are damaged isn't denied: the choice of a log waits, until a replica is heard that has the entry.
 abbrev pub acknowledged : List ℕ
@@ -68,6 +75,48 @@ torn_prepare = text (
     ∷ codes "deliver 6"
     ∷ [])
 
+-- An operation that only the stopped primary has is dropped, since both others deny it; and its number is that of another.
+abbrev pub dropped : List ℕ
+dropped = text (
+    codes "cluster 3"
+    ∷ codes "request 0 7 0 register"
+    ∷ codes "deliver 0"
+    ∷ codes "deliver 1"
+    ∷ codes "deliver 2"
+    ∷ codes "request 0 7 1 put a b"
+    ∷ codes "stop 0"
+    ∷ codes "tick 1"
+    ∷ codes "tick 1"
+    ∷ codes "tick 1"
+    ∷ codes "tick 1"
+    ∷ codes "tick 1"
+    ∷ codes "deliver 7"
+    ∷ codes "deliver 10"
+    ∷ codes "deliver 12"
+    ∷ codes "deliver 15"
+    ∷ codes "request 1 8 0 register"
+    ∷ codes "deliver 17"
+    ∷ codes "deliver 18"
+    ∷ [])
+
+-- a register and a put, in a group of one on a file of version 2
+abbrev pub one_alone : List ℕ
+one_alone = text (
+    codes "cluster 1 v2"
+    ∷ codes "request 0 7 0 register"
+    ∷ codes "request 0 7 1 put a b"
+    ∷ [])
+
+-- The file of a stopped member, which has an entry, becomes one of version 2.
+abbrev pub moved : List ℕ
+moved = text (
+    codes "cluster 3"
+    ∷ codes "request 0 7 0 register"
+    ∷ codes "deliver 0"
+    ∷ codes "stop 1"
+    ∷ codes "migrate 1"
+    ∷ [])
+
 -- ---- what is proved of them
 
 -- Of a schedule: its first line makes a group, and each of its lines is played; of what is hashed in them no two texts have one name; so the
@@ -81,8 +130,20 @@ pub record MeetsAll (s : Schedule) : Type 0 where
 abbrev pub PlainPathMeetsAll : Type 0
 PlainPathMeetsAll = MeetsAll (schedule_of plain_path)
 
+abbrev pub CarefulPathMeetsAll : Type 0
+CarefulPathMeetsAll = MeetsAll (schedule_of careful_path)
+
 abbrev pub AcknowledgedMeetsAll : Type 0
 AcknowledgedMeetsAll = MeetsAll (schedule_of acknowledged)
 
 abbrev pub TornPrepareMeetsAll : Type 0
 TornPrepareMeetsAll = MeetsAll (schedule_of torn_prepare)
+
+abbrev pub DroppedMeetsAll : Type 0
+DroppedMeetsAll = MeetsAll (schedule_of dropped)
+
+abbrev pub OneAloneMeetsAll : Type 0
+OneAloneMeetsAll = MeetsAll (schedule_of one_alone)
+
+abbrev pub MovedMeetsAll : Type 0
+MovedMeetsAll = MeetsAll (schedule_of moved)
