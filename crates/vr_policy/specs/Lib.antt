@@ -1,0 +1,5 @@
+pub mod Guests
+pub mod Laws
+pub mod Pauses
+pub mod Places
+pub mod Turns

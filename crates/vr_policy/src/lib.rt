@@ -1,0 +1,17 @@
+//! What a program decides about the outside: which stream gives its place up to a newcomer (`guest`, `turn`, `places`), when a call that failed
+//! is made again (`again`), and how much of the system a start wants (`wants`). Nothing is called here.
+#![tactic(auto)]
+
+mod again;
+mod guest;
+mod laws;
+mod places;
+mod turn;
+mod wants;
+
+pub use again::{Again, is_passing};
+pub use guest::Guest;
+pub use laws::place_laws;
+pub use places::{PLACES, Places};
+pub use turn::{Newcomer, Turn};
+pub use wants::{STACK, descriptors_wanted};
