@@ -7,6 +7,7 @@ use std::path::PathBuf;
 use std::process::ExitCode;
 use vr_real::{
     FileDisk, RealClock, RealLink, RealSpawner, StdSink, StdSource, take_missing_streams,
+    take_stack,
 };
 use vr_status::Status;
 use vr_top::{finish, run};
@@ -29,15 +30,16 @@ fn own_path(rt: &HostRuntime) -> Result<Option<PathBuf>, AllocError> {
     }
 }
 
-/// Makes the objects of the outside, and runs over them. Nothing is opened before each standard stream has its descriptor.
+/// Makes the objects of the outside, and runs over them. Nothing is opened before each standard stream has its descriptor and
+/// the stack has grown.
 fn run_outside(rt: &HostRuntime) -> Result<Status, AllocError> {
-    if !take_missing_streams() {
+    let alloc = rt.alloc();
+    if !take_missing_streams() || !take_stack(alloc) {
         return Err(AllocError);
     }
-    let alloc = rt.alloc();
     let words = words(rt)?;
     let mut source = StdSource::new(rt.stdin());
-    let mut sink = StdSink::new(rt.stdout());
+    let mut sink = StdSink::new(rt.stdout(), rt);
     let mut disk = FileDisk::new(rt);
     disk.remember(alloc)?;
     let mut link = RealLink::new(alloc, rt)?;
@@ -57,6 +59,6 @@ fn run_outside(rt: &HostRuntime) -> Result<Status, AllocError> {
 
 fn main(rt: HostRuntime) -> ExitCode {
     let status = run_outside(&rt).unwrap_or(Status::NoMemory);
-    let mut errors = StdSink::new(rt.stderr());
+    let mut errors = StdSink::new(rt.stderr(), &rt);
     ExitCode::from(finish(rt.alloc(), &status, &mut errors))
 }

@@ -22,7 +22,7 @@ by_near n g P a b c = cond_both g.near (near_turn n.now g) (if waits n.now g the
 
 -- what has a turn has a claim
 claims : (n : Newcomer) (g : Guest) (t : Turn) → turn_of n g ≡ Some t → (c : Claim) × (claim_of n (Some g) ≡ Some c)
-claims n g t e = let c : Claim = record { turn = t; since = g.since } in (c , ap (option_map (λ (t : Turn). record { turn = t; since = g.since })) e)
+claims n g t e = let c : Claim = record { turn = t; since = g.since } in (c, ap (option_map (λ (t : Turn). record { turn = t; since = g.since })) e)
 
 kept : (n : Newcomer) (g : Guest) → turn_of n g ≡ None → Keeps n g
 kept n g e = ap (option_map (λ (t : Turn). record { turn = t; since = g.since })) e
@@ -35,21 +35,25 @@ served n g far answered w = kept n g (by_near n g (λ t. t ≡ None)
 
 idle : (n : Newcomer) (g : Guest) → g.near ≡ false → (waits n.now g ≡ false) ⊎ (g.answered ≡ false) → (c : Claim) × (claim_of n (Some g) ≡ Some c)
 idle n g far case = elim case [
-    | inl still ↦ claims n g (idle_turn n.now g) (rw (far, still) refl)
-    | inr never ↦ elim (waits n.now g) as (λ w. waits n.now g ≡ w → (c : Claim) × (claim_of n (Some g) ≡ Some c)) [
-        | true ↦ λ w. claims n g (if n.crowded then Crowding else Waiting) (rw (far, w, never) refl)
-        | false ↦ λ w. claims n g (idle_turn n.now g) (rw (far, w) refl) ] refl ]
+  | inl still ↦ claims n g (idle_turn n.now g) (rw (far, still) refl)
+  | inr never ↦ elim (waits n.now g) as (λ w. waits n.now g ≡ w → (c : Claim) × (claim_of n (Some g) ≡ Some c)) [
+    | true ↦ λ w. claims n g (if n.crowded then Crowding else Waiting) (rw (far, w, never) refl)
+    | false ↦ λ w. claims n g (idle_turn n.now g) (rw (far, w) refl)
+  ] refl
+]
 
 strangers : (n : Newcomer) (g : Guest) → n.near ≡ true → g.near ≡ false → (c : Claim) × (claim_of n (Some g) ≡ Some c)
 strangers n g near far = elim (waits n.now g) as (λ w. waits n.now g ≡ w → (c : Claim) × (claim_of n (Some g) ≡ Some c)) [
-    | true ↦ λ w. claims n g (if not g.answered then (if n.crowded then Crowding else Waiting) else Served) (rw (far, w, near) (cond_both (not g.answered) (Some (if n.crowded then Crowding else Waiting)) (Some Served) (λ t. t ≡ Some (if not g.answered then (if n.crowded then Crowding else Waiting) else Served)) (λ h. rw h refl) (λ h. rw h refl)))
-    | false ↦ λ w. claims n g (idle_turn n.now g) (rw (far, w) refl) ] refl
+  | true ↦ λ w. claims n g (if not g.answered then (if n.crowded then Crowding else Waiting) else Served) (rw (far, w, near) (cond_both (not g.answered) (Some (if n.crowded then Crowding else Waiting)) (Some Served) (λ t. t ≡ Some (if not g.answered then (if n.crowded then Crowding else Waiting) else Served)) (λ h. rw h refl) (λ h. rw h refl)))
+  | false ↦ λ w. claims n g (idle_turn n.now g) (rw (far, w) refl)
+] refl
 
 renew : (g : Guest) (count now : ℕ) → (asks g ≡ true) ⊎ (asks (hears count now g) ≡ false) → (hears count now g).since ≡ g.since
 renew g count now case = cond_both (not (asks g) && nat_le 128 (min (g.said + count) 128)) now g.since (λ s. s ≡ g.since)
     (λ h. let p = and_parts (not (asks g)) (nat_le 128 (min (g.said + count) 128)) h in let p0 = p.0 in let p1 = p.1 in absurd (elim case [
-        | inl a ↦ let no : not (asks g) ≡ false = ap not a in cc
-        | inr a ↦ cc ]))
+      | inl a ↦ let no : not (asks g) ≡ false = ap not a in cc
+      | inr a ↦ cc
+    ]))
     (λ h. refl)
 
 inside : (c d : Claim) → Some c ≡ Some d → c ≡ d
@@ -64,7 +68,7 @@ last n g c far answered w e = cond_both n.near (Some Served) None (λ t. option_
 early : (n : Newcomer) (h : Guest) (d : Claim) → h.near ≡ false → waits n.now h ≡ false → claim_of n (Some h) ≡ Some d → rank d.turn < 7
 early n h d far w e = let own = rw (far, w) at e in let same : idle_turn n.now h ≡ d.turn = ap (λ (c : Claim). c.turn) (inside (record { turn = idle_turn n.now h; since = h.since }) d own) in
     rw (← same) (cond_both (not h.answered) Useless (if nat_le 10000 (n.now - h.since) then Forgotten else Idle) (λ t. rank t < 7) (λ _. omega arith)
-        (λ _. cond_both (nat_le 10000 (n.now - h.since)) Forgotten Idle (λ t. rank t < 7) (λ _. omega arith) (λ _. omega arith)))
+    (λ _. cond_both (nat_le 10000 (n.now - h.since)) Forgotten Idle (λ t. rank t < 7) (λ _. omega arith) (λ _. omega arith)))
 
 not_before : (c d : Claim) → rank d.turn < rank c.turn → is_before c d ≡ false
 unfolding is_before

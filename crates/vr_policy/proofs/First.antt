@@ -67,15 +67,17 @@ first_more n guests k found is = record {
   own = own_more n guests k found (claim_at n guests k) refl is.own;
   each = λ j below. elim (eq-or-lt_of_le (up_to j k below)) [
     | inl same ↦ rw same (itself found k (claim_at n guests k))
-    | inr less ↦ still found k (claim_at n guests k) (claim_at n guests j) (is.each j less) ]
+    | inr less ↦ still found k (claim_at n guests k) (claim_at n guests j) (is.each j less)
+  ];
 }
 
 -- of all places; past the last one there is nothing to claim
 each_place : (n : Newcomer) (guests : List (Option Guest)) (found : Option Found) → IsFirst n guests (length guests) found
     → (k : ℕ) → NotBefore found (claim_at n guests k)
 each_place n guests found is k = elim ((slice_get_cases guests k).1) [
-    | inl within ↦ is.each k within.1
-    | inr past ↦ rw past.1 (none_not_before found) ]
+  | inl within ↦ is.each k within.1
+  | inr past ↦ rw past.1 (none_not_before found)
+]
 
 pub no_place : (n : Newcomer) (guests : List (Option Guest)) → IsFirst n guests (length guests) None → IsPlace n guests None
 unfolding IsPlace
@@ -83,7 +85,7 @@ no_place n guests is k = each_place n guests None is k
 
 pub this_place : (n : Newcomer) (guests : List (Option Guest)) (f : Found) → IsFirst n guests (length guests) (Some f) → IsPlace n guests (Some f.at)
 unfolding IsPlace
-this_place n guests f is = (f.claim , is.own , each_place n guests (Some f) is)
+this_place n guests f is = (f.claim, is.own, each_place n guests (Some f) is)
 
 -- what may be claimed of a place that is there
 pub claim_there : (n : Newcomer) (guests : List (Option Guest)) (k : ℕ) (d : Option Guest) → k < length guests

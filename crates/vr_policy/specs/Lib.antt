@@ -2,4 +2,5 @@ pub mod Guests
 pub mod Laws
 pub mod Pauses
 pub mod Places
+pub mod Senders
 pub mod Turns

@@ -1,5 +1,5 @@
 //! When a call that failed is made again.
-ghost use Rattle.std.specs.Prelude.{◌≡◌, ◌∷◌, [], MatchOption, replicate};
+ghost use Rattle.std.specs.Prelude.{◌≡◌, ◌≢◌, ◌∷◌, [], length, replicate};
 ghost use Rattle.vr_policy.specs.Pauses.{passes, pauses};
 
 use std::io::ErrorKind;
@@ -46,19 +46,27 @@ impl Again {
         }
     }
 
-    /// After how many milliseconds the call is made again; `None` where it isn't any more.
-    pub fn pause(&mut self) -> Option<u64>
-        ensures { MatchOption result (pauses self.old ≡ []) (λ millis. pauses self.old ≡ millis ∷ pauses self.new) }
+    /// How often the call is made again.
+    pub fn times(&self) -> usize
+        ensures { result ≡ length (pauses self.now) }
+    {
+        let at_once = if self.at_once { 1 } else { 0 };
+        at_once + self.times as usize
+    }
+
+    /// After how many milliseconds the call is made again; 0 where it isn't any more.
+    pub fn pause(&mut self) -> u64
+        ensures { pauses self.old ≢ [] → pauses self.old ≡ result ∷ pauses self.new }
     {
         if self.at_once {
             self.at_once = false;
-            return Some(0);
+            return 0;
         }
         if self.times == 0 {
-            return None;
+            return 0;
         }
         self.times -= 1;
-        Some(self.millis)
+        self.millis
     }
 }
 

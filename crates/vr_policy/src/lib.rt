@@ -6,6 +6,7 @@ mod again;
 mod guest;
 mod laws;
 mod places;
+mod ports;
 mod turn;
 mod wants;
 
@@ -13,5 +14,6 @@ pub use again::{Again, is_passing};
 pub use guest::Guest;
 pub use laws::place_laws;
 pub use places::{PLACES, Places};
+pub use ports::{NOBODY, Ports, Sender, number};
 pub use turn::{Newcomer, Turn};
 pub use wants::{STACK, descriptors_wanted};

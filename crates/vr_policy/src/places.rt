@@ -37,7 +37,10 @@ struct Found {
 fn is_crowded(guests: &[Option<Guest>], now: u64) -> bool
     ensures { result ≡ is_crowded now guests.now }
 {
-    let waiting = guests.iter().filter(|guest| waits_first(guest, now)).count();
+    let waiting = guests
+        .iter()
+        .filter(|guest| waits_first(guest, now))
+        .count();
     waiting > guests.len() / 2
 }
 

@@ -101,9 +101,17 @@ fn waiting_turn(guest: &Guest, newcomer: Newcomer) -> Option<Turn>
     ensures { result ≡ waiting_turn newcomer guest.now }
 {
     if !guest.answered {
-        return Some(if newcomer.crowded { Turn::Crowding } else { Turn::Waiting });
+        return Some(if newcomer.crowded {
+            Turn::Crowding
+        } else {
+            Turn::Waiting
+        });
     }
-    if newcomer.near { Some(Turn::Served) } else { None }
+    if newcomer.near {
+        Some(Turn::Served)
+    } else {
+        None
+    }
 }
 
 // The turn of a stranger that waits for nothing.

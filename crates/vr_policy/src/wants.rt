@@ -1,16 +1,21 @@
 //! How much of the system a start wants.
-ghost use Rattle.std.specs.Prelude.{◌≡◌, ◌+◌, ◌≤◌, if◌then◌else◌};
+ghost use Rattle.std.specs.Prelude.{◌≡◌, ◌+◌, ◌-◌, ◌^◌, min, if◌then◌else◌};
 
 use crate::places::PLACES;
 
 /// The bytes of the stack that a run may come to use.
-pub const STACK: usize = 262_144;
+pub const STACK: usize = 196_608;
 
-/// How many descriptors streams take beside what is open already: one for each peer, of a member also one for each place, and one by which a
-/// newcomer is taken in before another one gives its place up.
+/// How many descriptors a member wants beside those of its streams: for its file and the folder of that, and for a newcomer whose place is looked for.
+const SPARE: usize = 4;
+
+/// How many descriptors streams may take beside what is open already: one for each peer, and those of a member also one for each place.
 pub fn descriptors_wanted(peers: usize, is_member: bool) -> usize
-    requires { peers ≤ 255 }
-    ensures { result ≡ (if is_member then peers + 65 else peers) }
+    ensures { result ≡ (if is_member then min (peers + 68) (2 ^ 64 - 1) else peers) }
 {
-    if is_member { peers + PLACES + 1 } else { peers }
+    if is_member {
+        peers.saturating_add(PLACES + SPARE)
+    } else {
+        peers
+    }
 }
