@@ -7,7 +7,6 @@ use std::path::PathBuf;
 use std::process::ExitCode;
 use vr_real::{
     FileDisk, RealClock, RealLink, RealSpawner, StdSink, StdSource, take_missing_streams,
-    take_stack,
 };
 use vr_status::Status;
 use vr_top::{finish, run};
@@ -30,13 +29,12 @@ fn own_path(rt: &HostRuntime) -> Result<Option<PathBuf>, AllocError> {
     }
 }
 
-/// Makes the objects of the outside, and runs over them. Nothing is opened before each standard stream has its descriptor and
-/// the stack has grown.
+/// Makes the objects of the outside, and runs over them. Nothing is opened before each standard stream has its descriptor.
 fn run_outside(rt: &HostRuntime) -> Result<Status, AllocError> {
-    let alloc = rt.alloc();
-    if !take_missing_streams() || !take_stack(alloc) {
+    if !take_missing_streams() {
         return Err(AllocError);
     }
+    let alloc = rt.alloc();
     let words = words(rt)?;
     let mut source = StdSource::new(rt.stdin());
     let mut sink = StdSink::new(rt.stdout(), rt);

@@ -1,5 +1,5 @@
 //! What a program decides about the outside: which stream gives its place up to a newcomer (`guest`, `turn`, `places`), when a call that failed
-//! is made again (`again`), and how much of the system a start wants (`wants`). Nothing is called here.
+//! is made again (`again`), which sender a port stands for (`ports`), and how many descriptors a start wants (`wants`). Nothing is called here.
 #![tactic(auto)]
 
 mod again;
@@ -16,4 +16,4 @@ pub use laws::place_laws;
 pub use places::{PLACES, Places};
 pub use ports::{NOBODY, Ports, Sender, number};
 pub use turn::{Newcomer, Turn};
-pub use wants::{STACK, descriptors_wanted};
+pub use wants::descriptors_wanted;

@@ -1,10 +1,7 @@
-//! How much of the system a start wants.
+//! How many descriptors a start wants.
 ghost use Rattle.std.specs.Prelude.{◌≡◌, ◌+◌, ◌-◌, ◌^◌, min, if◌then◌else◌};
 
 use crate::places::PLACES;
-
-/// The bytes of the stack that a run may come to use.
-pub const STACK: usize = 196_608;
 
 /// How many descriptors a member wants beside those of its streams: for its file and the folder of that, and for a newcomer whose place is looked for.
 const SPARE: usize = 4;
