@@ -1,11 +1,11 @@
 -- What a writer holds once writes failed that wrote nothing.
-use Rattle.std.proofs.Common.{◌≡◌, ◌++◌, refl, rw, ℕ, List, Option, Some, None, Result, Ok, Err, take, MatchResult, IsErr}
+use Rattle.std.proofs.Common.{◌≡◌, ◌++◌, ℕ, List, Option, Some, None, Result, Ok, Err, take, MatchResult, IsErr}
 use Rattle.std.proofs.KnownBytes.{Keeps-trans}
 use Rattle.std.specs.Io.KnownBytes.{Appends, Keeps, WriteAppends}
 
 -- a failed write more changes nothing
 pub kept_more : {E : Type 0} (a b c : Option (List ℕ)) (r : Result ℕ E) (bytes : List ℕ) → Keeps a b → WriteAppends b c r bytes → IsErr r → Keeps a c
-kept_more a b c (Ok n) bytes k w e = absurd e
+kept_more a b c (Ok n) bytes k w e = absurd cc
 kept_more a b c (Err f) bytes k w e = Keeps-trans a b c k w
 
 appended_after : (a b c : Option (List ℕ)) (bytes : List ℕ) → Keeps a b → Appends b c bytes → Appends a c bytes

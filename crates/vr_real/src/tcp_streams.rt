@@ -125,12 +125,21 @@ impl<R: Drop> TcpStreams<R> {
         ensures others { self.new.call_faults ≡ self.old.call_faults }
     {
         let polled = read_ready(&mut self.slots, &mut self.next, to)?;
+        self.account(polled);
+        Some(polled)
+    }
+
+    /// Who has a place is told what came of its stream.
+    fn account(&mut self, polled: Polled)
+        ensures attached { vec_len self.new.peers ≡ vec_len self.old.peers }
+        ensures faults { self.new.faults ≡ self.old.faults }
+        ensures others { self.new.call_faults ≡ self.old.call_faults }
+    {
         match polled {
             Polled::Bytes(port, count) => self.hear(port, count),
             Polled::Ended(port) => self.free(port),
             Polled::Quiet => {}
         }
-        Some(polled)
     }
 
     /// So many bytes came at a port.
@@ -227,8 +236,9 @@ impl<R: Net + Clock + Drop> TcpStreams<R> {
         if !has_descriptors(self.alloc, wanted)? {
             return Err(io::Error::from(ErrorKind::OutOfMemory));
         }
+        let places = Places::new(self.alloc)?;
         self.slots = empty_slots(self.alloc, peers.len().saturating_add(PLACES))?;
-        self.places = Places::new(self.alloc)?;
+        self.places = places;
         self.peers = peers;
         self.poll = Some(poll);
         Ok(())
