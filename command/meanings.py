@@ -11,6 +11,8 @@ from typing import Dict, List, NamedTuple, Optional, Tuple
 from command import schedule
 
 FILE_BYTES = 2039808
+# What a member over TCP opens: standard streams, its file and what its streams and their spare ones want in a group of six, and what it listens at.
+DESCRIPTORS = 80
 FLAGS = ("--fresh", "--careful", "--v2")
 # Where a command has its data file, and where its addresses begin.
 FILE_AT = {"node": 2, "migrate": 3}
@@ -170,8 +172,15 @@ def why_no_link(name: str, addresses: List[str]) -> str:
         host, port = split_address(one)
         if not host or port is None:
             return f"{one} is no address: HOST:PORT, or tcp:HOST:PORT"
-    return why_not_bound(addresses, streams > 0) or (
+    return why_no_descriptors(name, streams) or why_not_bound(addresses, streams > 0) or (
         "an address isn't one of this machine, is in use, or is of another kind than the others; or receiving failed")
+
+
+def why_no_descriptors(name: str, streams: int) -> Optional[str]:
+    allowed, _ = resource.getrlimit(resource.RLIMIT_NOFILE)
+    if name == "node" and streams and allowed != resource.RLIM_INFINITY and allowed < DESCRIPTORS:
+        return f"a member over TCP opens up to {DESCRIPTORS} descriptors, and may have {allowed} here: see `ulimit -n`"
+    return None
 
 
 def why_not_bound(addresses: List[str], is_stream: bool) -> Optional[str]:

@@ -86,6 +86,11 @@ class Files(unittest.TestCase):
                 with self.subTest(addresses=addresses):
                     self.assert_said(node(self.folder / str(number), "--fresh", addresses=addresses), 8, text)
 
+    def test_descriptors(self):
+        def limit():
+            resource.setrlimit(resource.RLIMIT_NOFILE, (60, 60))
+        self.assert_said(node(self.folder / "0", "--fresh", addresses=(f"tcp:{A}", f"tcp:{B}")), 8, "up to 80 descriptors, and may have 60", preexec_fn=limit)
+
 
 @needs_program
 class Streams(unittest.TestCase):

@@ -37,7 +37,7 @@ fn run_outside(rt: &HostRuntime) -> Result<Status, AllocError> {
     let alloc = rt.alloc();
     let words = words(rt)?;
     let mut source = StdSource::new(rt.stdin());
-    let mut sink = StdSink::new(rt.stdout());
+    let mut sink = StdSink::new(rt.stdout(), rt);
     let mut disk = FileDisk::new(rt);
     disk.remember(alloc)?;
     let mut link = RealLink::new(alloc, rt)?;
@@ -57,6 +57,6 @@ fn run_outside(rt: &HostRuntime) -> Result<Status, AllocError> {
 
 fn main(rt: HostRuntime) -> ExitCode {
     let status = run_outside(&rt).unwrap_or(Status::NoMemory);
-    let mut errors = StdSink::new(rt.stderr());
+    let mut errors = StdSink::new(rt.stderr(), &rt);
     ExitCode::from(finish(rt.alloc(), &status, &mut errors))
 }

@@ -1,5 +1,6 @@
-//! The descriptors of the standard streams.
+//! Descriptors: those of the standard streams, and whether there are enough.
 use libc::net::{EPOLL_CLOEXEC, epoll_create1};
+use std::alloc::{AllocError, Global};
 
 /// How many descriptors are those of standard streams: the numbers below this one.
 const STREAMS: i32 = 3;
@@ -19,4 +20,16 @@ pub fn take_missing_streams() -> bool {
         }
     }
     true
+}
+
+/// Whether the system gives so many descriptors more. They are taken, and given back.
+pub fn has_descriptors(alloc: Global, count: usize) -> Result<bool, AllocError> {
+    let mut taken = Vec::new(alloc);
+    for _ in 0..count {
+        taken.push(epoll_create1(EPOLL_CLOEXEC))?;
+    }
+    for descriptor in taken.iter() {
+        let _ = libc::close(*descriptor);
+    }
+    Ok(taken.iter().all(|descriptor| *descriptor >= 0))
 }

@@ -5,14 +5,15 @@ ghost use Rattle.vr_base.specs.Causes.{HasCause};
 use crate::counting::counted;
 use std::alloc::{AllocError, Global};
 use std::fs::{File, Files, OpenOptions};
-use std::io;
 use std::io::ErrorKind;
 use std::os::fd::AsRawFd;
 use std::os::unix::fs::FileExt;
 use std::path::Path;
-use std::time::Clock;
+use std::time::{Clock, Duration};
+use std::{io, thread};
 use vr_base::{Sum, checksum};
 use vr_disk::{DiskFailed, Memo, Room, SECTOR_SIZE, SECTORS, Sector, SectorDisk};
+use vr_policy::Again;
 
 /// The bytes of the file.
 const FILE_SIZE: u64 = SECTORS as u64 * SECTOR_SIZE as u64;
@@ -27,7 +28,7 @@ const PIECE: i64 = 131_072;
 const PIECES: i64 = (FILE_SIZE as i64 + PIECE - 1) / PIECE;
 
 /// A disk of sectors in a file of the system: sector i stands at byte 512 i. It tells nothing. Each call is a call of the
-/// system, and fails where that does or where no file is attached. The file is locked as long as it is attached. What is
+/// system, and fails where that does or where no file is attached; a read is made again a few times first. The file is locked as long as it is attached. What is
 /// written goes through the system's page cache; at each attach, and once a minute, the system is told to forget what it
 /// keeps of the file and to read it anew, so that reads tell what the disk has.
 #[derive(Drop)]
@@ -164,6 +165,18 @@ impl<R> FileDisk<R> {
 }
 
 impl<R: Clock> FileDisk<R> {
+    /// Reads a sector from its place, and again where that failed.
+    fn read_again(&self, i: u32, to: &mut Sector) -> io::Result<()> {
+        let mut again = Again::for_read();
+        for _ in 0..again.times() {
+            if self.read_at(i, to).is_ok() {
+                return Ok(());
+            }
+            thread::sleep(&self.system, Duration::from_millis(again.pause()));
+        }
+        self.read_at(i, to)
+    }
+
     /// The milliseconds of the clock. Where it fails, those when the system was told to forget.
     fn now(&self) -> u64 {
         match self.system.monotonic() {
@@ -208,7 +221,7 @@ impl<R: Files<File = File> + Clock> SectorDisk for FileDisk<R> {
 
     fn read(&mut self, i: u32, to: &mut Sector) -> Result<(), DiskFailed> {
         self.refresh();
-        counted(self.read_at(i, to), &mut self.read_faults, DiskFailed)
+        counted(self.read_again(i, to), &mut self.read_faults, DiskFailed)
     }
 
     fn write(&mut self, i: u32, from: &Sector) -> Result<(), DiskFailed> {

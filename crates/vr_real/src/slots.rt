@@ -1,8 +1,7 @@
-//! The streams at their ports: which of them may have something, and which gives its place up to another one.
+//! The streams at their ports: which of them may have something. Which gives its place up to another one `vr_policy` decides.
 ghost use Rattle.std.specs.Prelude.{◌≡◌, ◌≤◌, ◌+◌, ℕ, IfOk, IfSome, length, vec_len};
 ghost use Rattle.vr_edge.specs.Streaming.{IsPolled, IsPort};
 
-use crate::ports::number;
 use crate::stream_options::watch;
 use mio::net::{TcpListener, TcpStream};
 use mio::{Events, Interest, Poll, Token};
@@ -11,24 +10,16 @@ use std::io;
 use std::io::{ErrorKind, Read, Write};
 use std::net::{IpAddr, SocketAddr};
 use vr_edge::{Polled, STREAM_ROOM};
+use vr_policy::{Places, number};
 
-/// The most streams at a time that others than the peers have made.
-pub const OTHERS: usize = 64;
+/// How many streams are taken in at once: no more than are read until the next ones are.
+const TAKEN: usize = 4;
 
 /// The number by which the system tells that streams wait to be taken in.
 pub const ENTRANCE: usize = 1_000_000;
 
 /// How much later than the last one a stream to a peer is begun.
 const AGAIN_MILLIS: u64 = 1000;
-
-/// The bytes of a header. A stream that brought fewer has said nothing.
-const HEADER: usize = 128;
-
-/// How long a stream that has said nothing keeps its place where another one needs it.
-const MUTE_MILLIS: u64 = 3000;
-
-/// How long a stream that has said something, and was silent since, keeps its place where another one needs it.
-const SILENT_MILLIS: u64 = 60_000;
 
 /// The stream at a port, at first none.
 #[derive(Drop, Default)]
@@ -40,12 +31,6 @@ pub struct Slot {
     stands: bool,
     /// Whether the stream before it was ended here, which no poll has told yet.
     over: bool,
-    /// Whether it comes from the machine of a peer.
-    near: bool,
-    /// The milliseconds of the clock when bytes came last; at first when it was put here.
-    heard: u64,
-    /// How many bytes came, as far as they are counted.
-    said: usize,
     /// The milliseconds of the clock when a stream to the peer of this port was begun last; `None` where one may be begun at once.
     begun: Option<u64>,
 }
@@ -70,14 +55,11 @@ impl Slot {
     }
 
     /// Takes a stream in the place of what it had.
-    fn put(&mut self, stream: TcpStream, near: bool, now: u64) {
+    fn put(&mut self, stream: TcpStream) {
         self.over = self.over || self.stream.is_some();
         self.stream = Some(stream);
         self.ready = false;
         self.stands = false;
-        self.near = near;
-        self.heard = now;
-        self.said = 0;
     }
 
     /// Whether its stream is made.
@@ -102,19 +84,6 @@ impl Slot {
         true
     }
 
-    /// How many milliseconds its stream has been silent, where it may be ended for one that comes from the machine of a peer
-    /// or not; `None` where it may not.
-    fn spare(&self, near: bool, now: u64) -> Option<u64> {
-        let silent = now.saturating_sub(self.heard);
-        let is_mute = self.said < HEADER && silent >= MUTE_MILLIS;
-        let is_far = !self.near && (near || silent >= SILENT_MILLIS);
-        if is_mute || is_far {
-            Some(silent)
-        } else {
-            None
-        }
-    }
-
     /// Gives its stream bytes. Where that fails, the next poll looks whether it has ended.
     pub fn write(&mut self, bytes: &[u8]) -> io::Result<usize>
         ensures { IfOk result (λ count. count ≤ length bytes.now) }
@@ -131,7 +100,7 @@ impl Slot {
     }
 
     /// What its stream has; `None` where nothing is there.
-    fn read(&mut self, port: u32, now: u64, to: &mut [u8]) -> Option<Polled>
+    fn read(&mut self, port: u32, to: &mut [u8]) -> Option<Polled>
         requires { length to.old ≡ STREAM_ROOM }
         ensures { (peers : ℕ) → IsPort peers port → IfSome result (IsPolled peers) }
     {
@@ -151,11 +120,7 @@ impl Slot {
                 self.leave();
                 Some(Polled::Ended(port))
             }
-            Ok(count) => {
-                self.heard = now;
-                self.said = self.said.saturating_add(count);
-                Some(Polled::Bytes(port, count as u32))
-            }
+            Ok(count) => Some(Polled::Bytes(port, count as u32)),
             Err(error) if error.kind() == ErrorKind::WouldBlock => {
                 self.ready = false;
                 None
@@ -170,12 +135,7 @@ impl Slot {
 }
 
 /// What one of the streams has, the first one from a place on.
-pub fn read_ready(
-    slots: &mut Vec<Slot>,
-    next: &mut usize,
-    now: u64,
-    to: &mut [u8],
-) -> Option<Polled>
+pub fn read_ready(slots: &mut Vec<Slot>, next: &mut usize, to: &mut [u8]) -> Option<Polled>
     requires { length to.old ≡ STREAM_ROOM }
     ensures bound { (peers : ℕ) → vec_len slots.old ≤ peers + 64 → IfSome result (IsPolled peers) }
     ensures same { vec_len slots.new ≡ vec_len slots.old }
@@ -185,7 +145,7 @@ pub fn read_ready(
         let at = if *next < count { *next } else { 0 };
         *next = at.saturating_add(1);
         if let Some(slot) = slots.get_mut(at) {
-            if let Some(polled) = slot.read(number(at), now, to) {
+            if let Some(polled) = slot.read(number(at), to) {
                 return Some(polled);
             }
         }
@@ -209,11 +169,11 @@ pub fn note(events: &Events, slots: &mut Vec<Slot>) -> bool
 }
 
 /// Puts a stream at a port. Something may be there already.
-pub fn put_stream(slots: &mut Vec<Slot>, at: usize, stream: TcpStream, near: bool, now: u64)
+pub fn put_stream(slots: &mut Vec<Slot>, at: usize, stream: TcpStream)
     ensures { vec_len slots.new ≡ vec_len slots.old }
 {
     if let Some(slot) = slots.get_mut(at) {
-        slot.put(stream, near, now);
+        slot.put(stream);
         slot.ready = true;
     }
 }
@@ -236,24 +196,9 @@ pub fn begins_at(slots: &mut Vec<Slot>, at: usize, now: u64) -> bool
     }
 }
 
-/// The place for a stream that comes from the machine of a peer or not: one that is free; else that of the stream that has
-/// been silent longest, of those that may be ended for it.
-fn place_for(slots: &Vec<Slot>, peers: usize, near: bool, now: u64) -> Option<usize> {
-    let mut found = None;
-    let mut longest = 0;
-    for at in peers..slots.len() {
-        let slot = slots.get(at)?;
-        if slot.stream.is_none() {
-            return Some(at);
-        }
-        if let Some(silent) = slot.spare(near, now) {
-            if found.is_none() || silent > longest {
-                found = Some(at);
-                longest = silent;
-            }
-        }
-    }
-    found
+/// Whether no stream is at a port.
+pub fn is_free(slots: &Vec<Slot>, at: usize) -> bool {
+    slots.get(at).is_some_and(|slot| slot.stream.is_none())
 }
 
 /// Whether an address is on the machine of a peer. Then that machine is there, and streams to peers on it may be begun at once.
@@ -276,6 +221,7 @@ fn meet(slots: &mut Vec<Slot>, peers: &Vec<SocketAddr>, from: IpAddr) -> bool
 fn seat(
     poll: &Poll,
     slots: &mut Vec<Slot>,
+    places: &mut Places,
     peers: &Vec<SocketAddr>,
     mut stream: TcpStream,
     near: bool,
@@ -283,34 +229,37 @@ fn seat(
 )
     ensures { vec_len slots.new ≡ vec_len slots.old }
 {
-    let Some(at) = place_for(slots, peers.len(), near, now) else {
+    let Some(place) = places.place_for(near, now) else {
         return;
     };
+    let at = peers.len().saturating_add(place);
     let registered = poll
         .registry()
         .register(&mut stream, Token(at), Interest::READABLE);
     if registered.is_ok() {
         let _ = stream.set_nodelay(true);
         watch(&stream);
-        put_stream(slots, at, stream, near, now);
+        places.come(place, near, now);
+        put_stream(slots, at, stream);
     }
 }
 
-/// Takes in streams that wait, at most as many as there are places, and says whether more may wait.
+/// Takes in streams that wait, a few, and says whether more may wait.
 pub fn take_in(
     poll: &Poll,
     listener: &TcpListener,
     slots: &mut Vec<Slot>,
+    places: &mut Places,
     peers: &Vec<SocketAddr>,
     now: u64,
 ) -> bool
     ensures { vec_len slots.new ≡ vec_len slots.old }
 {
-    for _ in 0..OTHERS {
+    for _ in 0..TAKEN {
         match listener.accept() {
             Ok((stream, from)) => {
                 let near = meet(slots, peers, from.ip());
-                seat(poll, slots, peers, stream, near, now);
+                seat(poll, slots, places, peers, stream, near, now);
             }
             Err(error) => return error.kind() != ErrorKind::WouldBlock,
         }

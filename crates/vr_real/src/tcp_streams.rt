@@ -4,8 +4,9 @@ ghost use Rattle.vr_edge.specs.Streaming.{IsPolled, IsPort};
 
 use crate::addresses::{address_of, addresses_of};
 use crate::counting::counted;
+use crate::descriptors::has_descriptors;
 use crate::slots::{
-    ENTRANCE, OTHERS, Slot, begins_at, empty_slots, note, put_stream, read_ready, stands_at,
+    ENTRANCE, Slot, begins_at, empty_slots, is_free, note, put_stream, read_ready, stands_at,
     take_in,
 };
 use crate::stream_options::watch;
@@ -17,6 +18,7 @@ use std::io::ErrorKind;
 use std::net::{Net, SocketAddr};
 use std::time::{Clock, Duration};
 use vr_edge::{Polled, STREAM_ROOM, StreamFailed, Streams};
+use vr_policy::{PLACES, Places, descriptors_wanted};
 
 /// How long a poll waits where nothing is there. The system may round it up to one of its own ticks, and one more.
 const WAIT_MILLIS: u64 = 4;
@@ -29,9 +31,9 @@ pub const PREFIX: &str = "tcp:";
 
 /// Streams over TCP. They tell nothing. A poll waits at most ten milliseconds. The stream to a peer is begun at an attach with an address
 /// of one's own, and at each write to its port while it doesn't stand, but at most once a second as long as no stream comes from the peer's
-/// machine; what is written before it stands is lost. One of which bytes aren't acknowledged for two seconds ends. Where 64 others are there and one more comes, it takes the place of the one that has been silent longest: for three
-/// seconds without having said anything, or for a minute, or at all where a peer's machine knocks; but never of one from a peer's
-/// machine that has said something. No stream is read for ever while others wait.
+/// machine; what is written before it stands is lost. One of which bytes aren't acknowledged for two seconds ends. Where 64 others are
+/// there and one more comes, it takes the place that `vr_policy` gives it, or none. No stream is read for ever while others wait. An
+/// attach with an address of one's own fails where the descriptors for all of them can't be had.
 #[derive(Drop)]
 pub struct TcpStreams<R> {
     alloc: Global,
@@ -41,6 +43,8 @@ pub struct TcpStreams<R> {
     listener: Option<TcpListener>,
     peers: Vec<SocketAddr>,
     slots: Vec<Slot>,
+    /// Who has the places behind the peers' slots.
+    places: Places,
     /// Where the next search begins.
     next: usize,
     /// How many pieces were read since the system was asked what there is.
@@ -73,6 +77,7 @@ impl<R: Drop> TcpStreams<R> {
             listener: None,
             peers: Vec::new(alloc),
             slots: Vec::new(alloc),
+            places: Places::new(alloc)?,
             next: 0,
             pieces: 0,
             knocks: false,
@@ -99,9 +104,69 @@ impl<R: Drop> TcpStreams<R> {
         }
         let knock = note(&self.events, &mut self.slots);
         if let (true, Some(listener)) = (knock || self.knocks, &self.listener) {
-            self.knocks = take_in(poll, listener, &mut self.slots, &self.peers, self.now);
+            self.knocks = take_in(
+                poll,
+                listener,
+                &mut self.slots,
+                &mut self.places,
+                &self.peers,
+                self.now,
+            );
         }
         Ok(())
+    }
+
+    /// What the first stream has that has something, from the next one on; who has its place is told of it.
+    fn read(&mut self, to: &mut [u8]) -> Option<Polled>
+        requires { length to.old ≡ STREAM_ROOM }
+        ensures bound { IfSome result (IsPolled (vec_len self.old.peers)) }
+        ensures attached { vec_len self.new.peers ≡ vec_len self.old.peers }
+        ensures faults { self.new.faults ≡ self.old.faults }
+        ensures others { self.new.call_faults ≡ self.old.call_faults }
+    {
+        let polled = read_ready(&mut self.slots, &mut self.next, to)?;
+        self.account(polled);
+        Some(polled)
+    }
+
+    /// Who has a place is told what came of its stream.
+    fn account(&mut self, polled: Polled)
+        ensures attached { vec_len self.new.peers ≡ vec_len self.old.peers }
+        ensures faults { self.new.faults ≡ self.old.faults }
+        ensures others { self.new.call_faults ≡ self.old.call_faults }
+    {
+        match polled {
+            Polled::Bytes(port, count) => self.hear(port, count),
+            Polled::Ended(port) => self.free(port),
+            Polled::Quiet => {}
+        }
+    }
+
+    /// So many bytes came at a port.
+    fn hear(&mut self, port: u32, count: u32)
+        ensures attached { vec_len self.new.peers ≡ vec_len self.old.peers }
+        ensures faults { self.new.faults ≡ self.old.faults }
+        ensures others { self.new.call_faults ≡ self.old.call_faults }
+    {
+        if let Some(place) = self.place(port) {
+            self.places.hear(place, count as usize, self.now);
+        }
+    }
+
+    /// The place of a port is free, where no stream is there.
+    fn free(&mut self, port: u32)
+        ensures attached { vec_len self.new.peers ≡ vec_len self.old.peers }
+        ensures faults { self.new.faults ≡ self.old.faults }
+        ensures others { self.new.call_faults ≡ self.old.call_faults }
+    {
+        if let (true, Some(place)) = (is_free(&self.slots, port as usize), self.place(port)) {
+            self.places.leave(place);
+        }
+    }
+
+    /// The place of a port behind those of the peers.
+    fn place(&self, port: u32) -> Option<usize> {
+        (port as usize).checked_sub(self.peers.len())
     }
 
     /// What comes next.
@@ -115,7 +180,7 @@ impl<R: Drop> TcpStreams<R> {
         if self.pieces >= ROUND {
             return self.find_anew(0, to);
         }
-        if let Some(polled) = read_ready(&mut self.slots, &mut self.next, self.now, to) {
+        if let Some(polled) = self.read(to) {
             self.pieces = self.pieces.saturating_add(1);
             return Ok(polled);
         }
@@ -131,7 +196,7 @@ impl<R: Drop> TcpStreams<R> {
         ensures others { self.new.call_faults ≡ self.old.call_faults }
     {
         self.wait(millis)?;
-        match read_ready(&mut self.slots, &mut self.next, self.now, to) {
+        match self.read(to) {
             Some(polled) => Ok(polled),
             None => Ok(Polled::Quiet),
         }
@@ -167,7 +232,13 @@ impl<R: Net + Clock + Drop> TcpStreams<R> {
                 .register(&mut listener, Token(ENTRANCE), Interest::READABLE)?;
             self.listener = Some(listener);
         }
-        self.slots = empty_slots(self.alloc, peers.len().saturating_add(OTHERS))?;
+        let wanted = descriptors_wanted(peers.len(), !own.is_empty());
+        if !has_descriptors(self.alloc, wanted)? {
+            return Err(io::Error::from(ErrorKind::OutOfMemory));
+        }
+        let places = Places::new(self.alloc)?;
+        self.slots = empty_slots(self.alloc, peers.len().saturating_add(PLACES))?;
+        self.places = places;
         self.peers = peers;
         self.poll = Some(poll);
         Ok(())
@@ -194,7 +265,7 @@ impl<R: Net + Clock + Drop> TcpStreams<R> {
         watch(&stream);
         poll.registry()
             .register(&mut stream, Token(at), Interest::READABLE)?;
-        put_stream(&mut self.slots, at, stream, true, self.now);
+        put_stream(&mut self.slots, at, stream);
         Ok(())
     }
 
@@ -223,10 +294,14 @@ impl<R: Net + Clock + Drop> TcpStreams<R> {
     {
         let at = port as usize;
         self.connect(at)?;
-        match self.slots.get_mut(at) {
-            Some(slot) => slot.write(bytes),
-            None => Err(io::Error::from(ErrorKind::NotConnected)),
+        let Some(slot) = self.slots.get_mut(at) else {
+            return Err(io::Error::from(ErrorKind::NotConnected));
+        };
+        let count = slot.write(bytes)?;
+        if let Some(place) = self.place(port) {
+            self.places.answer(place, self.now);
         }
+        Ok(count)
     }
 }
 
@@ -274,6 +349,7 @@ impl<R: Net + Clock + Drop> Streams for TcpStreams<R> {
         if let Some(slot) = self.slots.get_mut(port as usize) {
             slot.leave();
         }
+        self.free(port);
         Ok(())
     }
 }

@@ -4,13 +4,13 @@ ghost use Rattle.vr_base.specs.Causes.{HasCause};
 
 use crate::addresses::{address_of, addresses_of};
 use crate::counting::counted;
-use crate::ports::{NOBODY, Ports};
 use std::alloc::{AllocError, Global};
 use std::io;
 use std::io::ErrorKind;
 use std::net::{IpAddr, Ipv4Addr, Ipv6Addr, Net, SocketAddr, UdpSocket};
 use std::time::Duration;
 use vr_edge::{Link, LinkFailed, RECEIVE_ROOM, Received};
+use vr_policy::{NOBODY, Ports};
 
 /// How long a receive is to wait for a datagram. The system may round it up to one of its own ticks, and one more:
 /// 4 become 8 where it has 250 of them a second, which is at most the 10 that a receive may take.
@@ -29,7 +29,7 @@ pub struct UdpLink<R> {
     alloc: Global,
     net: R,
     socket: Option<UdpSocket>,
-    ports: Ports,
+    ports: Ports<SocketAddr>,
     room: Vec<u8>,
     faults: u64,
     send_faults: u64,
@@ -73,7 +73,7 @@ fn may_be_message(bytes: &[u8]) -> bool {
 }
 
 /// The port of the sender of a datagram.
-fn port_of(ports: &mut Ports, address: SocketAddr, bytes: &[u8]) -> u32 {
+fn port_of(ports: &mut Ports<SocketAddr>, address: SocketAddr, bytes: &[u8]) -> u32 {
     match ports.peer(address) {
         Some(port) => port,
         None if may_be_message(bytes) => ports.other(address),
@@ -90,7 +90,7 @@ impl<R: Drop> UdpLink<R> {
             alloc,
             net,
             socket: None,
-            ports: Ports::new(alloc)?,
+            ports: Ports::new(alloc, Vec::new(alloc))?,
             room,
             faults: 0,
             send_faults: 0,
@@ -133,7 +133,7 @@ impl<R: Net + Drop> UdpLink<R> {
         let peers = addresses_of(self.alloc, &self.net, "", peers)?;
         let own = own_address(&self.net, own, &peers)?;
         self.socket = Some(bind(&self.net, own)?);
-        self.ports.set_peers(peers);
+        self.ports = Ports::new(self.alloc, peers)?;
         Ok(())
     }
 }

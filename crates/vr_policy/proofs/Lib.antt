@@ -1,0 +1,2 @@
+mod Fair
+mod First

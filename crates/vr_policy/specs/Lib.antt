@@ -1,0 +1,6 @@
+pub mod Guests
+pub mod Laws
+pub mod Pauses
+pub mod Places
+pub mod Senders
+pub mod Turns

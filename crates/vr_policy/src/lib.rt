@@ -1,0 +1,19 @@
+//! What a program decides about the outside: which stream gives its place up to a newcomer (`guest`, `turn`, `places`), when a call that failed
+//! is made again (`again`), which sender a port stands for (`ports`), and how many descriptors a start wants (`wants`). Nothing is called here.
+#![tactic(auto)]
+
+mod again;
+mod guest;
+mod laws;
+mod places;
+mod ports;
+mod turn;
+mod wants;
+
+pub use again::{Again, is_passing};
+pub use guest::Guest;
+pub use laws::place_laws;
+pub use places::{PLACES, Places};
+pub use ports::{NOBODY, Ports, Sender, number};
+pub use turn::{Newcomer, Turn};
+pub use wants::descriptors_wanted;
