@@ -110,7 +110,7 @@ module _ (kinds : ℕ → Kind) (cluster n : ℕ) (first : ℕ → Host Lying) (
   }
 
   module _ (are : AreKinds kinds n) (number : cluster < 2 ^ 64) (few : 1 ≤ n) (many : n ≤ 6) where
-    begun_unforged : (u : IsUnforgedBeside cluster (world_of first n) (fresh_group kinds cluster n)) × (u.past.run ≡ [])
+    pub begun_unforged : (u : IsUnforgedBeside cluster (world_of first n) (fresh_group kinds cluster n)) × (u.past.run ≡ [])
     begun_unforged =
         let u = worlds_begin_unforged kinds cluster n are number few many in (
           record {
@@ -138,7 +138,7 @@ module _ (kinds : ℕ → Kind) (cluster n : ℕ) (first : ℕ → Host Lying) (
         (m.0, λ p q x y same. never p q (m.1 p x) (m.1 q y) same)
 
     -- and each runs on a file of its version
-    begun_run : AllRunOn (world_of first n)
+    pub begun_run : AllRunOn (world_of first n)
     begun_run i m e =
         let at = first_at i m e in
         let one = new i at.0 in
