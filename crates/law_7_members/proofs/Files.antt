@@ -121,7 +121,7 @@ acts_cut at made code o file s l =
     ap (λ (t : Bool). cond t (world.went hazards m s (Some rest)) (world.halted hazards at m s u)) (lt-leb (length (script_calls file.version s.script file.face)) made l)
 
 -- the opening of a file that opens as a value
-abbrev whole : SuperValue → Lying → Step
+abbrev pub whole : SuperValue → Lying → Step
 whole v file = record { replica = (resumed v file).replica; script = opening_script v file }
 
 opened_is : (v : SuperValue) (file : Lying) → (sectors_by file.version).opens file.face ≡ Some v → opened lying file ≡ Some (whole v file)

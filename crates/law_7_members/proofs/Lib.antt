@@ -6,3 +6,9 @@ pub mod Keeping
 pub mod Making
 pub mod Begun
 pub mod Whole
+pub mod Cuts
+pub mod Resting
+pub mod Ending
+pub mod Halting
+pub mod Migrations
+pub mod Running

@@ -1,6 +1,6 @@
 -- A file on which makings of a member stopped holds no entry and forges none; and what a whole making leaves of it is the member's.
 use Rattle.std.proofs.Common.{ℕ, zero, suc, ◌+◌, ◌-◌, ◌*◌, ◌^◌, ◌≤◌, ◌<◌, ◌≡◌, ◌&&◌, inl, inr, arith, refl, sym, ap, ◌∙◌, subst, true, false, cond, List, [], ◌∷◌, ◌++◌, length, map, take, drop, get_or, Option, Some, None}
-use Rattle.std.specs.Prelude.{◌==◌, is_some, nat_lt, replicate}
+use Rattle.std.specs.Prelude.{◌==◌, Ok, is_some, nat_lt, replicate}
 use Rattle.std.specs.List.{AllByRecursion, range_with_len}
 use Rattle.std.specs.Option.{option_and_then, option_map}
 use Rattle.std.proofs.lemmas.Bool.{and_parts, cases_eq}
@@ -23,6 +23,9 @@ use Rattle.vr_disk.proofs.Together.{after_all_append, length_after_all, together
 use Rattle.vr_header.specs.declared.command.Command.TheVariants as command
 use Rattle.vr_header.specs.declared.header.Header.{Header}
 use Rattle.vr_header.specs.Made.{Whole}
+use Rattle.vr_header.specs.Spelling.{IsHeader, decoded}
+use Rattle.vr_header.proofs.EntryLaws.{is_entry_header_of}
+use Rattle.vr_header.proofs.HeaderLaws.{decoded_again}
 use Rattle.vr_super.specs.Calls.{copy_calls, save_from}
 use Rattle.vr_super.specs.Copies.{IsGood, SuperValue, copy_bytes, count_at, fields_at, first_op, good_fields, is_closed, is_named, is_sealed, list_at, list_bytes, value_of, zeros}
 use Rattle.vr_super.specs.Opens.{copy_reading, good_copies, good_copy, opened, opens}
@@ -34,7 +37,7 @@ use Rattle.vr_lie.proofs.Best.{opened_among, opened_some}
 use Rattle.vr_lie.proofs.Format.{behind_copy, length-copy_bytes, value_again}
 use Rattle.vr_lie.proofs.Keeping.{two_first}
 use Rattle.vr_lie.proofs.Readings.{copy_within, other_after}
-use Rattle.vr_lie.proofs.Spelling.{damaged_version, header_again, header_sector_is, sector_version}
+use Rattle.vr_lie.proofs.Spelling.{damaged_version, header_again, header_sector_is, sector_spells, sector_version}
 use Rattle.vr_lie.proofs.Standing.{both_is, both_whole, some_same}
 use Rattle.vr_lie.specs.Held.{Stands, entry_read, header_sector}
 use Rattle.vr_lie.specs.Slots.{IsWhole, header_of, header_reading, prepare_bytes, prepare_reading, sector_of, whole_in, whole_of}
@@ -53,9 +56,10 @@ use Rattle.law_5_seals.specs.Seals.{HasCell, HasSectors, IsSealed, Puts}
 use Rattle.law_5_seals.proofs.Contents.{has_after_all, has_at, has_cut, has_fault, has_weaker}
 use Rattle.law_5_seals.proofs.Sectors.{header_sealed}
 use Rattle.law_5_seals.proofs.Turning.{plain_sealed, turned_at, turned_sealed, twice}
+use Rattle.law_7_members.proofs.Cuts.{rested}
 use Rattle.law_7_members.specs.Whole as whole
 use Rattle.vr_status.specs.declared.status.Status.TheVariants as status
-use Rattle.law_7_members.specs.Whole.{IsUnfinished, LeavesUnfinished, MakingsLeaveUnfinished, made_on, making, unheld}
+use Rattle.law_7_members.specs.Whole.{IsBare, IsUnfinished, IsUnused, LeavesUnfinished, MakingsLeaveUnfinished, made_on, making, unheld}
 
 -- ---- no header sector of an entry, nor once its bits are turned
 
@@ -248,6 +252,20 @@ pub record IsPlain (f : Face) : Type 0 where
   pub rests : f.waiting ≡ []
   pub empty : HasSectors IsEmpty f
 
+-- any file of whose sectors none begins with the header of an entry
+sector_reads : (h : Header) → IsHeader h → decoded (sector_of h) ≡ Ok h
+sector_reads h i = decoded_again h (sector_of h) i (sector_spells h i)
+
+bare_empty : (b : List ℕ) → IsBare b → IsEmpty b
+bare_empty b x = record {
+  sealed = record { content = x.content; front = λ h y. x.front h y.reads y.entry; turned = λ h y. x.turned h y.reads y.entry };
+  front = λ e w same. x.front e.header (ap decoded same ∙ sector_reads e.header w.header) (is_entry_header_of e.header w.entry.header);
+  turned = λ e w same. x.turned e.header (ap decoded same ∙ sector_reads e.header w.header) (is_entry_header_of e.header w.entry.header);
+}
+
+unused_plain : (f : Face) → IsUnused f → IsPlain f
+unused_plain f u = record { face = u.face; rests = u.rests; empty = has_weaker IsBare IsEmpty f bare_empty u.bare }
+
 zeros_plain : IsPlain zero_face
 zeros_plain = record {
   face = record { count = length-replicate sectors zero_cell; cells = λ k d l. subst IsCell (zero_at k d l) zero_is_cell; waiting = λ k d l. absurd (omega arith) };
@@ -290,6 +308,7 @@ fault_again f (fault.Misdirect i k) = refl
 -- attached again, it is the same
 again : (c : Config) (f : Face) → IsUnfinished c f → IsUnfinished c (after f Sync)
 again c _ whole.zeros = whole.zeros
+again c _ (whole.unused file u) = subst (IsUnfinished c) (rested file u.rests) (whole.unused file u)
 again c _ (whole.stopped kind file left k least u s) = whole.stopped kind file left k least u s
 again c _ (whole.decays file x u within) = subst (IsUnfinished c) (fault_again file x) (whole.decays (after file Sync) x (again c file u) within)
 
@@ -321,6 +340,7 @@ module _ (c : Config) (room : c.cluster < 2 ^ 64) (b : c.n ≤ 6) (l : c.replica
 
   pub unfinished_plain : (f : Face) → IsUnfinished c f → IsPlain f
   unfinished_plain _ whole.zeros = zeros_plain
+  unfinished_plain _ (whole.unused file u) = unused_plain file u
   unfinished_plain _ (whole.stopped kind file left is least u s) =
       let p = unfinished_plain file u in
       let cs = making kind c in
@@ -364,7 +384,7 @@ copies_read (suc n) k b f size l e h c m =
     ] in
     ap (λ (g : Face). copy_reading g c) (after_all_append one (save_from (k + 1) n b) f) ∙ copies_read n (k + 1) b g size (length_after_all one f ∙ l) (omega arith) next c m
 
-saves_rest : (n k : ℕ) (b : List ℕ) (f : Face) → (after_all f (save_from k (suc n) b)).waiting ≡ []
+pub saves_rest : (n k : ℕ) (b : List ℕ) (f : Face) → (after_all f (save_from k (suc n) b)).waiting ≡ []
 unfolding save_from copy_calls
 saves_rest zero k b f = ap (λ (cs : List Call). (after_all f cs).waiting) (append-nil (writes (20 * k) 20 b ++ Sync ∷ [])) ∙ ap (λ (g : Face). g.waiting) (after_all_append (writes (20 * k) 20 b) (Sync ∷ []) f)
 saves_rest (suc n) k b f =

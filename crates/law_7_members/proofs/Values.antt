@@ -13,7 +13,7 @@ version_is n None v e = absurd cc
 version_is n (Some w) v e =
     elim (w.fields.version == n) as (λ t. cond t (Some w) None ≡ Some v → Some w ≡ Some v) [ true ↦ λ e. e | false ↦ λ e. absurd cc ] e
 
-some_is : (o : Option SuperValue) (v : SuperValue) → option_and_then Some o ≡ Some v → o ≡ Some v
+pub some_is : (o : Option SuperValue) (v : SuperValue) → option_and_then Some o ≡ Some v → o ≡ Some v
 some_is None v e = absurd cc
 some_is (Some u) v e = e
 

@@ -53,16 +53,16 @@ Goes c o file (act ∷ acts) = (next : Option Replica) × (left : Lying) × Beco
 
 -- ---- what the disk tells is the file
 
-face_all : (es : List Effect) (d : Lying) → (after_all lying d es).face ≡ disk.after_all d.face (script_calls d.version es d.face)
+pub face_all : (es : List Effect) (d : Lying) → (after_all lying d es).face ≡ disk.after_all d.face (script_calls d.version es d.face)
 unfolding after_all script_calls
 face_all [] d = refl
 face_all (e ∷ es) d = face_all es (lying.after d e) ∙ sym (after_all_append (calls_by d.version e d.face) (script_calls d.version es (lying.after d e).face) d.face)
 
 -- a disk that tells a face
-abbrev TellsFace : Option Disk → Face → Type 0
+abbrev pub TellsFace : Option Disk → Face → Type 0
 TellsFace o f = (d : Disk) × (o ≡ Some d) × (d.face ≡ f)
 
-ran_tells : (cs : List Call) (d : Disk) (o : Option Disk) (f : Face) → d.face ≡ f → Runs cs (Some d) o true → TellsFace o (disk.after_all f cs)
+pub ran_tells : (cs : List Call) (d : Disk) (o : Option Disk) (f : Face) → d.face ≡ f → Runs cs (Some d) o true → TellsFace o (disk.after_all f cs)
 ran_tells cs d o f tells r = ((runs cs d).disk, r.0, after_is cs d (sym r.1) ∙ ap (λ (f : Face). disk.after_all f cs) tells)
 
 -- of calls that are a script's on that face
@@ -71,7 +71,7 @@ script_tells s file d o cs same tells r =
     let t = ran_tells cs d o file.face tells r in
     (t.0, t.1, t.2 ∙ (ap (λ (cs : List Call). disk.after_all file.face cs) same ∙ sym (face_all s.script file)))
 
-step_tells : (file : Lying) (r q : Replica) (e : Event) (d : Disk) (after : Option Disk) (os : List Output) → d.face ≡ file.face → version r ≡ file.version → Does (react e) r q (Some d) after [] os (Ok tt) → TellsFace after (file_after file r e).face
+pub step_tells : (file : Lying) (r q : Replica) (e : Event) (d : Disk) (after : Option Disk) (os : List Output) → d.face ≡ file.face → version r ≡ file.version → Does (react e) r q (Some d) after [] os (Ok tt) → TellsFace after (file_after file r e).face
 step_tells file r q e d after os tells own does =
     let n = file.version in
     let left : LeftBy n (react e (sectors_by n) r d.face) q d after [] os (Ok tt) = subst (λ n. LeftBy n (react e (sectors_by n) r d.face) q d after [] os (Ok tt)) own (does.told d refl) in
@@ -81,7 +81,7 @@ step_tells file r q e d after os tells own does =
 -- ---- the events of a run
 
 -- it goes on running on a file of its version
-did_own : (file : Lying) (r q : Replica) (e : Event) → version r ≡ file.version → version q ≡ version r → version q ≡ (file_after file r e).version
+pub did_own : (file : Lying) (r q : Replica) (e : Event) → version r ≡ file.version → version q ≡ version r → version q ≡ (file_after file r e).version
 did_own file r q e own same = same ∙ own ∙ sym (same_version (react e (sectors_by file.version) r file.face).script file)
 
 handled_goes : (c : Config) (arrivals : List Arrival) (dids : List (Did Node)) (node last : Node) (o left : Option Disk) (file : Lying) (acts : List Act) → version node.replica.memory ≡ file.version → TellsFace o file.face → length arrivals ≡ length dids → IsRun steps node o dids last left
@@ -100,11 +100,11 @@ handled_goes c (a ∷ arrivals) (x ∷ dids) node last o left file acts own tell
       handled_goes c arrivals dids x.after last x.disk left (file_after file node.replica.memory x.come.event) acts kept next less run.1 more,
     )
 
-opened_as : (c : Config) (d : Disk) (o o' : Outside) (run : HasDeeds None c o o') → o.disk ≡ Some d → Opens None c (Some d) run.disk run.first run.node.replica.memory
+pub opened_as : (c : Config) (d : Disk) (o o' : Outside) (run : HasDeeds None c o o') → o.disk ≡ Some d → Opens None c (Some d) run.disk run.first run.node.replica.memory
 opened_as c d o o' run told = subst (λ (x : Option Disk). Opens None c x run.disk run.first run.node.replica.memory) told run.opens
 
 -- what an opening leaves
-opened_tells : (c : Config) (file : Lying) (d : Disk) (v : SuperValue) (o o' : Outside) (run : HasDeeds None c o o') → o.disk ≡ Some d → d.face ≡ file.face → (sectors_by file.version).opens d.face ≡ Some v → TellsFace run.disk (after_all lying file (opening_script v file)).face
+pub opened_tells : (c : Config) (file : Lying) (d : Disk) (v : SuperValue) (o o' : Outside) (run : HasDeeds None c o o') → o.disk ≡ Some d → d.face ≡ file.face → (sectors_by file.version).opens d.face ≡ Some v → TellsFace run.disk (after_all lying file (opening_script v file)).face
 opened_tells c file d v o o' run told tells is_open =
     let n = file.version in
     let on = opened_as c d o o' run told in
@@ -119,7 +119,7 @@ opened_tells c file d v o o' run told tells is_open =
     script_tells s file d run.disk (script_calls n (opening v (sectors_by n) (blank v) d.face).script d.face) all tells left.2
 
 -- a run keeps the version of its replica, and of its file
-run_own : (dids : List (Did Node)) (node last : Node) (o left : Option Disk) (file : Lying) → version node.replica.memory ≡ file.version → IsRun steps node o dids last left → version last.replica.memory ≡ (file_of file node.replica.memory dids).version
+pub run_own : (dids : List (Did Node)) (node last : Node) (o left : Option Disk) (file : Lying) → version node.replica.memory ≡ file.version → IsRun steps node o dids last left → version last.replica.memory ≡ (file_of file node.replica.memory dids).version
 run_own [] node last o left file own run = subst (λ (n : Node). version n.replica.memory ≡ file.version) (sym run.0) own
 run_own (x ∷ dids) node last o left file own run =
     run_own dids x.after last x.disk left (file_after file node.replica.memory x.come.event) (did_own file node.replica.memory x.after.replica.memory x.come.event own (run.0.1.same refl)) run.1

@@ -3,3 +3,5 @@ pub mod Files
 pub mod Runs
 pub mod Whole
 pub mod Laws
+pub mod Ends
+pub mod Migrations

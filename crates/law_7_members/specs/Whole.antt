@@ -1,12 +1,15 @@
 -- Whole runs of the programs of a group's members, interleaved.
-use Rattle.std.specs.Prelude.{ℕ, ◌^◌, ◌<◌, ◌≤◌, ◌≡◌, ◌==◌, ⊤, List, [], ◌∷◌, ◌++◌, length, map, Option, Some, None, if◌then◌else◌}
+use Rattle.std.specs.Prelude.{ℕ, ◌^◌, ◌<◌, ◌≤◌, ◌≡◌, ◌==◌, ⊤, true, List, [], ◌∷◌, ◌++◌, length, map, Option, Some, None, Ok, if◌then◌else◌}
 use Rattle.std.specs.List.{AllByRecursion, range_with_len}
 use Rattle.vr_base.specs.Groups.{least_members}
 use Rattle.vr_base.specs.declared.kind.Kind.{Kind}
 use Rattle.vr_base.specs.declared.table.Config.{Config}
-use Rattle.vr_disk.specs.DiskState.{Call, Disk, Face, Sync, after}
+use Rattle.vr_disk.specs.DiskState.{Call, Disk, Face, IsContent, IsFace, Sync, after, damaged}
 use Rattle.vr_disk.specs.Stops.{Stops}
+use Rattle.vr_header.specs.declared.header.Header.{Header}
+use Rattle.vr_header.specs.Made.{is_entry_header}
 use Rattle.vr_header.specs.NoCollision.{NoCollision}
+use Rattle.vr_header.specs.Spelling.{decoded}
 use Rattle.vr_lie.specs.declared.fault.Fault.{Fault}
 use Rattle.vr_lie.specs.Faults.{IsFault, faulted}
 use Rattle.vr_msg.specs.declared.output.Output.{Output}
@@ -23,6 +26,7 @@ use Rattle.vr_world.specs.World.{Happened, Host, World}
 use Rattle.vr_node.specs.Outputs.{messages}
 use Rattle.vr_node.specs.Sectors.{sectors_by}
 use Rattle.law_4_disks.specs.Worlds.{first_world}
+use Rattle.law_5_seals.specs.Seals.{HasSectors}
 use Rattle.law_6_one_log.specs.Schedules.{IsHashedOf}
 use Rattle.law_6_one_log.specs.Laws.{KeepsLog}
 use Rattle.vr_serve.specs.Runs.{Did}
@@ -63,10 +67,23 @@ pub data Lives (c : Config) : Option Replica → Lying → List Act → Type 0 w
 abbrev pub making : Kind → Config → List Call
 making kind c = format_calls kind c.cluster c.n c.replica
 
--- A file on which no making of the member came to its end: it is of zeros; or a making stopped on one of these, at a call that failed or was
--- cut, and the file was attached again; or one of these began to lie, by any fault.
+-- a sector that begins with no header of an entry, as it is or with each of its bits turned
+pub record IsBare (bytes : List ℕ) : Type 0 where
+  pub content : IsContent bytes
+  pub front : (h : Header) → decoded bytes ≡ Ok h → is_entry_header h ≡ true → ⊥
+  pub turned : (h : Header) → decoded (damaged bytes) ≡ Ok h → is_entry_header h ≡ true → ⊥
+
+-- a file of whatever bytes, no sector of which begins so, and that was attached
+pub record IsUnused (f : Face) : Type 0 where
+  pub face : IsFace f
+  pub rests : f.waiting ≡ []
+  pub bare : HasSectors IsBare f
+
+-- A file on which no making of the member came to its end: it is of zeros, or of any other bytes of that kind; or a making stopped on one of these, at
+-- a call that failed or was cut, and the file was attached again; or one of these began to lie, by any fault.
 pub data IsUnfinished (c : Config) : Face → Type 0 where
   zeros : IsUnfinished c zero_face
+  unused : (file : Face) → IsUnused file → IsUnfinished c file
   stopped : (kind : Kind) (file left : Face) → IsKind kind → least_members kind.version ≤ c.n → IsUnfinished c file → Stops (making kind c) file left → IsUnfinished c (after left Sync)
   decays : (file : Face) (fault : Fault) → IsUnfinished c file → IsFault fault → IsUnfinished c (faulted file fault)
 

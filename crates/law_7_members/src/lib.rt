@@ -2,7 +2,9 @@
 //! law: its contract is the statement, and it does nothing.
 #![tactic(auto)]
 
+ghost use Rattle.law_7_members.specs.Ends.{FoundRunsEnd, MadeRunsEnd, MakingRunsAreActs, MigrationsAreActs, NodeRunsAreActs, OpeningsHalt};
 ghost use Rattle.law_7_members.specs.Laws.{MembersAreFound, NodesAreFound, NodesAreOneRun, NodesKeepOneLog};
+ghost use Rattle.law_7_members.specs.Migrations.{MigrationsAreCounted, MigrationsKeepSlots};
 ghost use Rattle.law_7_members.specs.Runs.{RunsAreDeeds};
 ghost use Rattle.law_7_members.specs.Whole.{MakingsLeaveUnfinished, RunsAreAtWork, RunsKeepOneLog, ZerosBeginTheFirst};
 
@@ -52,4 +54,46 @@ pub fn runs_are_at_work()
 /// So they are one run of the group, and keep one log.
 pub fn runs_keep_one_log()
     ensures { RunsKeepOneLog }
+{}
+
+/// A run of a member that was found on its file ends, however it does, by an act: between two events, or in a step that is cut at one of its
+/// calls. What it leaves is what the next attach of the file tells.
+pub fn found_runs_end()
+    ensures { FoundRunsEnd }
+{}
+
+/// So does a run that made its member.
+pub fn made_runs_end()
+    ensures { MadeRunsEnd }
+{}
+
+/// A run that found no member left its file alone, or as an opening that is cut at one of its calls.
+pub fn openings_halt()
+    ensures { OpeningsHalt }
+{}
+
+/// So any run that makes nothing anew, however it ends, left its file alone, or as an opening that is cut, or is one of those that a member's acts
+/// tell of, and an act that ends it.
+pub fn node_runs_are_acts()
+    ensures { NodeRunsAreActs }
+{}
+
+/// And a run that was to make its member left a file on which the next one may make it, or made it and ended by an act.
+pub fn making_runs_are_acts()
+    ensures { MakingRunsAreActs }
+{}
+
+/// A run of the migration left the file alone, moved, as a migration that is cut at one of its calls, or mended alone.
+pub fn migrations_are_acts()
+    ensures { MigrationsAreActs }
+{}
+
+/// A migration keeps what each slot holds, at its old place and at its new one, whole and cut at any of its calls by any code.
+pub fn migrations_keep_slots()
+    ensures { MigrationsKeepSlots }
+{}
+
+/// It makes 597 calls, and before them those that mend the old value.
+pub fn migrations_are_counted()
+    ensures { MigrationsAreCounted }
 {}
