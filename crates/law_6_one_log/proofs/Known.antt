@@ -53,20 +53,26 @@ module _ (cluster n : ℕ) (u : Setup) (run : List Played) (x : IsFollowed clust
         e.at ∙ ap Some same;
   }
 
-pub one_log : (cluster n : ℕ) (run : List Played) → IsFitRun cluster n run → HasOneLog cluster n run
-one_log cluster n run fit =
+-- with the log that is told of it
+pub one_log_is : (cluster n : ℕ) (run : List Played) (fit : IsFitRun cluster n run) → (o : HasOneLog cluster n run) × (o.safe.log ≡ the_log cluster n (follows_it cluster n run fit).setup run (follows_it cluster n run fit).followed)
+one_log_is cluster n run fit =
     let x = follows_it cluster n run fit in
     let y = x.followed in
     let z = runs_reply cluster n x.setup run y x.bridges in
-    let s = safe_of_log cluster n x.setup run y z in
-    record {
-      safe = s.0;
-      before = λ t p is at m r runs.
-          let l = slice_get_within run t p is in
-          subst (λ log. IsOfLog cluster run log r) (sym s.1) (of_log cluster n x.setup run y t (omega arith) p.before (x.bridges t p is) at m r runs);
-      after = λ t p is at m r runs.
-          let l = slice_get_within run t p is in
-          subst (λ log. IsOfLog cluster run log r) (sym s.1) (of_log cluster n x.setup run y (suc t) (omega arith) p.moved.group (x.after t p is) at m r runs);
-      folds = λ never t p is.
-          (subst (λ log. HaveFolds log p.before) (sym s.1) (have_at cluster n x.setup run y z never t p is), subst (λ log. HaveFolds log p.moved.group) (sym s.1) (have_after cluster n x.setup run y z never t p is));
-    }
+    let s = safe_of_log cluster n x.setup run y z in (
+      record {
+        safe = s.0;
+        before = λ t p is at m r runs.
+            let l = slice_get_within run t p is in
+            subst (λ log. IsOfLog cluster run log r) (sym s.1) (of_log cluster n x.setup run y t (omega arith) p.before (x.bridges t p is) at m r runs);
+        after = λ t p is at m r runs.
+            let l = slice_get_within run t p is in
+            subst (λ log. IsOfLog cluster run log r) (sym s.1) (of_log cluster n x.setup run y (suc t) (omega arith) p.moved.group (x.after t p is) at m r runs);
+        folds = λ never t p is.
+            (subst (λ log. HaveFolds log p.before) (sym s.1) (have_at cluster n x.setup run y z never t p is), subst (λ log. HaveFolds log p.moved.group) (sym s.1) (have_after cluster n x.setup run y z never t p is));
+      },
+      s.1,
+    )
+
+pub one_log : (cluster n : ℕ) (run : List Played) → IsFitRun cluster n run → HasOneLog cluster n run
+one_log cluster n run fit = (one_log_is cluster n run fit).0

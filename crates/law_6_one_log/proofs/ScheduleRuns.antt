@@ -16,11 +16,11 @@ use Rattle.law_3_outputs.specs.World.{Happening, World, happen, happens}
 use Rattle.law_3_outputs.specs.Group.{Group, Played, Run, fresh_group}
 use Rattle.law_3_outputs.specs.Safe as safe
 use Rattle.law_3_outputs.specs.Safe.{run_outputs}
-use Rattle.law_4_disks.specs.Worlds.{IsOfBytes, AreBeside, IsHashedAt, IsMatchedBy, IsOneMove, Said, aside, begun_in, both, left, moved_once, none, read_in, unmoved}
+use Rattle.law_4_disks.specs.Worlds.{IsOfBytes, AreBeside, IsHashedAt, IsMatched, IsMatchedBy, IsOneMove, Said, aside, begun_in, both, left, moved_once, none, read_in, unmoved}
 use Rattle.law_4_disks.proofs.Matched.{lines_are_moves}
 use Rattle.law_6_one_log.specs.Bridged.{IsBridged, IsLed}
 use Rattle.law_6_one_log.specs.Schedules.{IsHashedOf, IsSealedWorld, IsUsedAt, MayFollow, MayHappen, room}
-use Rattle.law_6_one_log.specs.ScheduleLaws.{HappeningsAreRuns, IsUnforgedBeside, LinesStayUnforged}
+use Rattle.law_6_one_log.specs.ScheduleLaws.{HappeningsAreRuns, IsHashedBy, IsUnforgedBeside, LeavesUnforged, LinesStayUnforged}
 use Rattle.law_6_one_log.proofs.UnforgedLines.{line_leaves, line_unforged}
 use Rattle.law_6_one_log.proofs.Names.{begun_so, hashed_both, none_hashed, used}
 use Rattle.law_6_one_log.proofs.Sessions.{ComesOfEntries, run_comes}
@@ -32,7 +32,7 @@ run_both : (g : Group) (ps qs : List Played) → Run g ps → Run (left g ps) qs
 run_both g [] qs (Run.ended h) s = s
 run_both g (p ∷ ps) qs (Run.goes h x y more m r) s = Run.goes g x y (ps ++ qs) m (run_both y.group ps qs r s)
 
-left_both : (g : Group) (ps qs : List Played) → left g (ps ++ qs) ≡ left (left g ps) qs
+pub left_both : (g : Group) (ps qs : List Played) → left g (ps ++ qs) ≡ left (left g ps) qs
 left_both g [] qs = refl
 left_both g (p ∷ ps) qs = left_both p.moved.group ps qs
 
@@ -154,34 +154,114 @@ rest_may home w g x xs u run one may =
     let few = may.few in
     record { lines = may.lines.1; names = λ a b p q same. may.names a b (into a p) (into b q) same; few = omega (arith, size, most, few) }
 
-pub happenings_are_runs : HappeningsAreRuns
-unfolding happen run_outputs
-happenings_are_runs home [] w g u may = (record { run = []; is = Run.ended g; reads = All-nil (λ (p : Played). IsFitMove p.move); bytes = All-nil (λ (p : Played). IsOfBytes p.move); files = All-nil (λ (p : Played). IsOfFile p.before p.move); beside = u.beside; said = none }, none_hashed home [] w, record { unforged = u; led = sym (append-nil u.past.run) }, omega arith)
-happenings_are_runs home (x ∷ xs) w g u may =
-    let by = lines_stay_unforged home w g x u (first_may home u.past.run w x xs may) in
-    let one = by.0.matched in
-    let h = happens hazards w x in
-    let next : MayFollow home by.1.past.run h.world xs = subst (λ (past : List Played). MayFollow home past h.world xs) (sym by.2) (rest_may home w g x xs u one.run by.0.one may) in
-    let later = happenings_are_runs home xs h.world (left g one.run) by.1 next in
-    let rest = later.0 in
-    let end : World Lying = (happen hazards h.world xs).world in
-    let z = subst (λ (k : Group). (v : IsUnforgedBeside home end k) × (v.past.run ≡ by.1.past.run ++ rest.run)) (sym (left_both g one.run rest.run)) (later.2.unforged, later.2.led) in
-    let size = length-append one.run rest.run in
-    let most = one_at_most (begun_in w x) (read_in w x) one.run by.0.one in
-    let shorter = later.3 in (
+-- ---- lines one after the other, each with its move of the group, in a world that isn't forged
+
+pub data Along (home : ℕ) : World Lying → Group → List Happening → List Played → Type 0 where
+  rests : (w : World Lying) (g : Group) → IsUnforgedBeside home w g → Along home w g [] []
+  goes_on : (w : World Lying) (g : Group) (x : Happening) (xs : List Happening) (rest : List Played) → IsUnforgedBeside home w g → (m : IsMatchedBy home (begun_in w x) (read_in w x) g (happens hazards w x))
+      → Along home (happens hazards w x).world (left g m.matched.run) xs rest → Along home w g (x ∷ xs) (m.matched.run ++ rest)
+
+module _ (home : ℕ) where
+  pub along_unforged : (w : World Lying) (g : Group) (xs : List Happening) (run : List Played) → Along home w g xs run → IsUnforgedBeside home w g
+  along_unforged _ _ _ _ (rests w g u) = u
+  along_unforged _ _ _ _ (goes_on w g x xs rest u m more) = u
+
+  pub along_run : (w : World Lying) (g : Group) (xs : List Happening) (run : List Played) → Along home w g xs run → Run g run
+  along_run _ _ _ _ (rests w g u) = Run.ended g
+  along_run _ _ _ _ (goes_on w g x xs rest u m more) = run_both g m.matched.run rest m.matched.is (along_run (happens hazards w x).world (left g m.matched.run) xs rest more)
+
+  pub along_reads : (w : World Lying) (g : Group) (xs : List Happening) (run : List Played) → Along home w g xs run → All (λ (p : Played). IsFitMove p.move) run
+  along_reads _ _ _ _ (rests w g u) = All-nil (λ (p : Played). IsFitMove p.move)
+  along_reads _ _ _ _ (goes_on w g x xs rest u m more) =
+      All-append (λ (p : Played). IsFitMove p.move) m.matched.run rest m.matched.reads (along_reads (happens hazards w x).world (left g m.matched.run) xs rest more)
+
+  along_bytes : (w : World Lying) (g : Group) (xs : List Happening) (run : List Played) → Along home w g xs run → All (λ (p : Played). IsOfBytes p.move) run
+  along_bytes _ _ _ _ (rests w g u) = All-nil (λ (p : Played). IsOfBytes p.move)
+  along_bytes _ _ _ _ (goes_on w g x xs rest u m more) =
+      All-append (λ (p : Played). IsOfBytes p.move) m.matched.run rest m.matched.bytes (along_bytes (happens hazards w x).world (left g m.matched.run) xs rest more)
+
+  pub along_files : (w : World Lying) (g : Group) (xs : List Happening) (run : List Played) → Along home w g xs run → All (λ (p : Played). IsOfFile p.before p.move) run
+  along_files _ _ _ _ (rests w g u) = All-nil (λ (p : Played). IsOfFile p.before p.move)
+  along_files _ _ _ _ (goes_on w g x xs rest u m more) =
+      All-append (λ (p : Played). IsOfFile p.before p.move) m.matched.run rest m.matched.files (along_files (happens hazards w x).world (left g m.matched.run) xs rest more)
+
+  along_beside : (w : World Lying) (g : Group) (xs : List Happening) (run : List Played) → Along home w g xs run → AreBeside (happen hazards w xs).world (left g run)
+  unfolding happen
+  along_beside _ _ _ _ (rests w g u) = u.beside
+  along_beside _ _ _ _ (goes_on w g x xs rest u m more) =
+      let v = (happens hazards w x).world in
+      subst (AreBeside (happen hazards v xs).world) (sym (left_both g m.matched.run rest)) (along_beside v (left g m.matched.run) xs rest more)
+
+  pub along_said : (w : World Lying) (g : Group) (xs : List Happening) (run : List Played) → Along home w g xs run → Said (happen hazards w xs).outputs (run_outputs run)
+  unfolding happen run_outputs
+  along_said _ _ _ _ (rests w g u) = none
+  along_said _ _ _ _ (goes_on w g x xs rest u m more) =
+      let h = happens hazards w x in
+      let later = (happen hazards h.world xs).outputs in
+      subst (Said (h.outputs ++ later)) (sym (outputs_both m.matched.run rest)) (said_both h.outputs (run_outputs m.matched.run) later (run_outputs rest) m.matched.said (along_said h.world (left g m.matched.run) xs rest more))
+
+  -- so they are a run
+  pub matched_of : (w : World Lying) (g : Group) (xs : List Happening) (run : List Played) → Along home w g xs run → (m : IsMatched g (happen hazards w xs)) × (m.run ≡ run)
+  matched_of w g xs run a = (
+    record { run = run; is = along_run w g xs run a; reads = along_reads w g xs run a; bytes = along_bytes w g xs run a; files = along_files w g xs run a; beside = along_beside w g xs run a; said = along_said w g xs run a },
+    refl,
+  )
+
+  -- that of the first lines is a front of it
+  pub record Splits (w : World Lying) (g : Group) (xs : List Happening) (run : List Played) : Type 0 where
+    pub first : List Played
+    pub rest : List Played
+    pub is : run ≡ first ++ rest
+    pub along : Along home w g xs first
+
+  pub splits : (w : World Lying) (g : Group) (xs ys : List Happening) (run : List Played) → Along home w g (xs ++ ys) run → Splits w g xs run
+  splits w g [] ys run a = record { first = []; rest = run; is = refl; along = rests w g (along_unforged w g ys run a) }
+  splits _ _ (x ∷ xs) ys _ (goes_on w g _ _ rest u m more) =
+      let s = splits (happens hazards w x).world (left g m.matched.run) xs ys rest more in
       record {
-        run = one.run ++ rest.run;
-        is = run_both g one.run rest.run one.is rest.is;
-        reads = All-append (λ (p : Played). IsFitMove p.move) one.run rest.run one.reads rest.reads;
-        bytes = All-append (λ (p : Played). IsOfBytes p.move) one.run rest.run one.bytes rest.bytes;
-        files = All-append (λ (p : Played). IsOfFile p.before p.move) one.run rest.run one.files rest.files;
-        beside = subst (AreBeside (happen hazards h.world xs).world) (sym (left_both g one.run rest.run)) rest.beside;
-        said = subst (Said (h.outputs ++ (happen hazards h.world xs).outputs)) (sym (outputs_both one.run rest.run)) (said_both h.outputs (run_outputs one.run) (happen hazards h.world xs).outputs (run_outputs rest.run) one.said rest.said);
-      },
-      λ bytes all. elim (hashed_both one.run rest.run (root_header home) bytes all) [
-        | inl first ↦ elim (used w x [] one.run by.0.one (root_header home) bytes first) [ inl nothing ↦ none_hashed home (x ∷ xs) w bytes nothing | inr new ↦ inl (inr new) ]
-        | inr more ↦ inr (later.1 bytes more)
-      ],
-      record { unforged = z.0; led = z.1 ∙ (ap (λ (ps : List Played). ps ++ rest.run) by.2 ∙ append_assoc u.past.run one.run rest.run) },
-      omega (arith, size, most, shorter),
-    )
+        first = m.matched.run ++ s.first;
+        rest = s.rest;
+        is = ap (λ (ps : List Played). m.matched.run ++ ps) s.is ∙ sym (append_assoc m.matched.run s.first s.rest);
+        along = goes_on w g x xs s.first u m s.along;
+      }
+
+  -- ---- each list of lines has such a run
+
+  -- after these moves
+  pub record Goes (w : World Lying) (g : Group) (past : List Played) (xs : List Happening) : Type 0 where
+    pub run : List Played
+    pub along : Along home w g xs run
+    pub hashed : IsHashedBy home w xs run
+    pub leaves : LeavesUnforged home (happen hazards w xs).world g past run
+    pub few : length run ≤ length xs
+
+  pub goes : (xs : List Happening) (w : World Lying) (g : Group) (u : IsUnforgedBeside home w g) → MayFollow home u.past.run w xs → Goes w g u.past.run xs
+  unfolding happen
+  goes [] w g u may = record { run = []; along = rests w g u; hashed = none_hashed home [] w; leaves = record { unforged = u; led = sym (append-nil u.past.run) }; few = omega arith }
+  goes (x ∷ xs) w g u may =
+      let by = lines_stay_unforged home w g x u (first_may home u.past.run w x xs may) in
+      let one = by.0.matched in
+      let h = happens hazards w x in
+      let next : MayFollow home by.1.past.run h.world xs = subst (λ (past : List Played). MayFollow home past h.world xs) (sym by.2) (rest_may home w g x xs u one.run by.0.one may) in
+      let later = goes xs h.world (left g one.run) by.1 next in
+      let end : World Lying = (happen hazards h.world xs).world in
+      let z = subst (λ (k : Group). (v : IsUnforgedBeside home end k) × (v.past.run ≡ by.1.past.run ++ later.run)) (sym (left_both g one.run later.run)) (later.leaves.unforged, later.leaves.led) in
+      let size = length-append one.run later.run in
+      let most = one_at_most (begun_in w x) (read_in w x) one.run by.0.one in
+      let shorter = later.few in
+      record {
+        run = one.run ++ later.run;
+        along = goes_on w g x xs later.run u by.0 later.along;
+        hashed = λ bytes all. elim (hashed_both one.run later.run (root_header home) bytes all) [
+          | inl first ↦ elim (used w x [] one.run by.0.one (root_header home) bytes first) [ inl nothing ↦ none_hashed home (x ∷ xs) w bytes nothing | inr new ↦ inl (inr new) ]
+          | inr more ↦ inr (later.hashed bytes more)
+        ];
+        leaves = record { unforged = z.0; led = z.1 ∙ (ap (λ (ps : List Played). ps ++ later.run) by.2 ∙ append_assoc u.past.run one.run later.run) };
+        few = omega (arith, size, most, shorter);
+      }
+
+pub happenings_are_runs : HappeningsAreRuns
+unfolding matched_of
+happenings_are_runs home xs w g u may =
+    let l = goes home xs w g u may in
+    ((matched_of home w g xs l.run l.along).0, l.hashed, l.leaves, l.few)

@@ -2,7 +2,7 @@
 use Rattle.vr_base.proofs.Members.{least_of}
 use Rattle.vr_base.specs.Groups.{least_members}
 use Rattle.vr_base.specs.declared.kind.Kind.{Kind}
-use Rattle.std.proofs.Common.{ℕ, ◌-◌, ◌^◌, ◌<◌, ◌≤◌, ◌≡◌, ◌∙◌, inl, inr, arith, sym, ap, subst, List, Some}
+use Rattle.std.proofs.Common.{ℕ, ◌-◌, ◌^◌, ◌<◌, ◌≤◌, ◌≡◌, ◌∙◌, inl, inr, arith, refl, sym, ap, subst, List, Some}
 use Rattle.std.specs.Prelude.{slice_get, take}
 use Rattle.vr_header.specs.declared.header.Header.{Header}
 use Rattle.vr_header.specs.Made.{Whole}
@@ -38,7 +38,7 @@ use Rattle.law_6_one_log.proofs.Places.{in_said, matches, placed}
 
 -- ---- outputs
 
-said_in : (ws gs : List Output) → Said ws gs → (o : Output) → (IsAside o → ⊥) → In o ws → In o gs
+pub said_in : (ws gs : List Output) → Said ws gs → (o : Output) → (IsAside o → ⊥) → In o ws → In o gs
 said_in _ _ worlds.none o not i = absurd i
 said_in _ _ (worlds.both os ws gs rest) o not i =
     elim (in_either os ws o i) [
@@ -212,28 +212,34 @@ place_of run ws all number o e not =
 once : (log : List Whole) → IsOnceInSession log
 once log before between later d e is client request first second = each_once before between d e client request first second
 
+-- what happened keeps the log of the run that it is
+pub kept_of : (kinds : ℕ → Kind) (home n : ℕ) (h : Happened Lying) (m : IsMatched (fresh_group kinds home n) h) → NoCollision (IsHashed m.run (root_header home)) → (o : HasOneLog home n m.run) → (k : KeepsLog kinds home n h) × (k.safe.log ≡ o.safe.log)
+kept_of kinds home n h m never o =
+    let s = o.safe in
+    let gs = run_outputs m.run in
+    let all = to_run h.outputs gs m.said in (
+      record {
+        matched = m;
+        safe = s;
+        names = never;
+        folds = λ t p is. (o.folds never t p is).1;
+        rests = λ number o e. rests_aside home n s.log m.run (take number h.outputs) o (λ not. rests home n m.run s never (take number h.outputs) o (place_of m.run h.outputs m.said number o e not));
+        lines = λ c d i j same. one_line home n m.run s never c d (said_in h.outputs gs m.said (output.Commit c) (λ a. a) (contains_in (output.Commit c) h.outputs i))
+            (said_in h.outputs gs m.said (output.Commit d) (λ a. a) (contains_in (output.Commit d) h.outputs j)) same;
+        logged = λ v c fc nc above kc. s.one v c fc nc above (committed_said (run_stored m.run) h.outputs gs all home n v c kc);
+        one = λ v w c d fc fd nc nd above same kc kd. one_entry home n m.run s v w c d fc fd nc nd above same (committed_said (run_stored m.run) h.outputs gs all home n v c kc) (committed_said (run_stored m.run) h.outputs gs all home n w d kd);
+        kept = λ v c fc nc above kc o i. kept_aside v c o (λ not. kept_in home n m.run s v c fc nc above (committed_said (run_stored m.run) h.outputs gs all home n v c kc) o (said_in h.outputs gs m.said o not (contains_in o h.outputs i)));
+        cut = λ number l e. cut_in home n m.run s never (take number h.outputs) h.outputs all l (place_of m.run h.outputs m.said number (output.Choose l) e (λ a. a));
+        once = once s.log;
+      },
+      refl,
+    )
+
 pub keeps_log : (kinds : ℕ → Kind) (home n : ℕ) → AreKinds kinds n → home < 2 ^ 64 → 1 ≤ n → n ≤ 6 → ((run : List Played) → IsFitRun home n run → HasOneLog home n run) → (h : Happened Lying) (m : IsMatched (fresh_group kinds home n) h) → NoCollision (IsHashed m.run (root_header home))
     → KeepsLog kinds home n h
 keeps_log kinds home n k number some many one h m never =
     let fit : IsFitRun home n m.run = record { number = number; some = some; many = many; moves = m.reads; files = m.files; kinds = kinds; are_kinds = k; of_run = m.is } in
-    let o = one m.run fit in
-    let s = o.safe in
-    let gs = run_outputs m.run in
-    let all = to_run h.outputs gs m.said in
-    record {
-      matched = m;
-      safe = s;
-      names = never;
-      folds = λ t p is. (o.folds never t p is).1;
-      rests = λ number o e. rests_aside home n s.log m.run (take number h.outputs) o (λ not. rests home n m.run s never (take number h.outputs) o (place_of m.run h.outputs m.said number o e not));
-      lines = λ c d i j same. one_line home n m.run s never c d (said_in h.outputs gs m.said (output.Commit c) (λ a. a) (contains_in (output.Commit c) h.outputs i))
-          (said_in h.outputs gs m.said (output.Commit d) (λ a. a) (contains_in (output.Commit d) h.outputs j)) same;
-      logged = λ v c fc nc above kc. s.one v c fc nc above (committed_said (run_stored m.run) h.outputs gs all home n v c kc);
-      one = λ v w c d fc fd nc nd above same kc kd. one_entry home n m.run s v w c d fc fd nc nd above same (committed_said (run_stored m.run) h.outputs gs all home n v c kc) (committed_said (run_stored m.run) h.outputs gs all home n w d kd);
-      kept = λ v c fc nc above kc o i. kept_aside v c o (λ not. kept_in home n m.run s v c fc nc above (committed_said (run_stored m.run) h.outputs gs all home n v c kc) o (said_in h.outputs gs m.said o not (contains_in o h.outputs i)));
-      cut = λ number l e. cut_in home n m.run s never (take number h.outputs) h.outputs all l (place_of m.run h.outputs m.said number (output.Choose l) e (λ a. a));
-      once = once s.log;
-    }
+    (kept_of kinds home n h m never (one m.run fit)).0
 
 -- of the group that a schedule begins
 pub keeps : (kind : Kind) (n : ℕ) → IsKind kind → least_members kind.version ≤ n → n ≤ 6 → ((run : List Played) → IsFitRun 0 n run → HasOneLog 0 n run) → (h : Happened Lying) (m : IsMatched (fresh_group (λ i. kind) 0 n) h) → NoCollision (IsHashed m.run (root_header 0))
