@@ -1,13 +1,7 @@
 -- What a member put out in a reply to a client's request is what the log says to it.
-use Rattle.std.proofs.Common.{ℕ, ◌+◌, ◌-◌, ◌^◌, ◌<◌, ◌≤◌, ◌≡◌, ◌∙◌, inl, inr, arith, refl, sym, ap, subst, List, Option, None, Some}
+use Rattle.std.proofs.Common.{ℕ, ◌+◌, ◌-◌, ◌^◌, ◌<◌, ◌≤◌, ◌≡◌, ◌∙◌, arith, sym, ap, subst, List, Some}
 use Rattle.std.specs.Prelude.{slice_get, take}
-use Rattle.std.specs.Option.{option_map}
 use Rattle.vr_base.specs.declared.kind.Kind.{Kind}
-use Rattle.vr_ckpt.specs.Folds.{answer_at, check, fresh_outcome, outcome_of, state_after}
-use Rattle.vr_ckpt.specs.Folds.{Answer as Said}
-use Rattle.vr_ckpt.specs.SessionAnswer.{SessionAnswer}
-use Rattle.vr_ckpt.specs.State.{State}
-use Rattle.vr_ckpt.specs.SessionAnswer.TheVariants as session
 use Rattle.vr_client.specs.declared.answer.Answer.{Answer}
 use Rattle.vr_client.specs.declared.answer.Answer.TheVariants as answer
 use Rattle.vr_header.specs.Made.{Whole}
@@ -15,18 +9,16 @@ use Rattle.vr_header.specs.Names.{header_name}
 use Rattle.vr_header.specs.NoCollision.{NoCollision}
 use Rattle.vr_header.specs.Spelling.{IsHeader}
 use Rattle.vr_header.specs.declared.header.Header.{Header}
-use Rattle.vr_header.specs.declared.outcome.Outcome.{Outcome}
 use Rattle.vr_header.proofs.NameLaws.{one_header}
 use Rattle.vr_msg.specs.declared.output.Committed.{Committed}
 use Rattle.vr_msg.specs.declared.output.Output.{Output}
 use Rattle.vr_msg.specs.declared.output.Output.TheVariants as output
 use Rattle.vr_msg.specs.declared.output.Sent.{Sent}
-use Rattle.vr_msg.specs.declared.reply.Answered.{Answered}
 use Rattle.vr_msg.specs.declared.reply.ReplyFields.{ReplyFields}
 use Rattle.vr_msg.specs.declared.reply.ReplyKind.{ReplyKind}
 use Rattle.vr_msg.specs.declared.request.RequestFields.{RequestFields}
 use Rattle.vr_node.specs.Fit.{IsAsked}
-use Rattle.vr_world.specs.Commitment.{IsOutcomeOf, IsReplyOf, lines_by}
+use Rattle.vr_world.specs.Commitment.{IsReplyOf, lines_by}
 use Rattle.vr_world.specs.Group.{Asked, Played}
 use Rattle.vr_world.specs.Lying.{Lying}
 use Rattle.vr_world.specs.Opening.{AreKinds}
@@ -36,54 +28,21 @@ use Rattle.vr_world.proofs.FitMessages.{asked_may_come}
 use Rattle.law_1_machine.specs.Basics.{In}
 use Rattle.law_3_outputs.specs.Followed.{IsFitRun}
 use Rattle.law_3_outputs.proofs.StoredLists.{in_contains}
-use Rattle.law_3_outputs.proofs.Sets.{in_get, in_left, in_right}
-use Rattle.law_3_outputs.proofs.Traces.{in_either}
-use Rattle.law_4_disks.specs.Worlds as worlds
-use Rattle.law_4_disks.specs.Worlds.{IsAside, Said as Lines}
+use Rattle.law_3_outputs.proofs.Sets.{in_get}
 use Rattle.law_6_one_log.specs.Outputs.{IsTrueAnswer, RestsOn}
+use Rattle.law_6_one_log.proofs.Traces.{said_in}
 use Rattle.law_7_members.specs.Files.{ActBy, act_by, Handles}
 use Rattle.law_7_members.specs.Whole.{KeepOneLog, all_said, world_of}
-use Rattle.law_9_answers.specs.Heard.{HasReached, IsExecuted, IsNamed, IsOfLog, Says, Heard, as_entry, asked_by, header_of, itself, kind_of}
+use Rattle.law_9_answers.specs.Heard.{HasReached, IsNamed, IsOfLog, Says, Heard, as_entry, itself, kind_of}
 use Rattle.law_9_answers.specs.Heard as named
+use Rattle.law_9_asked.specs.Asked.{asked_by, header_of}
+use Rattle.law_9_asked.proofs.Executing.{executed}
 use Rattle.law_9_answers.proofs.Making.{IsOfRequest, lines_asked}
 use Rattle.law_9_answers.proofs.Coming.{ComesFrom, comes_from}
 use Rattle.law_9_answers.proofs.Coming as coming
 use Rattle.law_9_answers.proofs.Hearing.{IsGiven}
 
--- ---- what the run's outputs are
-
-line_in : (ws gs : List Output) → Lines ws gs → (c : Committed) → In (output.Commit c) ws → In (output.Commit c) gs
-line_in _ _ worlds.none c i = absurd i
-line_in _ _ (worlds.both os ws gs rest) c i =
-    elim (in_either os ws (output.Commit c) i) [
-      | inl here ↦ in_left os gs (output.Commit c) here
-      | inr later ↦ in_right os gs (output.Commit c) (line_in ws gs rest c later)
-    ]
-line_in _ _ (worlds.aside a ws gs is rest) c (inl same) = absurd (subst IsAside (sym same) is)
-line_in _ _ (worlds.aside a ws gs is rest) c (inr later) = line_in ws gs rest c later
-
 -- ---- what the log says
-
--- what an entry answers
-abbrev said_to : State → Whole → Said
-said_to s e = record { client = e.header.client; request = e.header.request; answer = check s e; outcome = fresh_outcome s e (check s e) }
-
-executed_by : (s : State) (x : Option Whole) (client request : ℕ) (o : Outcome) → option_map (said_to s) x ≡ Some (record { client = client; request = request; answer = session.Fresh; outcome = Some o })
-    → (e : Whole) × (x ≡ Some e) × (e.header.client ≡ client) × (e.header.request ≡ request) × (check s e ≡ session.Fresh) × (o ≡ outcome_of s e)
-executed_by s None client request o h = absurd cc
-executed_by s (Some e) client request o h =
-    let there : Said = said_to s e in
-    let said : Said = record { client = client; request = request; answer = session.Fresh; outcome = Some o } in
-    let same : there ≡ said = (let both : Some there ≡ Some said = h in cc) in
-    let fresh : check s e ≡ session.Fresh = ap (λ (y : Said). y.answer) same in
-    let outcome : Some (outcome_of s e) ≡ Some o = subst (λ (z : SessionAnswer). fresh_outcome s e z ≡ Some o) fresh (ap (λ (y : Said). y.outcome) same) in
-    (e, refl, ap (λ (y : Said). y.client) same, ap (λ (y : Said). y.request) same, fresh, sym (let one : outcome_of s e ≡ o = cc in one))
-
-executed : (log : List Whole) (lines : ℕ) (r : ReplyFields) (q : RequestFields) (a : Answered) → r.client ≡ q.client → r.request ≡ q.request → IsOutcomeOf log lines r a → IsExecuted log q a
-unfolding answer_at
-executed log lines r q a client number h =
-    let y = executed_by (state_after (take (a.op - 1) log)) (slice_get log (a.op - 1)) r.client r.request a.outcome h.answer in
-    record { entry = y.0; number = h.op.0; at = y.1; client = y.2 ∙ client; request = y.3 ∙ number; fresh = y.4; outcome = y.5 }
 
 says_of : (log : List Whole) (lines m : ℕ) (r : ReplyFields) (q : RequestFields) (a : Answer) → r.client ≡ q.client → r.request ≡ q.request → IsReplyOf log lines m r (kind_of a) → Says log q a
 says_of log lines m r q (answer.Outcome x) client number h = executed log lines r q x client number h
@@ -128,10 +87,10 @@ entry_is_header h q f z = record {
 -- ---- a reply to a request
 
 -- by whom it was asked
-record IsMet (xs : List ActBy) (log : List Whole) (q : RequestFields) (r : ReplyFields) : Type 0 where
-  client : r.client ≡ q.client
-  number : r.request ≡ q.request
-  reached : HasReached xs log q
+pub record IsMet (xs : List ActBy) (log : List Whole) (q : RequestFields) (r : ReplyFields) : Type 0 where
+  pub client : r.client ≡ q.client
+  pub number : r.request ≡ q.request
+  pub reached : HasReached xs log q
 
 module _ (kinds : ℕ → Kind) (cluster n : ℕ) (first : ℕ → Host Lying) (xs : List ActBy) (are : AreKinds kinds n) (number : cluster < 2 ^ 64) (few : 1 ≤ n) (many : n ≤ 6) (k : KeepOneLog kinds cluster n first xs) (own : List RequestFields) (never : NoCollision (IsNamed xs own)) where
   abbrev log : List Whole
@@ -149,9 +108,9 @@ module _ (kinds : ℕ → Kind) (cluster n : ℕ) (first : ℕ → Host Lying) (
       (k.log.rests place o (subst (λ (os : List Output). slice_get os place ≡ Some o) (sym k.work.said) is))
 
   line_asked : (c : Committed) → In (output.Commit c) (all_said xs) → IsOfRequest c.entry.header × IsHeader c.entry.header
-  line_asked c i = lines_asked cluster n run fit c (line_in k.work.left.outputs (run_outputs run) k.log.matched.said c (subst (λ (os : List Output). In (output.Commit c) os) (sym k.work.said) i))
+  line_asked c i = lines_asked cluster n run fit c (said_in k.work.left.outputs (run_outputs run) k.log.matched.said (output.Commit c) (λ z. z) (subst (λ (os : List Output). In (output.Commit c) os) (sym k.work.said) i))
 
-  reply_met : (q : RequestFields) → IsAsked q → q.cluster < 2 ^ 64 → In q own → (r : ReplyFields) → r.request_name ≡ header_name (header_of q) → ComesFrom xs r → IsMet xs log q r
+  pub reply_met : (q : RequestFields) → IsAsked q → q.cluster < 2 ^ 64 → In q own → (r : ReplyFields) → r.request_name ≡ header_name (header_of q) → ComesFrom xs r → IsMet xs log q r
   reply_met q asked range mine r name (coming.of_request at did p i p_asked p_range to) =
       let names : header_name (header_of p) ≡ header_name (header_of q) = sym to.name ∙ name in
       let there = in_contains (act_by at (Handles (Asked p) did)) xs i in
@@ -166,7 +125,7 @@ module _ (kinds : ℕ → Kind) (cluster n : ℕ) (first : ℕ → Host Lying) (
       let same : asked_by c.entry.header ≡ header_of q = one_header (IsNamed xs own) never (asked_by c.entry.header) (header_of q) (entry_is_header c.entry.header q a.1 q_is) q_is (named.IsNamed.entered c (in_contains (output.Commit c) (all_said xs) i)) (named.IsNamed.asked q (in_contains q own mine)) names in
       record { client = to.client ∙ ap (λ (h : Header). h.client) same; number = to.request ∙ ap (λ (h : Header). h.request) same; reached = as_entry (c.entry.header.op - 1) c.entry line.so.at same }
 
-  nobody : (s : Sent) → In s (world_of first n).sent → ⊥
+  pub nobody : (s : Sent) → In s (world_of first n).sent → ⊥
   unfolding world_of
   nobody s i = i
 

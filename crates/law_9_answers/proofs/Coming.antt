@@ -5,7 +5,6 @@ use Rattle.vr_base.specs.declared.table.Config.{Config}
 use Rattle.vr_header.specs.Made.{Whole}
 use Rattle.vr_msg.specs.declared.event.Event.{Event}
 use Rattle.vr_msg.specs.declared.event.Event.TheVariants as event
-use Rattle.vr_msg.specs.declared.frame.Frame.{Frame}
 use Rattle.vr_msg.specs.declared.frame.Frame.TheVariants as frame
 use Rattle.vr_msg.specs.declared.output.Committed.{Committed}
 use Rattle.vr_msg.specs.declared.output.Output.{Output}
@@ -25,7 +24,7 @@ use Rattle.vr_world.specs.Opening.{blank, opening}
 use Rattle.vr_world.specs.Outputs.{asker_of}
 use Rattle.vr_world.specs.Replica.{Replica, version}
 use Rattle.vr_world.specs.Rules.{asker_by, react}
-use Rattle.vr_world.specs.Steps.{Effect, Write, Rewrite, Save, Mend, Checkpoint, PutBlock, Say, outputs}
+use Rattle.vr_world.specs.Steps.{Effect, outputs}
 use Rattle.vr_world.specs.World.{Happened, World}
 use Rattle.law_1_machine.specs.Basics.{In}
 use Rattle.law_3_outputs.proofs.Sets.{get_in, in_left, in_right}
@@ -33,57 +32,11 @@ use Rattle.law_3_outputs.proofs.Traces.{in_either}
 use Rattle.law_7_members.specs.Files as files
 use Rattle.law_7_members.specs.Files.{Act, ActBy, AtWork, Becomes, Brings, Comes, Handles, act_by, puts_out}
 use Rattle.law_7_members.specs.Whole.{all_said}
-use Rattle.law_9_answers.proofs.Tracing.{IsLined, IsNoRequest, IsTo, Traced}
-use Rattle.law_9_answers.proofs.Reacting.{IsAnswered, steps_traced, tr_opening}
-use Rattle.law_9_answers.proofs.Reacting as answered
-
--- ---- outputs of a script
-
-said_in : (es : List Effect) (o : Output) → In o (outputs es) → In (Say o) es
-unfolding outputs
-said_in [] o i = absurd i
-said_in (Say x ∷ es) o (inl e) = inl (ap Say e)
-said_in (Say x ∷ es) o (inr i) = inr (said_in es o i)
-said_in (Write again w ∷ es) o i = inr (said_in es o i)
-said_in (Rewrite h ∷ es) o i = inr (said_in es o i)
-said_in (Save old new ∷ es) o i = inr (said_in es o i)
-said_in (Mend v ∷ es) o i = inr (said_in es o i)
-said_in (Checkpoint cluster texts op old ∷ es) o i = inr (said_in es o i)
-said_in (PutBlock name block ∷ es) o i = inr (said_in es o i)
-
-in_said : (es : List Effect) (o : Output) → In (Say o) es → In o (outputs es)
-unfolding outputs
-in_said [] o i = absurd i
-in_said (Say x ∷ es) o (inl e) = inl cc
-in_said (Say x ∷ es) o (inr i) = inr (in_said es o i)
-in_said (Write again w ∷ es) o (inl e) = absurd cc
-in_said (Write again w ∷ es) o (inr i) = in_said es o i
-in_said (Rewrite h ∷ es) o (inl e) = absurd cc
-in_said (Rewrite h ∷ es) o (inr i) = in_said es o i
-in_said (Save old new ∷ es) o (inl e) = absurd cc
-in_said (Save old new ∷ es) o (inr i) = in_said es o i
-in_said (Mend v ∷ es) o (inl e) = absurd cc
-in_said (Mend v ∷ es) o (inr i) = in_said es o i
-in_said (Checkpoint cluster texts op old ∷ es) o (inl e) = absurd cc
-in_said (Checkpoint cluster texts op old ∷ es) o (inr i) = in_said es o i
-in_said (PutBlock name block ∷ es) o (inl e) = absurd cc
-in_said (PutBlock name block ∷ es) o (inr i) = in_said es o i
-
--- a message among outputs was sent by one of them
-sent_in : (os : List Output) (s : Sent) → In s (messages os) → In (output.Send s) os
-unfolding messages
-sent_in [] s i = absurd i
-sent_in (output.Send x ∷ os) s (inl e) = inl (ap output.Send e)
-sent_in (output.Send x ∷ os) s (inr i) = inr (sent_in os s i)
-sent_in (output.Commit c ∷ os) s i = inr (sent_in os s i)
-sent_in (output.Reply a ∷ os) s i = inr (sent_in os s i)
-sent_in (output.Choose c ∷ os) s i = inr (sent_in os s i)
-sent_in (output.Wait w ∷ os) s i = inr (sent_in os s i)
-sent_in (output.Start x ∷ os) s i = inr (sent_in os s i)
-sent_in (output.Halted r ∷ os) s i = inr (sent_in os s i)
-sent_in (output.Migrated r ∷ os) s i = inr (sent_in os s i)
-sent_in (output.Done ∷ os) s i = inr (sent_in os s i)
-sent_in (output.KeptOut ∷ os) s i = inr (sent_in os s i)
+use Rattle.law_9_asked.proofs.Made.{IsFree, no_frame}
+use Rattle.law_9_asked.proofs.Reacting.{IsAnswered, steps_traced, tr_opening}
+use Rattle.law_9_asked.proofs.Reacting as answered
+use Rattle.law_9_asked.proofs.Scripts.{in_said, said_in, sent_in}
+use Rattle.law_9_asked.proofs.Tracing.{IsLined, IsNoRequest, IsTo, Traced}
 
 -- ---- what one act puts out
 
@@ -101,10 +54,6 @@ from_later : (x : ActBy) (xs : List ActBy) (a : ReplyFields) → ComesFrom xs a 
 from_later x xs a (of_request at did q i asked range to) = of_request at did q (inr i) asked range to
 from_later x xs a (of_line c i to) = of_line c (in_right (puts_out x.at x.act) (all_said xs) (output.Commit c) i) to
 
--- nobody sends a request
-abbrev IsFree : List Sent → Type 0
-IsFree sent = (s : Sent) → In s sent → IsNoRequest s.message
-
 record IsTraced (x : ActBy) : Type 0 where
   sends : (s : Sent) → In (output.Send s) (puts_out x.at x.act) → IsNoRequest s.message
   replies : (a : ReplyFields) → In (output.Reply a) (puts_out x.at x.act) → ComesFrom (x ∷ []) a
@@ -116,9 +65,6 @@ record IsAskedBy (arrival : Arrival) (b : Asker) : Type 0 where
   asked : IsAsked request
   range : request.cluster < 2 ^ 64
   is : b ≡ asker_by name_of request
-
-no_frame : (q : RequestFields) (m : Frame) → frame.Request q ≡ m → IsNoRequest m → ⊥
-no_frame q m e h = subst IsNoRequest (sym e) h
 
 asked_by_event : (sent : List Sent) (at : ℕ) (arrival : Arrival) (e : Event) (b : Asker) → IsFree sent → Comes sent at arrival e → IsAnswered name_of e b → IsAskedBy arrival b
 asked_by_event sent at (Asked p) _ _ free c (answered.IsAnswered.asked q) =

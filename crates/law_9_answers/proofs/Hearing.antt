@@ -26,7 +26,8 @@ use Rattle.law_1_machine.specs.Basics.{In}
 use Rattle.law_3_outputs.proofs.StoredLists.{contains_in}
 use Rattle.law_7_members.specs.Files.{ActBy}
 use Rattle.law_7_members.specs.Whole.{all_said}
-use Rattle.law_9_answers.specs.Heard.{IsPutOut, header_of, kind_of, heard}
+use Rattle.law_9_answers.specs.Heard.{IsPutOut, kind_of, heard}
+use Rattle.law_9_asked.specs.Asked.{header_of}
 
 same_sum_is : (a b : Sum) → same_sum a b ≡ true → a ≡ b
 same_sum_is a b h = let bytes = (bytes_eq-Decides a.0 b.0).0 h in λ i. record { 0 = bytes i }

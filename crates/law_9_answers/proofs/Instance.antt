@@ -20,7 +20,8 @@ use Rattle.law_1_machine.specs.Basics.{In}
 use Rattle.law_3_outputs.proofs.StoredLists.{contains_in, in_contains}
 use Rattle.law_7_members.specs.Files.{ActBy, Handles, act_by}
 use Rattle.law_7_members.specs.Whole.{all_said}
-use Rattle.law_9_answers.specs.Heard.{IsNamed, asked_by, header_of}
+use Rattle.law_9_answers.specs.Heard.{IsNamed}
+use Rattle.law_9_asked.specs.Asked.{asked_by, header_of}
 use Rattle.law_9_answers.specs.Heard as named
 use Rattle.law_9_answers.specs.Laws.{SomeAnswerMay}
 

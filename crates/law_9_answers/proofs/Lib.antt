@@ -1,9 +1,7 @@
-mod Tracing
-mod Reacting
-mod Making
-mod Coming
-mod Hearing
-mod Answering
-mod Asking
+pub mod Making
+pub mod Coming
+pub mod Hearing
+pub mod Answering
+pub mod Asking
 mod Writing
 mod Instance

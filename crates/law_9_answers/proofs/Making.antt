@@ -1,5 +1,5 @@
 -- Every entry of which a commit line is put out in a run was made of a request: it has that request's name.
-use Rattle.std.proofs.Common.{ℕ, zero, suc, ◌+◌, ◌≤◌, ◌<◌, ◌≡◌, ◌∙◌, inl, inr, arith, refl, sym, ap, subst, true, List, [], ◌∷◌, length, take, Some}
+use Rattle.std.proofs.Common.{ℕ, zero, suc, ◌+◌, ◌≤◌, ◌≡◌, ◌∙◌, inl, inr, arith, refl, ap, subst, List, length, Some}
 use Rattle.std.specs.Prelude.{Bool, slice_get}
 use Rattle.vr_base.specs.Bytes.{name_of}
 use Rattle.vr_header.specs.Made.{Whole}
@@ -15,25 +15,21 @@ use Rattle.vr_msg.specs.declared.output.Committed.{Committed}
 use Rattle.vr_msg.specs.declared.output.Output.TheVariants as output
 use Rattle.vr_msg.specs.declared.output.Sent.{Sent}
 use Rattle.vr_msg.specs.declared.request.RequestFields.{RequestFields}
-use Rattle.vr_world.specs.Asker.{Asker}
 use Rattle.vr_world.specs.Group as group
 use Rattle.vr_world.specs.Group.{Arrival, Asked, IsArrival, Member, Message, Move, Moved, Moves, Played, Runs, Time, fresh_group, made_by_effect, made_in, migration, opening_script, stepped}
 use Rattle.vr_world.specs.Lying.{Lying, lying}
-use Rattle.vr_world.specs.Opening.{blank}
 use Rattle.vr_world.specs.Replica.{Replica, header_at, part_at}
 use Rattle.vr_world.specs.Rules.{next_entry}
 use Rattle.vr_world.specs.Safe.{run_outputs}
-use Rattle.vr_world.specs.Steps.{Effect, Step, Write, Rewrite, Save, Mend, Checkpoint, PutBlock, Say}
-use Rattle.vr_world.proofs.InTwo.{opening_in_two}
+use Rattle.vr_world.specs.Steps.{Write}
 use Rattle.law_1_machine.specs.Basics.{In}
 use Rattle.law_1_machine.specs.Group.{Group, Made, made_at}
 use Rattle.law_1_machine.specs.History.{History}
 use Rattle.law_1_machine.specs.Invariant.{Invariant}
 use Rattle.law_1_machine.specs.Machine.{is_known}
-use Rattle.law_1_machine.specs.Members as machine
 use Rattle.law_1_machine.specs.Parts.{header}
 use Rattle.law_1_machine.proofs.Moves.{reached_good}
-use Rattle.law_2_chains.proofs.Making.{logged_made, written_made}
+use Rattle.law_2_chains.proofs.Making.{written_made}
 use Rattle.law_2_chains.proofs.Taking.{log_reaches}
 use Rattle.law_2_chains.proofs.Writing.{told_header}
 use Rattle.law_3_outputs.specs.Bridge.{Bridges, IsSent}
@@ -45,12 +41,13 @@ use Rattle.law_3_outputs.proofs.Backed.{then_end}
 use Rattle.law_3_outputs.proofs.Fitting.{at_place, move_of}
 use Rattle.law_3_outputs.proofs.Machine.{committed_begun, logged}
 use Rattle.law_3_outputs.proofs.Reading.{runs_read}
-use Rattle.law_3_outputs.proofs.Traces.{in_either, output_of_move, said_of}
+use Rattle.law_3_outputs.proofs.Traces.{output_of_move, said_of}
 use Rattle.law_6_one_log.proofs.Following.{follows_it}
-use Rattle.law_9_answers.specs.Heard.{asked_by}
-use Rattle.law_9_answers.proofs.Tracing.{Traced}
-use Rattle.law_9_answers.proofs.Reacting.{IsBrought, steps_traced, tr_opening}
-use Rattle.law_9_answers.proofs.Reacting as brought
+use Rattle.law_9_asked.specs.Asked.{asked_by}
+use Rattle.law_9_asked.proofs.Made.{log_made, opening_traced, prepare_made}
+use Rattle.law_9_asked.proofs.Reacting.{IsBrought, steps_traced}
+use Rattle.law_9_asked.proofs.Reacting as brought
+use Rattle.law_9_asked.proofs.Scripts.{in_take, written_in}
 
 -- it has the name of the request that it was made of
 abbrev pub IsOfRequest : Header → Type 0
@@ -59,56 +56,6 @@ IsOfRequest h = h.request_name ≡ header_name (asked_by h)
 next_asked : (q : RequestFields) (r : Replica) → IsOfRequest (next_entry name_of q r).header
 unfolding next_entry
 next_asked q r = refl
-
-in_take : {X : Type 0} (k : ℕ) (xs : List X) (x : X) → In x (take k xs) → In x xs
-in_take zero [] x i = i
-in_take (suc k) [] x i = i
-in_take zero (y ∷ xs) x i = absurd i
-in_take (suc k) (y ∷ xs) x (inl e) = inl e
-in_take (suc k) (y ∷ xs) x (inr i) = inr (in_take k xs x i)
-
--- a header that was made is that of an entry that was written
-record IsWritten (es : List Effect) (h : Header) : Type 0 where
-  again : Bool
-  entry : Whole
-  among : In (Write again entry) es
-  is : entry.header ≡ h
-
-written_by : (e : Effect) (h : Header) → In h (made_by_effect e) → IsWritten (e ∷ []) h
-written_by (Write again w) h (inl e) = record { again = again; entry = w; among = inl refl; is = sym e }
-written_by (Write again w) h (inr none) = absurd none
-written_by (Rewrite x) h i = absurd i
-written_by (Save old new) h i = absurd i
-written_by (Mend v) h i = absurd i
-written_by (Checkpoint cluster texts op old) h i = absurd i
-written_by (PutBlock name block) h i = absurd i
-written_by (Say o) h i = absurd i
-
-written_in : (es : List Effect) (h : Header) → In h (made_in es) → IsWritten es h
-unfolding made_in
-written_in [] h i = absurd i
-written_in (e ∷ es) h i =
-    elim (in_either (made_by_effect e) (made_in es) h i) [
-      | inl here ↦ let y = written_by e h here in record { again = y.again; entry = y.entry; among = elim y.among [ inl same ↦ inl same | inr none ↦ absurd none ]; is = y.is }
-      | inr later ↦ let y = written_in es h later in record { again = y.again; entry = y.entry; among = inr y.among; is = y.is }
-    ]
-
--- ---- what the machine has made
-
-module _ (u : Setup) (s : Group Header) (g : History Header) (y : Invariant u.quorums (entries_by u.hash u.cluster) g s) where
-  -- an entry of a log was made
-  log_made : (v k : ℕ) (h : Header) → g.finished v ≡ true → 0 < k → k ≤ g.length v → h ≡ g.log v k → WasMade s.made h
-  log_made v k h begun above within is =
-      let made = logged_made u.quorums (entries_by u.hash u.cluster) g s y (suc v) v k (omega arith) begun above within in
-      let number : (g.log v k).op ≡ k = y.history.number v k begun within in
-      let at : WasMade s.made (g.log v k) = subst (λ (j : ℕ). In (made_at (g.log v k).view j (g.log v k)) s.made) (sym number) made in
-      subst (WasMade s.made) (sym is) at
-
-  -- so was one of which a prepare was sent
-  prepare_made : (from v k : ℕ) (h : Header) (c : ℕ) → In (machine.Prepare from v k h c) s.sent → WasMade s.made h
-  prepare_made from v k h c i =
-      let f = (y.facts (machine.Prepare from v k h c) i).1 in
-      log_made v k h f.2 f.0.0 f.0.1 f.0.2
 
 abbrev AllAsked : Group Header → Type 0
 AllAsked s = (x : Made Header) → In x s.made → IsOfRequest x.entry
@@ -153,10 +100,7 @@ module _ (u : Setup) (g : group.Group) (s : Group Header) (b : Bridges u g s) (a
 
   -- an opening writes no entry
   opening_writes : (v : SuperValue) (d : Lying) (again : Bool) (w : Whole) → In (Write again w) (opening_script v d) → ⊥
-  opening_writes v d again w i =
-      let t : Traced (λ (w : Whole). ⊥) (λ (b : Asker). ⊥) (opening_script v d) =
-      subst (λ (x : Step). Traced (λ (w : Whole). ⊥) (λ (b : Asker). ⊥) x.script) (opening_in_two v d) ((tr_opening {W = λ (w : Whole). ⊥} {Q = λ (b : Asker). ⊥} v).every lying (blank v) d) in
-      t.writes again w i
+  opening_writes v d again w i = (opening_traced v d).writes again w i
 
   migration_writes : (v : SuperValue) (again : Bool) (w : Whole) → In (Write again w) (migration v) → ⊥
   migration_writes v again w i = elim i [ inl a ↦ cc | inr r ↦ elim r [ inl b ↦ cc | inr n ↦ n ] ]

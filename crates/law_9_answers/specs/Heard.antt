@@ -1,23 +1,20 @@
 -- What clients hear of members of a group, and when that is what the group's one log says.
-use Rattle.std.specs.Prelude.{ℕ, ◌-◌, ◌<◌, ◌≡◌, ⊤, List, ◌++◌, Contains, slice_get, take, Some}
+use Rattle.std.specs.Prelude.{ℕ, ◌≡◌, ⊤, List, ◌++◌, Contains, slice_get, take, Some}
 use Rattle.vr_ask.specs.Asking.{Answers, Client, Stand, request_of}
-use Rattle.vr_ckpt.specs.Folds.{check, outcome_of, state_after}
+use Rattle.vr_ckpt.specs.Folds.{state_after}
 use Rattle.vr_ckpt.specs.SessionAnswer.TheVariants as session
 use Rattle.vr_ckpt.specs.Sessions.{checked}
 use Rattle.vr_client.specs.declared.answer.Answer.{Answer}
 use Rattle.vr_client.specs.declared.answer.Answer.TheVariants as answer
 use Rattle.vr_edge.specs.Datagrams.{Arrival, Came}
 use Rattle.vr_header.specs.Made.{Whole}
-use Rattle.vr_header.specs.Names.{header_name, no_name, request_header}
+use Rattle.vr_header.specs.Names.{header_name}
 use Rattle.vr_header.specs.Spelling.{named_bytes}
-use Rattle.vr_header.specs.declared.command.Command.TheVariants as command
-use Rattle.vr_header.specs.declared.header.Header.{Header}
 use Rattle.vr_header.specs.declared.operation.Operation.{Operation}
 use Rattle.vr_mail.specs.Letters.{IsOfGroup}
 use Rattle.vr_msg.specs.declared.frame.Frame.TheVariants as frame
 use Rattle.vr_msg.specs.declared.output.Committed.{Committed}
 use Rattle.vr_msg.specs.declared.output.Output.TheVariants as output
-use Rattle.vr_msg.specs.declared.reply.Answered.{Answered}
 use Rattle.vr_msg.specs.declared.reply.ReplyFields.{ReplyFields}
 use Rattle.vr_msg.specs.declared.reply.ReplyKind.{ReplyKind}
 use Rattle.vr_msg.specs.declared.reply.ReplyKind.TheVariants as reply
@@ -28,15 +25,9 @@ use Rattle.vr_world.specs.Group.{Asked, Played}
 use Rattle.law_6_one_log.specs.Outputs.{IsTrueAnswer}
 use Rattle.law_7_members.specs.Files.{ActBy, Handles, act_by}
 use Rattle.law_7_members.specs.Whole.{all_said}
+use Rattle.law_9_asked.specs.Asked.{IsExecuted, asked_by, header_of}
 
--- ---- requests and the names of their headers
-
-abbrev pub header_of : RequestFields → Header
-header_of q = request_header q.version q.cluster q.client q.request q.operation
-
--- the header of the request of which an entry was made
-abbrev pub asked_by : Header → Header
-asked_by h = record h { parent = no_name; request_name = no_name; view = 0; op = 0; command = command.Request }
+-- ---- the names of requests
 
 -- The texts whose names tell requests from one another: of those that reached members, of those of whose entries members put out a commit
 -- line, and of these requests of clients.
@@ -64,17 +55,6 @@ IsPutOut xs version cluster (Came d) = (a : ReplyFields) → IsOfGroup version c
 IsPutOut xs version cluster _ = ⊤
 
 -- ---- when it is the log's
-
--- A request was executed in a log, with this outcome: the entry of its op is of the request's client and number, the sessions find it fresh
--- after the entries before it, and the outcome is what the machine makes of its operation after these.
-pub record IsExecuted (log : List Whole) (q : RequestFields) (a : Answered) : Type 0 where
-  pub entry : Whole
-  pub number : 0 < a.op
-  pub at : slice_get log (a.op - 1) ≡ Some entry
-  pub client : entry.header.client ≡ q.client
-  pub request : entry.header.request ≡ q.request
-  pub fresh : check (state_after (take (a.op - 1) log)) entry ≡ session.Fresh
-  pub outcome : a.outcome ≡ outcome_of (state_after (take (a.op - 1) log)) entry
 
 -- What the plain sessions and machine say to a request over a log: it was executed; or what the sessions say of its client and number after some of
 -- the log's first entries.

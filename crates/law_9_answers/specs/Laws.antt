@@ -31,7 +31,8 @@ use Rattle.law_6_one_log.specs.Schedules.{IsHashedOf}
 use Rattle.law_7_members.specs.Files.{ActBy, Handles, act_by, all_lines}
 use Rattle.law_7_members.specs.Whole.{AreRuns, KeepOneLog, world_of}
 use Rattle.law_9_answers.specs.Clients.{lines_of, heard_client}
-use Rattle.law_9_answers.specs.Heard.{Heard, IsNamed, IsOfLog, IsPutOut, asked_by, header_of}
+use Rattle.law_9_answers.specs.Heard.{Heard, IsNamed, IsOfLog, IsPutOut}
+use Rattle.law_9_asked.specs.Asked.{asked_by, header_of}
 use Rattle.law_9_answers.specs.Trials.{heard_trial, lines_trial}
 
 -- What a client writes is the lines of what it heard, in order, but perhaps for an end of the last one.
@@ -67,16 +68,20 @@ SomeAnswerMay =
 abbrev pub AreOfLog : (kinds : ℕ → Kind) (cluster n : ℕ) (first : ℕ → Host Lying) (xs : List ActBy) → KeepOneLog kinds cluster n first xs → List Heard → Type 0
 AreOfLog kinds cluster n first xs k ts = AllByRecursion (IsOfLog cluster n xs k.log.safe.log k.log.matched.run) ts
 
--- Members keep one log, and whatever answers clients heard are of it: those of runs of `client`, and those of trials.
-pub record AnswerByOneLog (kinds : ℕ → Kind) (cluster n : ℕ) (first : ℕ → Host Lying) (xs : List ActBy) : Type 0 where
-  pub one : KeepOneLog kinds cluster n first xs
+-- Of members that keep this one log, whatever answers clients heard are of it: those of runs of `client`, and those of trials.
+pub record AnswerByOneLog (kinds : ℕ → Kind) (cluster n : ℕ) (first : ℕ → Host Lying) (xs : List ActBy) (one : KeepOneLog kinds cluster n first xs) : Type 0 where
   pub clients : (c : Client) (peers : List (List ℕ)) (o o' : client.Outside) (before now : ask.Faults) (status : Status) (h : ClientEnds c peers o o' before now status)
       → IsNumbered c → MayBeHeard c xs (heard_client c peers o o' before now status h) → AreOfLog kinds cluster n first xs one (heard_client c peers o o' before now status h)
   pub trials : (t : Trial) (o o' : trial.Outside) (before now : trial.Faults) (status : Status) (h : TrialEnds t o o' before now status)
       → IsNumbered t.client → MayBeHeard t.client xs (heard_trial t o o' before now status h) → AreOfLog kinds cluster n first xs one (heard_trial t o o' before now status h)
 
+-- whichever log members keep
+abbrev pub OneLogAnswers : Type 0
+OneLogAnswers =
+    (kinds : ℕ → Kind) (cluster n : ℕ) (first : ℕ → Host Lying) (xs : List ActBy) → AreKinds kinds n → cluster < 2 ^ 64 → 1 ≤ n → n ≤ 6 → (one : KeepOneLog kinds cluster n first xs) → AnswerByOneLog kinds cluster n first xs one
+
 -- so do whole runs of the members' programs, interleaved, as they keep one log
 abbrev pub RunsAnswerByOneLog : Type 0
 RunsAnswerByOneLog =
     (kinds : ℕ → Kind) (cluster n : ℕ) (first : ℕ → Host Lying) (xs : List ActBy) → AreKinds kinds n → cluster < 2 ^ 64 → 1 ≤ n → n ≤ 6 → length xs < 2 ^ 46 → AreRuns kinds cluster n first xs → NoCollision (IsHashedOf cluster (world_of first n) (all_lines xs))
-    → AnswerByOneLog kinds cluster n first xs
+    → (one : KeepOneLog kinds cluster n first xs) × AnswerByOneLog kinds cluster n first xs one

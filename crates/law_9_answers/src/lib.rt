@@ -2,7 +2,7 @@
 //! nothing.
 #![tactic(auto)]
 
-ghost use Rattle.law_9_answers.specs.Laws.{ClientsWriteWhatTheyHear, RunsAnswerByOneLog, SomeAnswerMay, TrialsWriteWhatTheyHear};
+ghost use Rattle.law_9_answers.specs.Laws.{ClientsWriteWhatTheyHear, OneLogAnswers, RunsAnswerByOneLog, SomeAnswerMay, TrialsWriteWhatTheyHear};
 
 /// What a run of `client` writes is the lines of what it heard, ask by ask, but perhaps for an end of the last one.
 pub fn clients_write_what_they_hear()
@@ -15,8 +15,13 @@ pub fn trials_write_what_they_hear()
     ensures { TrialsWriteWhatTheyHear }
 {}
 
-/// Whole runs of the programs of a group's members, interleaved anyhow, keep one log; and each answer that a run of `client`, or of `trial`, heard
-/// over a network which forges no reply is what the plain sessions and machine say over that log.
+/// Of whichever log members of a group keep is each answer that a run of `client`, or of `trial`, heard over a network which forges no reply: it
+/// is what the plain sessions and machine say over that log.
+pub fn one_log_answers()
+    ensures { OneLogAnswers }
+{}
+
+/// Whole runs of the programs of a group's members, interleaved anyhow, keep one log, and so what clients hear of them is that log's.
 pub fn runs_answer_by_one_log()
     ensures { RunsAnswerByOneLog }
 {}
