@@ -4,6 +4,7 @@ use Rattle.std.specs.List.{AllByRecursion}
 use Rattle.std.proofs.lemmas.List.{length-map, take_more}
 use Rattle.vr_base.specs.Groups.{least_members}
 use Rattle.vr_base.specs.declared.kind.Kind.{Kind}
+use Rattle.vr_header.specs.NoCollision.{NoCollision}
 use Rattle.vr_base.proofs.Members.{least_of}
 use Rattle.vr_lines.specs.Fits.{IsLineOf}
 use Rattle.vr_lines.specs.declared.line.Line.{Line}
@@ -12,6 +13,7 @@ use Rattle.vr_lying.specs.Lying.{Lying, hazards}
 use Rattle.vr_lying.specs.World.{World, fresh_world, happen}
 use Rattle.vr_replica.specs.Opening.{IsKind}
 use Rattle.law_4_disks.specs.Worlds.{IsLine}
+use Rattle.law_6_one_log.specs.Schedules.{IsHashed, MayAll}
 use Rattle.law_6_one_log.proofs.Fresh.{schedules_are_runs}
 use Rattle.law_6_one_log.proofs.Known.{one_log}
 use Rattle.law_6_one_log.proofs.Traces.{keeps}
@@ -38,12 +40,20 @@ unfolding AreLinesOf happenings
 lines_of version n [] some of asked = tt
 lines_of version n (l ∷ ls) some of asked = (line_of version n l some of.0 asked.0, lines_of version n ls some of.1 asked.1)
 
-pub lines_keep : (kind : Kind) (version n : ℕ) (ls : List Line) → IsKind kind → least_members kind.version ≤ n → n ≤ 6 → length ls < 2 ^ 60 → AreLinesOf version n ls → HaveAsked ls → LinesKeepOneLog kind n ls
-unfolding happen happenings
-lines_keep kind version n ls is few many short of asked names =
+-- so all is so of them that is asked of a schedule, where names don't collide
+pub lines_may : (kind : Kind) (version n : ℕ) (ls : List Line) → least_members kind.version ≤ n → length ls < 2 ^ 60 → AreLinesOf version n ls → HaveAsked ls → NoCollision (IsHashed (fresh_world hazards kind n) (happenings ls))
+    → (length (happenings ls) < 2 ^ 60) × MayAll (fresh_world hazards kind n) (happenings ls)
+unfolding happenings
+lines_may kind version n ls few short of asked names =
     let size : length (happenings ls) ≡ length ls = length-map ls happening in
     let least = (least_of kind.version).0 in
-    let m = schedules_are_runs kind n (happenings ls) is few many (rw size short) (record { lines = lines_of version n ls (omega (arith, few, least)) of asked; names = names }) in
+    (rw size short, record { lines = lines_of version n ls (omega (arith, few, least)) of asked; names = names })
+
+pub lines_keep : (kind : Kind) (version n : ℕ) (ls : List Line) → IsKind kind → least_members kind.version ≤ n → n ≤ 6 → length ls < 2 ^ 60 → AreLinesOf version n ls → HaveAsked ls → LinesKeepOneLog kind n ls
+unfolding happen
+lines_keep kind version n ls is few many short of asked names =
+    let may = lines_may kind version n ls few short of asked names in
+    let m = schedules_are_runs kind n (happenings ls) is few many may.0 may.1 in
     keeps kind n is few many (one_log 0 n) (happen hazards (fresh_world hazards kind n) (happenings ls)) m.0 m.1
 
 -- ---- in the midst of lines, each of the first of which has asked

@@ -18,12 +18,12 @@ use Rattle.vr_replay.proofs.Few.{few_lines}
 use Rattle.vr_replay.proofs.Plays.{line_at_fits}
 
 -- what the grammar gives of the lines of a schedule, where a group is made
-record IsRead (s : Schedule) : Type 0 where
-  few : 0 < s.n → least_members s.kind.version ≤ s.n
-  many : s.n ≤ 6
-  version : (1 ≤ s.kind.version) × (s.kind.version ≤ 2)
-  of : AreLinesOf s.kind.version s.n s.lines
-  asked : HaveAsked s.lines
+pub record IsRead (s : Schedule) : Type 0 where
+  pub few : 0 < s.n → least_members s.kind.version ≤ s.n
+  pub many : s.n ≤ 6
+  pub version : (1 ≤ s.kind.version) × (s.kind.version ≤ 2)
+  pub of : AreLinesOf s.kind.version s.n s.lines
+  pub asked : HaveAsked s.lines
 
 asks_at : (version n number : ℕ) (text : List ℕ) (l : Line) → (1 ≤ version) × (version ≤ 2) → line_at version n number text ≡ Some l → HasAsked l
 asks_at version n number text l files e =
@@ -71,7 +71,7 @@ first_read texts (line.Stale replica sector) of = none_made
 first_read texts (line.Unread replica sector) of = none_made
 first_read texts (line.Misdirect replica sector other) of = none_made
 
-schedule_read : (texts : List (List ℕ)) → IsRead (schedule texts)
+pub schedule_read : (texts : List (List ℕ)) → IsRead (schedule texts)
 schedule_read [] = none_made
 schedule_read (text ∷ texts) =
     let cases : (o : Option Line) → line_at 1 0 0 text ≡ o → IsRead (option_map_or (begun texts) o (no_group (Some 1))) = elim [ None ↦ λ e. none_made | Some l ↦ λ e. first_read texts l (line_at_fits 1 0 0 text l e) ] in
