@@ -13,7 +13,7 @@ from typing import Callable, Optional, Tuple
 from parts import asking, program
 from parts.judging import AILS, SILENT, UNKNOWN, WELL, Known, as_json, judge
 from parts.probing import Reply
-from parts.telling import table
+from parts.telling import stop_lines, table
 
 HERE = os.path.dirname(os.path.dirname(os.path.realpath(__file__)))
 sys.path.insert(0, os.path.join(HERE, "trials"))
@@ -85,8 +85,8 @@ class Judging(unittest.TestCase):
                     verdict = judge(members, has_keepers)
                     self.assertEqual((verdict.code, verdict.leader), (code, leader), verdict.why)
                     self.assertEqual(verdict.why == [], code == WELL)
-                    told = as_json(5, members, verdict)
-                    self.assertEqual(len(table(told).splitlines()), 2 + len(verdict.why) + len(members))
+                    told = as_json(5, members, verdict, has_keepers)
+                    self.assertEqual(len(table(told).splitlines()), 2 + len(verdict.why) + len(members) + len(stop_lines(told)))
                     json.dumps(told)
 
     def test_how_far_one_is_behind(self):
