@@ -2,7 +2,7 @@
 
 Nothing here reads a clock or a socket, so that it is a function of what was told."""
 
-from typing import Dict, List, NamedTuple, Optional, Tuple
+from typing import Dict, Iterable, List, NamedTuple, Optional, Tuple
 
 from . import whole
 from .probing import Reply
@@ -138,16 +138,16 @@ class Settling:
 
 def unbegun(members: List[Known]) -> Optional[str]:
     """Why no view begins although enough members run to have one; None where that isn't seen."""
-    undecided = {member: known.line["undecided"] for member, known in enumerate(members) if known.line is not None and known.line.get("undecided", "-") != "-"}
-    if undecided:
-        which = ", ".join(sorted(set(undecided.values())))
+    told = [known.line.get("undecided", "-") for known in members if known.line is not None and known.state() != "down" and known.goes_on()]
+    if told and "-" not in told:
+        which = ", ".join(sorted(set(told)))
         return f"a choice waits: operation {which} may have been acknowledged, and too few of those that run can deny it; a member that is missing has to come back"
     chasing = [member for member, known in enumerate(members) if known.line is not None and known.goes_on() and number(known.line, "views") >= CHASES]
     if len(chasing) < whole.VIEW_CHANGE[len(members)]:
         return None
     most = max(number(members[member].line, "views") for member in chasing)
     return (f"views chase each other: {whole.members_of(chasing)} entered up to {most} views in 30 s, and none lasts: what they send each other takes too long "
-            "(a slow network, slow disks, too little processor time), or doesn't arrive")
+            "(a slow network, slow disks, too little processor time), or doesn't arrive, or one can take no log of another one")
 
 
 def present(members: List[Known], leader: Optional[int]) -> Dict[int, Optional[whole.Facts]]:
@@ -192,9 +192,9 @@ def quorums(members: List[Known], leader: Optional[int]) -> List[Tuple[int, ...]
     return whole.whole_quorums({member: facts for member, facts in present(members, leader).items() if facts is not None}, len(members))
 
 
-def unwhole(members: List[Known], leader: Optional[int]) -> Optional[str]:
+def unwhole(members: List[Known], taking_part: Iterable[int]) -> Optional[str]:
     """Why no quorum is whole although enough members take part and are known; None where one is."""
-    known = {member: facts for member, facts in present(members, leader).items() if facts is not None}
+    known = {member: members[member].facts() for member in taking_part if members[member].facts() is not None}
     if len(known) < whole.VIEW_CHANGE[len(members)] or whole.whole_quorums(known, len(members)):
         return None
     return f"no quorum is whole: {'; '.join(reason.text for reason in whole.lacks(known))}"
@@ -238,12 +238,13 @@ def judge(members: List[Known], has_keepers: bool) -> Verdict:
     silent = absent or standstill(members, leader)
     view = members[leader].view() if leader is not None else max((known.view() for known in members if known.view() is not None), default=None)
     if silent is not None:
-        begins = unbegun(members)
-        told = [f"the group doesn't answer: {silent}"] + ([begins] if begins else [])
+        begins = unbegun(members) if absent is not None else None
+        running = [member for member, known in enumerate(members) if known.state() not in ("down", "hangs")]
+        told = [why for why in (f"the group doesn't answer: {silent}", begins, unwhole(members, running)) if why is not None]
         return Verdict(SILENT, leader, view, commit_of(members), told + why, may_change=absent is not None)
     if not is_known(members, leader):
         return Verdict(UNKNOWN, leader, view, commit_of(members), ["too little is known to tell whether the group answers"] + why)
-    lacking = unwhole(members, leader)
+    lacking = unwhole(members, present(members, leader))
     why = ([lacking] if lacking else []) + why
     return Verdict(AILS if why else WELL, leader, view, commit_of(members), why)
 

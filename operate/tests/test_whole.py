@@ -146,6 +146,10 @@ class Told(unittest.TestCase):
             verdict = judge([changing(member, **more) for member in range(3)], True)
             self.assertEqual(verdict.code, SILENT)
             self.assertTrue(verdict.why[1].startswith(text), verdict.why)
+        one_waits = [changing(0, views="21", undecided="71"), changing(1, views="21", undecided="-"), Known(None, "no keeper answers", None, True)]
+        self.assertTrue(judge(one_waits, True).why[1].startswith("views chase each other: members 0, 1 "))
+        full = [self.known(0, "changes", FULL, well="changes", views="21"), self.known(1, "changes", FINE, well="changes", views="21")]
+        self.assertEqual(judge(full + one_waits[2:], True).why[2][:23], "no quorum is whole: mem")
         self.assertEqual(len([why for why in judge([changing(member, views="2") for member in range(3)], True).why if "chase" in why]), 0)
 
 
