@@ -136,10 +136,10 @@ class Settling:
         return verdict if now - self.since >= SETTLED else verdict._replace(code=AILS)
 
 
-def unbegun(members: List[Known]) -> Optional[str]:
-    """Why no view begins although enough members run to have one; None where that isn't seen."""
+def unbegun(members: List[Known], is_led: bool) -> Optional[str]:
+    """Why no view begins, or none lasts, although enough members run to have one; None where that isn't seen."""
     told = [known.line.get("undecided", "-") for known in members if known.line is not None and known.state() != "down" and known.goes_on()]
-    if told and "-" not in told:
+    if told and "-" not in told and not is_led:
         which = ", ".join(sorted(set(told)))
         return f"a choice waits: operation {which} may have been acknowledged, and too few of those that run can deny it; a member that is missing has to come back"
     chasing = [member for member, known in enumerate(members) if known.line is not None and known.goes_on() and number(known.line, "views") >= CHASES]
@@ -238,7 +238,7 @@ def judge(members: List[Known], has_keepers: bool) -> Verdict:
     silent = absent or standstill(members, leader)
     view = members[leader].view() if leader is not None else max((known.view() for known in members if known.view() is not None), default=None)
     if silent is not None:
-        begins = unbegun(members) if absent is not None else None
+        begins = unbegun(members, is_led=absent is None)
         running = [member for member, known in enumerate(members) if known.state() not in ("down", "hangs")]
         told = [why for why in (f"the group doesn't answer: {silent}", begins, unwhole(members, running)) if why is not None]
         return Verdict(SILENT, leader, view, commit_of(members), told + why, may_change=absent is not None)
