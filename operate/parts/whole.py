@@ -81,7 +81,7 @@ def lacks(quorum: Dict[int, Facts], top: Optional[int] = None) -> List[Reason]:
     found = list(of_entries(quorum, greatest))
     loaded = [member for member, facts in quorum.items() if facts.checkpoint == greatest and facts.missing == 0]
     if not loaded or (top is not None and top > greatest):
-        found.append(Reason("blocks", f"no member that would be left has all blocks of the greatest checkpoint, {max(greatest, top or 0)}"))
+        found.append(Reason("blocks", f"none of {members_of(sorted(quorum))} has all blocks of checkpoint {max(greatest, top or 0)}, the greatest"))
         return found
     behind = [member for member, facts in quorum.items() if facts.checkpoint < greatest]
     full = [member for member, facts in quorum.items() if facts.last >= greatest + WINDOW]

@@ -158,7 +158,7 @@ class Rolls(unittest.TestCase):
         for facts, chosen, wanted in [
             ([FINE, FINE, FINE], [0, 1, 2], None),
             ([LATER, FINE, BLOCKS], [1, 2], None),
-            ([LATER, FINE, BLOCKS], [0], r"member 0 may not be stopped \(blocks: no member"),
+            ([LATER, FINE, BLOCKS], [0], r"member 0 may not be stopped \(blocks: none of members 1, 2 has all blocks of checkpoint 96"),
             ([FINE, FINE, FINE._replace(lost=(69,))], [1], r"member 1 may not be stopped \(lost: the file of member 2 has lost 1 entries"),
             ([FULL, FINE, FINE], [2], r"member 2 may not be stopped \(window: member 0 can't give checkpoint 96"),
             ([FINE, FINE, None], [0], r"member 0 may not be stopped \(unseen: what the file of member 2"),
