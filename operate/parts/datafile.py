@@ -5,6 +5,8 @@ import os
 import time
 from typing import Dict, Iterator, List, NamedTuple, Optional, Sequence, Set, Tuple
 
+from . import whole
+
 SECTOR, COPY, BLOCK = 512, 10240, 4096
 HEADERS, SECTORS = 80, 3984
 # The first sector of the grid's first addresses, how many these are, and the first sector of the others; how many addresses there are.
@@ -331,6 +333,16 @@ class Report:
         entries = {("operation", op) for op in found["lost"] + found["headless"]}
         return Places(copies | blocks | entries, {("operation", op) for op in found["unknown"]}, {("operation", op) for op in self.slots.old_lost})
 
+    def facts(self) -> Optional[whole.Facts]:
+        """What a whole quorum needs of it; None where it is no member's. What is damaged is what was found so at each look."""
+        if self.value is None:
+            return None
+        found, value, damaged = self.slots.found, self.value, self.places.mended | self.places.unsure
+        lost, unknown = (tuple(op for op in sorted(found[kind]) if ("operation", op) in damaged) for kind in ("lost", "unknown"))
+        missing = sum(kind == "block" for kind, _ in damaged)
+        last = max(found["here"] + found["lost"] + found["wanted"], default=value.checkpoint)
+        return whole.Facts(value.checkpoint, value.checkpoint == 0 or value.checkpoint in value.headers, missing, lost, unknown, last)
+
     def damaged(self) -> int:
         """How many places are damaged; of a file that is no member's, more than there are."""
         return SECTORS if self.value is None else self.places.count()
@@ -347,7 +359,7 @@ class Report:
             "file": self.path, "group": value.cluster, "member": value.replica, "members": value.members, "version": value.version, "mode": value.mode,
             "view": value.view, "commit": value.commit, "head": self.slots.head(), "checkpoint": value.checkpoint,
             "keys": None if checkpoint.keys is None else number(checkpoint.keys, 0, 2), "sessions": None if checkpoint.sessions is None else number(checkpoint.sessions, 0, 2),
-            "places": {kind: sorted(found) for kind, found in self.places._asdict().items()},
+            "places": {kind: sorted(found) for kind, found in self.places._asdict().items()}, "whole": self.facts()._asdict(),
         }
 
     def health(self) -> str:
@@ -368,6 +380,13 @@ class Report:
             if places:
                 yield f"  {len(places)} {text}: {', '.join(' '.join(map(str, place)) for place in sorted(places))}"
 
+    def whole_line(self) -> str:
+        """What a whole quorum needs of it."""
+        facts = self.facts()
+        header = "" if facts.checkpoint == 0 else ", whose header is known" if facts.anchored else ", whose header isn't known"
+        return (f"for a whole quorum: checkpoint {facts.checkpoint}{header}; blocks that can't be read: {facts.missing}; above it lost {ranges(facts.lost)}, unknown {ranges(facts.unknown)}; "
+                f"the last operation whose header is known is {facts.last} of at most {facts.checkpoint + SLOTS}")
+
     def lines(self) -> List[str]:
         holes = "" if self.blocks >= SECTORS else f", of which {self.blocks} of {SECTORS} sectors have room on the disk"
         unread = f", {self.unread} sectors can't be read" if self.unread else ""
@@ -375,7 +394,7 @@ class Report:
         if self.value is None:
             return [f"{self.path}: no member: no two good copies of the superblock agree; {size}", *self.superblock.lines()]
         return [f"{self.whose()}, a {self.value.mode} file of version {self.value.version}; {size}", *self.superblock.lines(), self.slots.line(), self.checkpoint.line(),
-                *self.damage_lines(), "These are the numbers that were saved last; the member may know more."]
+                self.whole_line(), *self.damage_lines(), "These are the numbers that were saved last; the member may know more."]
 
 
 def look(path: str) -> Report:

@@ -2,6 +2,7 @@
 
 from typing import Dict, List, NamedTuple, Optional
 
+from . import whole
 from .datafile import Report
 from .demand import Demand
 from .policy import PATIENCE, Policy
@@ -24,6 +25,7 @@ class Life(NamedTuple):
     report: Optional[Report] = None  # of the last look at its file
     tally: Optional[Tally] = None  # of its keys and sessions
     demand: Optional[Demand] = None  # of its clients
+    looked: Optional[float] = None  # when the last look at its file began
 
 
 def unsure(report: Optional[Report]) -> int:
@@ -80,6 +82,12 @@ def of_file(life: Life) -> Dict[str, object]:
     }
 
 
+def of_quorum(life: Life, now: float) -> Dict[str, object]:
+    """What its file holds of what a whole quorum needs, and how many seconds ago that was looked at."""
+    facts = life.report.facts() if life.report is not None else None
+    return {**whole.words(facts), "looked": f"{now - life.looked:.1f}" if facts is not None and life.looked is not None else "-"}
+
+
 def line(policy: Policy, now: float, life: Life) -> str:
     """One line, without its end."""
     seen, runs = policy.seen, life.since is not None
@@ -102,6 +110,9 @@ def line(policy: Policy, now: float, life: Life) -> str:
         "dropped": life.dropped,
         **of_clients(life, now),
         **of_file(life),
+        **of_quorum(life, now),
+        "views": seen.views_lately(now),
+        "undecided": told(seen.waits_to_choose(now) if runs else None),
     }
     return " ".join(f"{name}={value}" for name, value in words.items())
 

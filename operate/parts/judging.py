@@ -2,8 +2,9 @@
 
 Nothing here reads a clock or a socket, so that it is a function of what was told."""
 
-from typing import Dict, List, NamedTuple, Optional
+from typing import Dict, Iterable, List, NamedTuple, Optional, Tuple
 
+from . import whole
 from .probing import Reply
 from .rolling import Health, number, seconds
 
@@ -11,6 +12,7 @@ WELL, AILS, UNKNOWN, SILENT = 0, 1, 3, 4  # exit codes; 2 is wrong words
 SETTLED = 1.0  # second
 LEADS = ("evicted", "busy")  # what a member that leads answers the probe
 NAMES = {WELL: "well", AILS: "ails", UNKNOWN: "unknown", SILENT: "silent"}
+CHASES = 8  # views in LATELY seconds (policy); an outage of one member takes one or two
 STANDS = 1.5  # seconds; a group whose leader stands still for longer with something open doesn't answer
 REPLICATION = {1: 1, 2: 2, 3: 2, 4: 2, 5: 3, 6: 3}  # so many members, the one that leads among them, have to hold an operation
 
@@ -49,6 +51,10 @@ class Known(NamedTuple):
         if self.line is None:
             return False
         return self.goes_on() and self.line["state"] in ("leads", "follows") and self.view() == view
+
+    def facts(self) -> Optional[whole.Facts]:
+        """What its file holds of what a whole quorum needs, as far as its keeper knows it now."""
+        return whole.of_line(self.line) if self.line is not None else None
 
     def is_dark(self) -> bool:
         """Whether nothing at all is known of it."""
@@ -130,6 +136,70 @@ class Settling:
         return verdict if now - self.since >= SETTLED else verdict._replace(code=AILS)
 
 
+def unbegun(members: List[Known], is_led: bool) -> Optional[str]:
+    """Why no view begins, or none lasts, although enough members run to have one; None where that isn't seen."""
+    told = [known.line.get("undecided", "-") for known in members if known.line is not None and known.state() != "down" and known.goes_on()]
+    if told and "-" not in told and not is_led:
+        which = ", ".join(sorted(set(told)))
+        return f"a choice waits: operation {which} may have been acknowledged, and too few of those that run can deny it; a member that is missing has to come back"
+    chasing = [member for member, known in enumerate(members) if known.line is not None and known.goes_on() and number(known.line, "views") >= CHASES]
+    if len(chasing) < whole.VIEW_CHANGE[len(members)]:
+        return None
+    most = max(number(members[member].line, "views") for member in chasing)
+    return (f"views chase each other: {whole.members_of(chasing)} entered up to {most} views in 30 s, and none lasts: what they send each other takes too long "
+            "(a slow network, slow disks, too little processor time), or doesn't arrive, or one can take no log of another one")
+
+
+def present(members: List[Known], leader: Optional[int]) -> Dict[int, Optional[whole.Facts]]:
+    """The members that run and take part in the newest view, with what is known of their files."""
+    if leader is None:
+        return {}
+    view = members[leader].view()
+    return {member: known.facts() for member, known in enumerate(members) if known.is_in(view) and known.goes_on()}
+
+
+def is_late(members: List[Known]) -> bool:
+    """Whether a keeper that looks at its member's file tells of an old look: asked once, it looks again."""
+    return any(known.line is not None and known.goes_on() and whole.is_told(known.line) and known.line.get("looked", "-") != "-" and known.facts() is None for known in members)
+
+
+class Stop(NamedTuple):
+    """Whether a member may be stopped: nobody can tell where `may` is None, as of one that doesn't run."""
+
+    may: Optional[bool]
+    why: List[whole.Reason]
+
+
+def stops(members: List[Known], verdict: "Verdict", has_keepers: bool) -> List[Stop]:
+    """Of each member whether it may be stopped: whether what is left goes on."""
+    if not has_keepers:
+        return [Stop(None, [whole.Reason("unasked", "that is known by the members' keepers alone")])] * len(members)
+    if verdict.code in (SILENT, UNKNOWN):
+        answer = Stop(False, [whole.Reason("silent" if verdict.code == SILENT else "too_little", "the group doesn't answer now" if verdict.code == SILENT else "it isn't known whether the group answers")])
+        return [answer if known.state() != "down" else Stop(None, [whole.Reason("down", "it doesn't run")]) for known in members]
+    taking_part, found = present(members, verdict.leader), []
+    for member, known in enumerate(members):
+        if known.state() == "down":
+            found.append(Stop(None, [whole.Reason("down", "it doesn't run")]))
+            continue
+        why = whole.reasons(member, len(members), taking_part)
+        found.append(Stop(not why, why))
+    return found
+
+
+def quorums(members: List[Known], leader: Optional[int]) -> List[Tuple[int, ...]]:
+    """The smallest quorums that are known to be whole, of the members that take part."""
+    return whole.whole_quorums({member: facts for member, facts in present(members, leader).items() if facts is not None}, len(members))
+
+
+def unwhole(members: List[Known], taking_part: Iterable[int]) -> Optional[str]:
+    """Why no quorum is whole although enough members take part and are known; None where one is."""
+    known = {member: members[member].facts() for member in taking_part if members[member].facts() is not None}
+    if len(known) < whole.VIEW_CHANGE[len(members)] or whole.whole_quorums(known, len(members)):
+        return None
+    return f"no quorum is whole: {'; '.join(reason.text for reason in whole.lacks(known))}"
+
+
 def is_known(members: List[Known], leader: Optional[int]) -> bool:
     """Whether enough is known to say that the group answers."""
     if leader is None:
@@ -168,9 +238,14 @@ def judge(members: List[Known], has_keepers: bool) -> Verdict:
     silent = absent or standstill(members, leader)
     view = members[leader].view() if leader is not None else max((known.view() for known in members if known.view() is not None), default=None)
     if silent is not None:
-        return Verdict(SILENT, leader, view, commit_of(members), [f"the group doesn't answer: {silent}"] + why, may_change=absent is not None)
+        begins = unbegun(members, is_led=absent is None)
+        running = [member for member, known in enumerate(members) if known.state() not in ("down", "hangs")]
+        told = [why for why in (f"the group doesn't answer: {silent}", begins, unwhole(members, running)) if why is not None]
+        return Verdict(SILENT, leader, view, commit_of(members), told + why, may_change=absent is not None)
     if not is_known(members, leader):
         return Verdict(UNKNOWN, leader, view, commit_of(members), ["too little is known to tell whether the group answers"] + why)
+    lacking = unwhole(members, present(members, leader))
+    why = ([lacking] if lacking else []) + why
     return Verdict(AILS if why else WELL, leader, view, commit_of(members), why)
 
 
@@ -184,12 +259,19 @@ def behind(known: Known, commit: int) -> Optional[int]:
 LIMITS: Dict[str, Dict[str, int]] = {"1": {"sessions": 32, "keys": 128}, "2": {"sessions": 64, "keys": 128}}
 
 
-def as_json(cluster: int, members: List[Known], verdict: Verdict) -> Dict[str, object]:
+def as_json(cluster: int, members: List[Known], verdict: Verdict, has_keepers: bool = True) -> Dict[str, object]:
     """All of it, for a script or a page."""
+    found = stops(members, verdict, has_keepers)
     return {
         "group": cluster, "code": verdict.code, "verdict": NAMES[verdict.code], "leader": verdict.leader, "view": verdict.view, "commit": verdict.commit, "why": verdict.why,
-        "members": [member_json(member, known, verdict) for member, known in enumerate(members)],
+        "whole_quorums": [list(quorum) for quorum in quorums(members, verdict.leader)] if has_keepers else None, "view_change_quorum": whole.VIEW_CHANGE[len(members)],
+        "members": [dict(member_json(member, known, verdict), **stop_json(known, found[member])) for member, known in enumerate(members)],
     }
+
+
+def stop_json(known: Known, stop: Stop) -> Dict[str, object]:
+    facts = known.facts()
+    return {"may_be_stopped": stop.may, "why_not": [reason._asdict() for reason in stop.why], "whole": facts._asdict() if facts is not None else None}
 
 
 def member_json(member: int, known: Known, verdict: Verdict) -> Dict[str, object]:

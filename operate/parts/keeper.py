@@ -33,6 +33,7 @@ MINUTE = 60.0
 BEAT = 0.25  # seconds from one look at whether the member goes on to the next
 FIRST_LOOK = 1.0  # seconds from a start to the first look at the data file
 POST = 10.0  # seconds from one writing of the metrics' file to the next
+FRESH = 2.0  # seconds; where its health is asked, and the last look at the file is older, it is looked at again
 UNSURE_LOOK = 5.0  # seconds from look to look while the file can't tell of some slots; else a minute
 KILLED = 5.0  # seconds after which a member that doesn't end is killed
 HELD = 20  # exit code: another keeper, or a member that it left, has the file
@@ -154,6 +155,8 @@ class Keeper:
         self.looker = Looker(words.file)
         self.look_at: Optional[float] = None
         self.report: Optional[datafile.Report] = None
+        self.look_began: Optional[float] = None  # of the look under way, or the last one
+        self.looked: Optional[float] = None  # when the look began that `report` is of
         self.tally = Tally()
         self.pulse: Optional[Pulse] = None
         self.beat_at = self.clock()
@@ -175,7 +178,7 @@ class Keeper:
 
     def life(self) -> Life:
         silent = self.pulse.silent(self.clock()) if self.pulse is not None else 0.0
-        return Life(self.words.replica, self.since, self.restarts, self.ends, self.lines, self.writer.dropped, silent, self.report, self.tally, self.demand)
+        return Life(self.words.replica, self.since, self.restarts, self.ends, self.lines, self.writer.dropped, silent, self.report, self.tally, self.demand, self.looked)
 
     def say_health(self) -> None:
         self.say(f"{self.health()} left_out={self.thinner.left_out}")
@@ -253,7 +256,7 @@ class Keeper:
         """What is due now and then: looks at the file and at the process, and what is told."""
         if self.look_at is not None and now >= self.look_at:
             self.look_at = None
-            self.looker.ask()
+            self.look()
         if now >= self.beat_at:
             self.beat_at = now + BEAT
             if self.pulse is not None:
@@ -436,9 +439,20 @@ class Keeper:
 
     # The data file.
 
+    def look(self) -> None:
+        """Has the file looked at, unless that is under way: what it finds then is taken for as old as its beginning."""
+        if self.look_began == self.looked:
+            self.look_began = self.clock()
+            self.looker.ask()
+
+    def look_again(self) -> None:
+        """Somebody asks what the file holds: it is looked at again where the last look is old."""
+        if self.looked is not None and self.clock() - self.looked > FRESH:
+            self.look()
+
     def hear_look(self) -> None:
         """The data file was looked at: what of it is damaged, and what of it a further start couldn't tell of."""
-        self.report = self.looker.take()
+        self.report, self.looked = self.looker.take(), self.look_began
         self.tally.begin(self.report)
         if self.child is None or self.look_at is not None:
             return
@@ -485,11 +499,17 @@ class Keeper:
     def reply(self, asked: bytes) -> Optional[bytes]:
         """The answer to a question on its socket: to `health` the line of health, to `restart` `restarting` or `down`."""
         question = doors.line_asked(asked)
-        return None if question is None else (self.answer(question) + "\n").encode()
+        if question is None:
+            return None
+        answer = self.answer(question)
+        self.look_again()
+        return (answer + "\n").encode()
 
     def tell_health(self, asked: bytes) -> Optional[bytes]:
         """The line of health, to whoever comes to its port, whatever was sent."""
-        return (self.health() + "\n").encode()
+        answer = self.health()
+        self.look_again()
+        return (answer + "\n").encode()
 
     def metrics(self) -> bytes:
         """What Prometheus reads."""

@@ -9,7 +9,7 @@ import time
 from collections import Counter
 from typing import Dict, Iterator, List, NamedTuple, Optional, Tuple
 
-from . import datafile, health
+from . import datafile, health, whole
 from .lines import Line
 from .policy import Policy
 
@@ -111,6 +111,13 @@ def of_file(told: Told) -> Iterator[Metric]:
     yield Metric("file_info", "gauge", "Version and mode of the member's data file.", [(f'version="{value.version}",mode="{value.mode}"', 1)] if value else [])
     yield by_label("damaged_places", "gauge", "Damaged places of the data file, by what becomes of them.", "kind",
                    {kind: len(places) for kind, places in report.places._asdict().items()} if value else {})
+    facts = report.facts() if report is not None else None
+    runs = told.life.since is not None and told.life.silent <= health.HANGS
+    takes_part = runs and not told.policy.seen.changes(told.now) and not told.policy.seen.lacks
+    yield one("member_whole", "gauge", "Whether the member takes part and its file holds all that a whole quorum needs of it: a quorum of such members goes on without the others.",
+              int(takes_part and whole.is_whole_alone(facts)) if facts else None)
+    yield one("group_members", "gauge", "Members that the group has.", value.members if value else None)
+    yield one("view_change_quorum", "gauge", "Members that a change of views takes.", whole.VIEW_CHANGE[value.members] if value else None)
     yield one("keys", "gauge", "Keys that the group holds.", tally.keys if tally else None)
     yield one("keys_limit", "gauge", "Keys that the group can hold.", datafile.KEYS)
     yield one("sessions", "gauge", "Sessions that the group holds.", tally.sessions if tally else None)

@@ -42,7 +42,7 @@ class Sampler:
     def sample(self) -> None:
         members = self.survey.look()
         verdict = self.settling.hear(time.monotonic(), judging.judge(members, self.has_keepers))
-        told = judging.as_json(self.survey.cluster, members, verdict)
+        told = judging.as_json(self.survey.cluster, members, verdict, self.has_keepers)
         now = time.time()
         self.kept.append(short(told, now))
         self.latest = dict(told, t=round(now, 2))

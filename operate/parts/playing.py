@@ -9,6 +9,8 @@ from typing import Callable, Dict, Iterable, List, NamedTuple, Optional, Set, Tu
 
 TICK = 0.1  # seconds from tick to tick
 MARK = "damage 0 1423"  # a sector that belongs to no block of any state: the line changes nothing that is looked at, and answers
+FAULTS = ("damage", "stale", "unread", "misdirect")  # lines that answer `done` or `kept out`
+AT_ONCE = 40  # lines, of which none has more than 1,135 bytes, so that they fit into a pipe
 AGAIN = 0.5  # seconds; so long a client waits for an answer before it asks again
 SAVE = 4  # syncs of a save of the superblock
 STORE = 2  # syncs of an entry that is stored
@@ -22,20 +24,25 @@ class Replay:
 
     def play(self, line: str) -> List[str]:
         """The outputs of one line; ValueError where it is refused."""
-        self.child.stdin.write(f"{line}\n{MARK}\n".encode())
+        return self.play_some([line])
+
+    def play_all(self, lines: List[str]) -> List[str]:
+        """The outputs of many lines, a few at a time, so that neither side waits for the other to read."""
+        return [output for at in range(0, len(lines), AT_ONCE) for output in self.play_some(lines[at:at + AT_ONCE])]
+
+    def play_some(self, lines: List[str]) -> List[str]:
+        """The outputs of at most AT_ONCE lines."""
+        self.child.stdin.write("".join(f"{line}\n" for line in lines + [MARK]).encode())
         self.child.stdin.flush()
-        outputs = []
-        fault = line.split(" ")[0] in ("damage", "stale", "unread", "misdirect")
+        outputs, answers = [], sum(line.split(" ", 1)[0] in FAULTS for line in lines)
         for text in iter(self.child.stdout.readline, b""):
             output = text.decode().rstrip("\n")
-            if output not in ("done", "kept out"):
-                outputs.append(output)
-            elif fault:
-                fault = False
-                outputs.append(output)
-            else:
-                return outputs
-        raise ValueError(f"{line}: {self.child.stderr.read().decode().strip()}")
+            if output in ("done", "kept out"):
+                if answers == 0:
+                    return outputs
+                answers -= 1
+            outputs.append(output)
+        raise ValueError(f"{' / '.join(lines)}: {self.child.stderr.read().decode().strip()}")
 
     def end(self) -> None:
         self.child.stdin.close()

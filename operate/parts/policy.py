@@ -2,13 +2,16 @@
 
 Times are seconds of one clock that never goes back. Nothing here reads a clock, a file or chance of its own."""
 
-from typing import Callable, Dict, Optional, Tuple
+from collections import deque
+from typing import Callable, Deque, Dict, Optional, Tuple
 
 from .lines import QUESTIONS, Line
 
 GAP = 1.0  # seconds; the most that a silence between two lines counts as standing still, so that a pause of the machine counts as none
 RECENT = 1.0  # seconds; what was told longer ago isn't so any more: a member that leads tells it ten times a second
 FORGOTTEN = 3.0  # seconds; a question that wasn't asked again for so long has had its answer
+LATELY = 30.0  # seconds; views that were entered longer ago aren't counted
+UNDECIDED = 15.0  # seconds; each candidate tries in its turn, so a choice that waits is told again within these
 FIRST_ASK = 6.0  # seconds; a member that lacks a block from its start on asks for it sooner, one that found a block bad by a visit later
 PATIENCE = 5.0  # seconds; how long a member that leads may stand still; twice as long one that asks
 GROWTH = 64  # times; the most that the patience grows to by restarts that didn't help
@@ -48,6 +51,8 @@ class Seen:
         self.doubt = now  # since when blocks of its checkpoint may be missing
         self.lacks = False  # whether some are: it applies nothing until it has them
         self.chosen = False  # whether a member that is alone has chosen its log
+        self.undecided: Optional[Tuple[float, int]] = None  # when a choice of it waited last, and for which operation
+        self.entered: Deque[float] = deque(maxlen=99)  # when its view rose
         self.last_asked: Dict[str, Tuple[str, ...]] = {}  # the entry, and the block, asked for last
         self.asked: Dict[Tuple[str, ...], float] = {}  # questions, and when they were last asked
 
@@ -67,6 +72,14 @@ class Seen:
             return int(question[2]) > self.applied
         return self.lacks if question[0] == "get_block" else True
 
+    def views_lately(self, now: float) -> int:
+        """How many views it entered lately."""
+        return sum(now - at <= LATELY for at in self.entered)
+
+    def waits_to_choose(self, now: float) -> Optional[int]:
+        """The operation for which its choice of a log waits."""
+        return self.undecided[1] if self.undecided is not None and now - self.undecided[0] <= UNDECIDED else None
+
     def waits_for(self, now: float) -> Optional[Tuple[str, ...]]:
         """A question in the way that it asked a moment ago."""
         return next((q for q, last in self.asked.items() if now - last <= RECENT and self.is_in_the_way(q)), None)
@@ -85,7 +98,11 @@ class Seen:
             self.begin(now, line.view, line.commit or 0)
             self.changing_since = now if self.alone else NEVER
             return True
-        return self.HEAR.get(line.kind, Seen.hear_other)(self, now, line)
+        view = self.view
+        went_on = self.HEAR.get(line.kind, Seen.hear_other)(self, now, line)
+        if self.view != view:
+            self.entered.append(now)
+        return went_on
 
     def hear_other(self, now: float, line: Line) -> bool:
         """The view is one that it is in or was in: of entries and questions older ones are told too."""
@@ -123,6 +140,7 @@ class Seen:
 
     def hear_choice(self, now: float, line: Line) -> bool:
         self.chosen = line.kind == "choose"
+        self.undecided = (now, line.op) if line.kind == "wait" and line.op is not None else None
         return self.rise(line.view)
 
     def hear_question(self, now: float, line: Line) -> bool:

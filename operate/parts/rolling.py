@@ -4,6 +4,8 @@ What asks, restarts and waits is handed in, so that this is a function of what t
 
 from typing import Callable, Dict, List, NamedTuple, Optional
 
+from . import whole
+
 Health = Dict[str, str]  # a line of health by its names (health.read)
 
 LOOKS = 3  # so many looks in a row a member has to be seen with what the others commit
@@ -130,14 +132,33 @@ def trouble(health: Optional[Health], stays: bool) -> Optional[str]:
     return None
 
 
+def unwhole(lines: Dict[int, Health], member: int) -> Optional[str]:
+    """Why those that stay wouldn't go on without a member that is stopped; None where they would, or where an earlier keeper doesn't tell. Where too few stay
+    for any quorum, as in a group of two, nothing can go on until it is back: then those that stay have to be whole as they are."""
+    rest = {other: line for other, line in lines.items() if other != member}
+    if not rest or not all(whole.is_told(line) for line in rest.values()):
+        return None
+    facts = {other: whole.of_line(line) for other, line in rest.items()}
+    found = whole.reasons(member, len(lines), facts)
+    if any(reason.name == "few" for reason in found):
+        unseen = [whole.Reason("unseen", f"what the file of member {other} holds isn't known") for other, one in facts.items() if one is None]
+        found = unseen or whole.lacks({other: one for other, one in facts.items() if one is not None})
+    return "; ".join(f"{reason.name}: {reason.text}" for reason in found) or None
+
+
 def check(hands: Hands, members: List[int], chosen: List[int]) -> None:
-    """A roll begins, and goes on, only with a group that is whole."""
-    for member in members:
-        why = trouble(hands.health(member), stays=any(other != member for other in chosen))
+    """A roll begins, and goes on, only with a group that is well, and in which what stays goes on without the one that is restarted."""
+    lines = {member: hands.health(member) for member in members}
+    for member, line in lines.items():
+        why = trouble(line, stays=any(other != member for other in chosen))
         if why is not None:
             raise Stopped(f"member {member} {why}")
-    if not any((hands.health(member) or {}).get("state") == "leads" for member in members):
+    if not any(line["state"] == "leads" for line in lines.values()):
         raise Stopped("no member leads")
+    for member in chosen:
+        why = unwhole(lines, member)
+        if why is not None:
+            raise Stopped(f"member {member} may not be stopped ({why})")
 
 
 def wait_for_whole(hands: Hands, members: List[int], chosen: List[int], most: float) -> None:

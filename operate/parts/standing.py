@@ -9,10 +9,21 @@ ASKER = 9001  # the number of the client that asks behind the schedule
 PAUSE = 0.5  # seconds from its answer to its next request
 
 
+ENDED = "Ended by the keeper"  # a comment of a schedule: `yes`, or `no`
+
+
 class Played(NamedTuple):
     answers: int  # that the client had
     first: Optional[float]  # seconds until the first one
     restarts: List[Restart]  # by the policy; their times are seconds since the end of the schedule
+
+
+def is_ended(text: str) -> bool:
+    """Whether a schedule says that the policy ends its standstill; ValueError where it doesn't say."""
+    said = schedule_of(text)[1].get(ENDED)
+    if said not in ("yes", "no"):
+        raise ValueError(f"no comment says `# {ENDED}: yes`, or `no`")
+    return said == "yes"
 
 
 def play(program: str, text: str, seconds: float, patience: float) -> Played:

@@ -28,10 +28,34 @@ def row(member: Dict) -> List[str]:
     damage = shown(member["damaged"]) + (f" ({member['unsure']} unsure)" if member["unsure"] else "")
     well = member["well"] or ("-" if member["fault"] is None else "no keeper")
     return [str(member["member"]), member["state"], well, shown(member["view"]), shown(member["commit"]), shown(member["behind"]), span(member["up"]), shown(member["restarts"]),
-            shown(member["ends"]), file, of(member["keys"], member["most_keys"]), of(member["sessions"], member["most_sessions"]), damage, member["asks"] or member["mends"] or "-"]
+            shown(member["ends"]), file, of(member["keys"], member["most_keys"]), of(member["sessions"], member["most_sessions"]), damage, member["asks"] or member["mends"] or "-", may_stop(member)]
 
 
-NAMES = ["member", "state", "well", "view", "commit", "behind", "up", "restarts", "ends", "file", "keys", "sessions", "damaged", "asks"]
+def may_stop(member: Dict) -> str:
+    """The column: `yes`, or `no` with the names of why."""
+    if member["may_be_stopped"] is None:
+        return "-"
+    return "yes" if member["may_be_stopped"] else "no: " + ",".join(sorted({reason["name"] for reason in member["why_not"]}))
+
+
+def stop_lines(told: Dict) -> List[str]:
+    """Which quorums are whole, and why members may not be stopped, alike ones in one line."""
+    if told["whole_quorums"] is None:
+        return []
+    of = told["view_change_quorum"]
+    lines = [f"whole quorums, of {of}: {', '.join(' '.join(map(str, quorum)) for quorum in told['whole_quorums']) or 'none'}"]
+    why: Dict[str, List[int]] = {}
+    for member in told["members"]:
+        if member["may_be_stopped"] is not None:
+            why.setdefault("; ".join(reason["text"] for reason in member["why_not"]), []).append(member["member"])
+    for text, members in why.items():
+        which = ("member " if len(members) == 1 else "members ") + " ".join(map(str, members))
+        each = "any one of " if len(members) > 1 else ""
+        lines.append(f"{each}{which} may be stopped: yes" if not text else f"{each}{which} may be stopped: no, because {text}")
+    return lines
+
+
+NAMES = ["member", "state", "well", "view", "commit", "behind", "up", "restarts", "ends", "file", "keys", "sessions", "damaged", "asks", "may be stopped"]
 
 
 def table(told: Dict) -> str:
@@ -42,4 +66,4 @@ def table(told: Dict) -> str:
     rows = [NAMES] + [row(member) for member in told["members"]]
     widths = [max(len(line[column]) for line in rows) for column in range(len(NAMES))]
     lines = ["  ".join(cell.ljust(width) for cell, width in zip(line, widths)).rstrip() for line in rows]
-    return "\n".join([f"{head}; commit {told['commit']}"] + [f"  {why}" for why in told["why"]] + lines)
+    return "\n".join([f"{head}; commit {told['commit']}"] + [f"  {why}" for why in told["why"]] + lines + stop_lines(told))

@@ -1,5 +1,6 @@
 """`inspect` on files that the program made. Without the built program this is left out."""
 
+import json
 import os
 import subprocess
 import tempfile
@@ -52,3 +53,27 @@ class Inspecting(unittest.TestCase):
             made = subprocess.run([os.path.join(HERE, "inspect"), path, "health"], capture_output=True, text=True)
             self.assertEqual(made.returncode, 1)
             self.assertIn("damaged 6 (mended 3, unsure 2, idle 1)", made.stdout)
+            self.assertIn("for a whole quorum: checkpoint 64, whose header is known; blocks that can't be read: 0; above it lost 69, unknown 75 128; "
+                          "the last operation whose header is known is 70 of at most 128", told)
+
+    def test_what_a_whole_quorum_needs(self):
+        with tempfile.TemporaryDirectory(prefix="vr-inspect-") as folder:
+            whole, path = self.file_of_one(folder), os.path.join(folder, "damaged")
+            root = int.from_bytes(whole[48:56], "big")
+            fine = {"checkpoint": 64, "anchored": True, "missing": 0, "lost": [], "unknown": [], "last": 70}
+            for name, places, changed in [
+                ("nothing is damaged", [], {}),
+                ("an entry", [prepare(66) + 200], {"lost": [66]}),
+                ("an entry of the checkpoint", [prepare(64) + 200], {}),
+                ("a slot that was never used", [header_sector(100)], {"unknown": [100]}),
+                ("the root", [datafile.GRID * datafile.SECTOR + datafile.BLOCK * root + 140], {"missing": 1}),
+                ("a copy of the superblock", [9], {}),
+            ]:
+                with self.subTest(name):
+                    data = bytearray(whole)
+                    for at in places:
+                        data[at] ^= 255
+                    with open(path, "wb") as file:
+                        file.write(data)
+                    told = json.loads(subprocess.run([os.path.join(HERE, "inspect"), path, "json"], capture_output=True, text=True).stdout)
+                    self.assertEqual(told["whole"], dict(fine, **changed))

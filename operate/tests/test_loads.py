@@ -3,7 +3,7 @@
 import unittest
 from typing import Dict, List, Optional
 
-from parts import health, program, rolling
+from parts import health, program, rolling, whole
 from parts.kept import Keepers
 from parts.playing import Client, Group, Replay
 
@@ -32,7 +32,8 @@ class Loaded:
         if member not in self.group.running:
             return None
         life = health.Life(member, self.since[member], 0, 0, 0, 0)
-        return health.read(health.line(self.keepers.policy(member), self.group.now, life))
+        told = health.read(health.line(self.keepers.policy(member), self.group.now, life))
+        return {name: value for name, value in told.items() if name not in whole.Facts._fields}  # There are no files to look at.
 
     def restart(self, member: int) -> None:
         """Away for DOWN seconds."""

@@ -3,6 +3,7 @@ these are left out."""
 
 import glob
 import os
+import subprocess
 import unittest
 
 from parts import program, standing
@@ -16,18 +17,36 @@ SLOW = 0.15  # seconds of a sync
 
 @unittest.skipUnless(program.is_there(), program.MISSING)
 class Standing(unittest.TestCase):
-    def test_each_stands_still_as_it_is_and_goes_on_with_the_policy(self):
+    # Whom no restart helps, and what what is left lacks then (parts/whole.py).
+    LASTING = {"backup-takes-neither-log-nor-checkpoint": "window", "blocks-at-a-dead-member": "blocks", "one-of-two-cannot-tell-of-a-slot": "unsure",
+               "two-of-three-cannot-tell-of-a-slot": "unsure"}
+
+    def test_each_stands_still_as_it_is_and_goes_on_with_the_policy_where_it_says_so(self):
         paths = sorted(glob.glob(os.path.join(os.path.dirname(HERE), "examples", "standstills", "*.txt")))
-        self.assertEqual(len(paths), 5)
+        self.assertEqual(len(paths), 11)
         for path in paths:
             with self.subTest(os.path.basename(path)):
                 with open(path) as file:
                     text = file.read()
+                self.assertEqual(standing.is_ended(text), os.path.basename(path)[:-4] not in self.LASTING)
                 self.assertEqual(standing.play(program.PATH, text, 3 * PATIENCE, 0).answers, 0)
                 kept = standing.play(program.PATH, text, 4.5 * PATIENCE, PATIENCE)
+                if not standing.is_ended(text):
+                    self.assertIsNone(kept.first)
+                    continue
                 self.assertIsNotNone(kept.first)
                 self.assertLess(kept.first, 4 * PATIENCE)
                 self.assertGreater(kept.answers, 5)
+
+    def test_those_that_a_restart_ends_are_whole_and_the_others_arent(self):
+        """By bench/progress, which finds out what the files of the members that run hold. Where a link is cut, or a backup lacks what its own disk has, that says nothing."""
+        folder = os.path.join(os.path.dirname(HERE), "examples", "standstills")
+        for name, lacking in dict(self.LASTING, **{"backup-past-the-primarys-commit-number": None, "primary-lacks-a-forgotten-entry": None, "entry-of-a-dead-member": None}).items():
+            with self.subTest(name):
+                words = [os.path.join(os.path.dirname(HERE), "bench", "progress"), "--never", "--rounds", "30", "--play", os.path.join(folder, name + ".txt")]
+                made = subprocess.run(words, capture_output=True, text=True)
+                self.assertEqual(made.returncode, 1 if lacking is None else 0, made.stdout + made.stderr)
+                self.assertIn(" whole: " if lacking is None else f"not whole: {lacking};", made.stdout)
 
 
 class Untouched:

@@ -13,7 +13,7 @@ from typing import Callable, Optional, Tuple
 from parts import asking, program
 from parts.judging import AILS, SILENT, UNKNOWN, WELL, Known, as_json, judge
 from parts.probing import Reply
-from parts.telling import table
+from parts.telling import stop_lines, table
 
 HERE = os.path.dirname(os.path.dirname(os.path.realpath(__file__)))
 sys.path.insert(0, os.path.join(HERE, "trials"))
@@ -85,8 +85,8 @@ class Judging(unittest.TestCase):
                     verdict = judge(members, has_keepers)
                     self.assertEqual((verdict.code, verdict.leader), (code, leader), verdict.why)
                     self.assertEqual(verdict.why == [], code == WELL)
-                    told = as_json(5, members, verdict)
-                    self.assertEqual(len(table(told).splitlines()), 2 + len(verdict.why) + len(members))
+                    told = as_json(5, members, verdict, has_keepers)
+                    self.assertEqual(len(table(told).splitlines()), 2 + len(verdict.why) + len(members) + len(stop_lines(told)))
                     json.dumps(told)
 
     def test_how_far_one_is_behind(self):
@@ -128,10 +128,14 @@ class Real(unittest.TestCase):
         told = self.until(WELL, group, *keepers)
         leader, follower = told["leader"], (told["leader"] + 1) % 3
         self.assertEqual([member["state"] for member in told["members"]].count("follows"), 2)
+        told = self.until(WELL, group, *keepers, what=lambda told: all(member["may_be_stopped"] for member in told["members"]))
+        self.assertEqual(told["whole_quorums"], [[0, 1], [0, 2], [1, 2]])
+        self.until(0, group, *keepers, "--may-stop", str(leader))
         self.assertEqual(self.until(WELL, group)["leader"], leader)
         self.assertEqual(self.status(group, "--wait", "0.5", cluster=CLUSTER + 1)[0], UNKNOWN)
         group.signal(follower, signal.SIGSTOP)
         self.until(AILS, group, *keepers, what=lambda told: (told["members"][follower]["state"], told["members"][follower]["well"]) == ("hangs", "hangs"))
+        self.until(1, group, *keepers, "--may-stop", str(leader), what=lambda told: [reason["name"] for reason in told["members"][leader]["why_not"]] == ["few"])
         for member in (follower, (follower + 1) % 3):
             group.signal(member, signal.SIGCONT)
             group.stop(member)
