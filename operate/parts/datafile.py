@@ -2,6 +2,7 @@
 
 import hashlib
 import os
+import struct
 import time
 from typing import Dict, Iterator, List, NamedTuple, Optional, Sequence, Set, Tuple
 
@@ -22,12 +23,18 @@ KEYS = 128  # that are kept
 MOST_PAYLOADS = 49, 99
 ENTRY, DATA_BLOCK, ROOT_BLOCK, BLOCK_COMMAND = 3, 2, 3, 17
 PAYLOAD = BLOCK - 128
+FIELDS = struct.Struct(">16x16s32xQ8xIIQQIBBBBQ8x")  # those of a header that are read
+VISIBLE = bytes(range(33, 127))  # each byte of a key and of a value
 TRIES = 3
 PAUSE = 0.3  # seconds from one look at a file to the next
 
 
 def name(data: bytes) -> bytes:
     return hashlib.sha256(data).digest()[:16]
+
+
+def is_zero(data: bytes) -> bool:
+    return data.count(0) == len(data)
 
 
 def number(data: bytes, at: int, size: int) -> int:
@@ -39,12 +46,11 @@ class Header:
 
     def __init__(self, data: bytes) -> None:
         self.bytes = data[:128]
-        self.body, self.cluster, self.request = data[16:32], number(data, 64, 8), number(data, 80, 4)
-        self.view, self.op, self.size = number(data, 84, 4), number(data, 88, 8), number(data, 104, 4)
-        self.command, self.version, self.kind, self.aux = data[108], data[110], data[111], number(data, 112, 8)
+        (self.body, self.cluster, self.request, self.view, self.op, self.commit, self.size, self.command, self.replica, self.version, self.kind,
+         self.aux) = FIELDS.unpack(self.bytes)
 
     def is_entry(self) -> bool:
-        bare = not any(self.bytes[96:104]) and self.bytes[109] == 0 and self.kind == 0 and self.aux == 0
+        bare = self.commit == 0 and self.replica == 0 and self.kind == 0 and self.aux == 0
         sized = 128 < self.size <= 128 + BODY[self.version]
         return bare and self.command == ENTRY and sized and self.view < 2**32 - 1 and 1 <= self.op <= 2**62
 
@@ -52,11 +58,11 @@ class Header:
 def header_of(data: bytes) -> Optional[Header]:
     """The header at the front of these bytes, None where none is."""
     good = len(data) >= 128 and name(data[16:128]) == data[:16] and 1 <= data[108] <= 19 and data[110] in (1, 2)
-    return Header(data) if good and 128 <= number(data, 104, 4) <= 20480 and not any(data[120:128]) else None
+    return Header(data) if good and 128 <= number(data, 104, 4) <= 20480 and is_zero(data[120:128]) else None
 
 
 def is_text(data: bytes, most: int) -> bool:
-    return 1 <= len(data) <= most and all(33 <= byte <= 126 for byte in data)
+    return 1 <= len(data) <= most and not data.translate(None, VISIBLE)
 
 
 def is_operation(data: bytes, version: int) -> bool:
@@ -72,7 +78,7 @@ def is_operation(data: bytes, version: int) -> bool:
 def entry_of(data: bytes) -> Optional[Header]:
     """The header of the entry that a prepare reads as, None where it is no whole one."""
     header = header_of(data)
-    if header is None or not header.is_entry() or any(data[header.size:]):
+    if header is None or not header.is_entry() or not is_zero(data[header.size:]):
         return None
     body = data[128:header.size]
     whole = name(body) == header.body and is_operation(body, header.version) and (body == b"\1") == (header.request == 0)
@@ -97,10 +103,10 @@ class Value:
 def has_good_numbers(data: bytes) -> bool:
     view, log_view, checkpoint = number(data, 32, 4), number(data, 36, 4), number(data, 40, 8)
     commit, head, count = number(data, 72, 8), number(data, 80, 8), number(data, 88, 2)
-    kind = data[92] in (1, 2) and data[93] <= 1 and not any(data[94:128])
+    kind = data[92] in (1, 2) and data[93] <= 1 and is_zero(data[94:128])
     member = kind and data[90] < data[91] and FEWEST_MEMBERS[data[92]] <= data[91] <= 6
     window = log_view <= view and log_view < 2**32 - 1 and checkpoint % 32 == 0 and checkpoint <= commit <= head <= min(checkpoint + 64, 2**62)
-    root = number(data, 48, 8) < 128 and (checkpoint > 0 or not any(data[48:72]))
+    root = number(data, 48, 8) < 128 and (checkpoint > 0 or is_zero(data[48:72]))
     return member and window and root and max(head - checkpoint, min(head, 1)) <= count <= min(head, 64)
 
 
@@ -115,7 +121,7 @@ def value_of(data: bytes) -> Optional[Value]:
             return None
         if header.version > data[92] or header.cluster != number(data, 24, 8) or header.view > number(data, 36, 4):
             return None
-    return None if any(data[128 + 128 * count:COPY]) else Value(data, headers)
+    return Value(data, headers) if is_zero(data[128 + 128 * count:COPY]) else None
 
 
 class Superblock:
@@ -123,7 +129,8 @@ class Superblock:
 
     def __init__(self, data: bytes) -> None:
         copies = [data[i * COPY:(i + 1) * COPY] for i in range(4)]
-        self.values = [value_of(copy) for copy in copies]
+        values = {copy: value_of(copy) for copy in set(copies)}
+        self.values = [values[copy] for copy in copies]
         agree = [i for i in range(4) if self.values[i] and copies.count(copies[i]) >= 2]
         best = max(agree, key=lambda i: (self.values[i].sequence, -i), default=None)
         self.value = None if best is None else self.values[best]
@@ -156,9 +163,9 @@ class Slots:
         count = PREPARE_SECTORS[self.value.version]
         first = PREPARES[self.value.version] + count * k
         prepare = data[first * SECTOR:(first + count) * SECTOR]
-        header = None if any(sector[128:]) else header_of(sector)
+        header = header_of(sector) if is_zero(sector[128:]) else None
         entry = entry_of(prepare)
-        return header, entry, entry is None and any(prepare)
+        return header, entry, entry is None and not is_zero(prepare)
 
     def holds(self, data: bytes, header: Header) -> bool:
         entry = self.reads(data, header.op)[1]
@@ -208,7 +215,7 @@ def payload_of(data: bytes, address: int, wanted: bytes, kind: int, op: Optional
     header = header_of(block)
     if header is None or header.bytes[:16] != wanted or header.command != BLOCK_COMMAND or header.kind != kind or header.version != 1:
         return None
-    if header.aux != address or op not in (None, header.op) or any(block[header.size:]):
+    if header.aux != address or op not in (None, header.op) or not is_zero(block[header.size:]):
         return None
     payload = block[128:header.size]
     return payload if name(payload) == header.body else None
