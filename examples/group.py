@@ -37,20 +37,22 @@ def sealed(words, *namespaces):
 
 
 class Group:
-    """Members of a group of three, each with its file and its lines in a new folder. A host is reached by its own prefix of words."""
+    """Members of a group, of three unless other hosts are named, each with its file and its lines in a new folder. A host is reached by its own prefix of
+    words. Their ports are the first one and those after it."""
 
-    def __init__(self, scheme=None, hosts=("127.0.0.1",) * 3, prefixes=([],) * 4):
+    def __init__(self, scheme=None, hosts=("127.0.0.1",) * 3, prefixes=([],) * 4, port=None):
         self.program, self.folder = program(), tempfile.mkdtemp()
         scheme = os.environ.get("SCHEME", "") if scheme is None else scheme
-        self.port = 20000 + os.getpid() * 7 % 9000
+        self.port = 20000 + os.getpid() * 7 % 9000 if port is None else port
         self.addresses = [f"{scheme}{host}:{self.port + r}" for r, host in enumerate(hosts)]
-        self.prefixes, self.members = prefixes, [None] * 3
+        self.prefixes = prefixes
+        self.members: "list[subprocess.Popen[bytes] | None]" = [None] * len(hosts)
 
     def __enter__(self):
         return self
 
     def __exit__(self, *_):
-        for r in range(3):
+        for r in range(len(self.members)):
             self.kill(r)
         shutil.rmtree(self.folder)
 
@@ -60,12 +62,13 @@ class Group:
     def words(self, r, *more):
         return [*self.prefixes[r], self.program, "node", "5", str(r), self.file(r), TURNS, *self.addresses, *more]
 
-    def start(self, r, *more):
+    def start(self, r, *more, **how):
+        """Starts a member; `how` may have more of what `Popen` takes, as an environment."""
         with open(f"{self.folder}/{r}.text", "ab") as text, open(f"{self.folder}/{r}.err", "ab") as err:
-            self.members[r] = subprocess.Popen(self.words(r, *more), stdin=subprocess.DEVNULL, stdout=text, stderr=err)
+            self.members[r] = subprocess.Popen(self.words(r, *more), **{"stdin": subprocess.DEVNULL, "stdout": text, "stderr": err, **how})
 
     def start_all(self, *more):
-        for r in range(3):
+        for r in range(len(self.members)):
             self.start(r, "--fresh", *more)
 
     def kill(self, r):

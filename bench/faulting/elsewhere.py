@@ -1,0 +1,63 @@
+"""What other scripts of this repository try already: called from here, a row each."""
+
+from __future__ import annotations
+
+import os
+import shutil
+import subprocess
+from functools import partial
+from pathlib import Path
+from typing import Iterator, NamedTuple, Tuple
+
+from .table import LeftOut, Outcome, Scenario
+
+TOP = Path(__file__).resolve().parent.parent.parent
+HANGS = 900.0  # seconds
+LONGEST = 160  # letters of what a script says last
+
+
+class Script(NamedTuple):
+    """A script, what it tries and promises, and what it needs."""
+
+    words: str
+    tries: str
+    promised: str
+    seconds: float
+    needs: Tuple[str, ...] = ()
+
+
+SCRIPTS = (
+    Script("examples/closed-streams", "standard streams are closed", "no line in a file, its code", 10),
+    Script("examples/not-a-file", "FILE is a folder, a pipe, a socket, a device, a link to one", "7, not a byte written", 10),
+    Script("examples/full-disk", "the disk is full; --fresh is killed", "7, and whole with room", 10, ("root",)),
+    Script("examples/second-process", "a second process has the file", "7, the file as it was", 20),
+    Script("examples/no-memory", "each request of memory refused", "11", 60, ("cc",)),
+    Script("examples/crash", "members killed in the midst of writes", "nothing is lost", 30),
+    Script("examples/endless", "a stream of another group's messages that never runs dry", "answers, none 2 s late", 30),
+    Script("examples/silent", "200 silent connections from the members' machine", "answers, none 4 s late", 60),
+    Script("examples/outage 5 20", "all are cut off from each other, over UDP", "an answer 2 s after it", 60, ("root", "ip", "unshare")),
+    Script("env SCHEME=tcp: examples/outage 5 20", "all are cut off from each other, over TCP", "an answer 2 s after it", 90, ("root", "ip", "unshare")),
+    Script("operate/trials/faults --minutes 2", "kills, pauses and cuts under keepers", "one register for each key", 150),
+    Script("operate/trials/deaf", "a primary that hears nobody, under keepers", "one register for each key", 90, ("root", "ip")),
+)
+
+
+def lacking(needs: Tuple[str, ...]) -> str:
+    """What a script needs and there isn't."""
+    return ", ".join("not run as root" if need == "root" else f"no {need}" for need in needs if (os.geteuid() != 0 if need == "root" else not shutil.which(need)))
+
+
+def call(script: Script, _: int, number: int) -> Outcome:
+    if missing := lacking(script.needs):
+        raise LeftOut(missing)
+    try:
+        ran = subprocess.run(script.words.split(), cwd=TOP, stdin=subprocess.DEVNULL, stdout=subprocess.PIPE, stderr=subprocess.STDOUT, text=True, timeout=HANGS, check=False)
+    except subprocess.TimeoutExpired:
+        return Outcome("hangs", wrong=f"no end in {HANGS:g} s")
+    said = (ran.stdout.strip().splitlines() or [""])[-1].strip()[:LONGEST]
+    return Outcome(said, ran.returncode, "" if ran.returncode == 0 else f"{script.words} ends with {ran.returncode}: {said}")
+
+
+def scenarios() -> Iterator[Scenario]:
+    for script in SCRIPTS:
+        yield Scenario(f"elsewhere: {script.tries} ({script.words})", script.promised, lambda: [0], partial(call, script), alone=True, short=False, seconds=script.seconds)
