@@ -23,7 +23,7 @@ IGNORED = frozenset({signal.SIGCHLD, signal.SIGCONT, signal.SIGURG, signal.SIGWI
 """Signals that end no process by themselves, and the one that the program has switched off."""
 STOPS = frozenset({signal.SIGSTOP, signal.SIGTSTP, signal.SIGTTIN, signal.SIGTTOU})
 FLOOD = 5_000  # signals
-DESCRIPTORS = (*range(3, 14), 20, 40, 60, 70, 75, 80, 100)
+DESCRIPTORS = (7, 6, 5, 4, 3, *range(8, 14), 20, 40, 60, 70, 75, 80, 100)
 PAGE = 4096
 MOST_SIGNALS = 16  # limits of memory, a page apart, at which it is the stack that can't grow
 EXEC_FAILED = 127  # the loader's, or that of a program that couldn't be started
