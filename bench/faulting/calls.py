@@ -275,10 +275,17 @@ def is_of(rule: Rule, run: Run) -> bool:
     return not rule.runs or any(tag in run.tags.split() for tag in rule.runs.split())
 
 
+def exception(rule: Rule, one: Run) -> str:
+    """What `may_end` says of the folder and of streams to others, in words."""
+    if one.is_found and rule.call in ("open", "sync") and DISK in rule.once:
+        return ", goes on where it is its folder's"
+    return ", goes on where it is a stream's to another" if rule.call == "socket" and "tcp" in one.tags else ""
+
+
 def scenario(one: Run, rule: Rule, way: str, times: int, seed: int) -> Scenario:
     """One row: the run, the call, the way, once or from then on; its tries are all K, in an order drawn from the seed."""
     name = f"{one.name}: {rule.call} {way} {'once' if times == 1 else 'on' if times == ALWAYS else f'{times} times'}"
-    promise = " or ".join(meaning(code) for code in sorted(rule.once if times == 1 else rule.on))
+    promise = " or ".join(meaning(code) for code in sorted(rule.once if times == 1 else rule.on)) + exception(rule, one)
 
     def numbers() -> List[int]:
         if one.amiss:

@@ -23,7 +23,7 @@ IGNORED = frozenset({signal.SIGCHLD, signal.SIGCONT, signal.SIGURG, signal.SIGWI
 """Signals that end no process by themselves, and the one that the program has switched off."""
 STOPS = frozenset({signal.SIGSTOP, signal.SIGTSTP, signal.SIGTTIN, signal.SIGTTOU})
 FLOOD = 5_000  # signals
-DESCRIPTORS = (*range(3, 14), 20, 40, 60, 70, 75, 80, 100)
+DESCRIPTORS = (7, 6, 5, 4, 3, *range(8, 14), 20, 40, 60, 70, 75, 80, 100)
 PAGE = 4096
 MOST_SIGNALS = 16  # limits of memory, a page apart, at which it is the stack that can't grow
 EXEC_FAILED = 127  # the loader's, or that of a program that couldn't be started
@@ -197,8 +197,8 @@ def try_limits(machine: Machine, kind: int, low: int, high: int, below: int, lan
     with machine.alone(lane) as members:
         words = member_words(members)
         least = least_that_runs(words, kind, low, high)
-        codes = [(most, *run_limited(words, kind, most)) for most in range(least - below * PAGE, least + 4 * PAGE, PAGE)]
-        codes = [(most, EXEC_FAILED if "loading shared libraries" in said else code) for most, code, said in codes]
+        ran = [(most, *run_limited(words, kind, most)) for most in range(least - below * PAGE, least + 4 * PAGE, PAGE)]
+        codes = [(most, EXEC_FAILED if "loading shared libraries" in said else code) for most, code, said in ran]
         count = {code: sum(one == code for _, one in codes) for code in (GOES_ON, MEMORY, EXEC_FAILED, -signal.SIGSEGV)}
         bad = [(most, code) for most, code in codes if code not in count]
         wrong = "; ".join(f"with {most // 1024} KB: {meaning(code)}" for most, code in bad[:3])

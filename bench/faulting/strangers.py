@@ -219,6 +219,7 @@ class Behaviour(NamedTuple):
     each: float = 0.0
     reads: bool = True
     leaves: bool = False  # its machine is gone, without a word
+    keeps: bool = False  # it asks all the time as a client does, and so keeps its place: nothing is promised to newcomers meanwhile
     short: bool = False
 
 
@@ -232,7 +233,7 @@ def asked(draw: random.Random) -> bytes:
 
 BEHAVIOURS = (
     Behaviour("silent", nothing, short=True),
-    Behaviour("a byte each 2.5 s", lambda _: b"\x00", lambda _: b"\x00", 2.5),
+    Behaviour("a byte each 2.5 s", lambda _: b"\x00", lambda _: b"\x00", 2.5, short=True),
     Behaviour("half a header, and silence", lambda draw: asked(draw)[:64]),
     Behaviour("a header, and silence", lambda draw: asked(draw)[:128]),
     Behaviour("one message, and silence", asked),
@@ -240,7 +241,7 @@ BEHAVIOURS = (
     Behaviour("a message each 5 s", asked, asked, 5.0),
     Behaviour("another group's message each 0.5 s", lambda _: request(cluster=OTHER), lambda _: request(cluster=OTHER), 0.5),
     Behaviour("garbage", lambda draw: draw.randbytes(4096), lambda draw: draw.randbytes(4096), 0.5),
-    Behaviour("asks, and never reads", lambda draw: asked(draw) * 50, lambda draw: asked(draw) * 50, 0.5, reads=False),
+    Behaviour("asks, and never reads", lambda draw: asked(draw) * 50, lambda draw: asked(draw) * 50, 0.5, reads=False, keeps=True),
     Behaviour("one message, and its machine is gone", asked, leaves=True),
 )
 
@@ -390,8 +391,8 @@ def try_crowd(place: Place, behaviour: Behaviour, _: int, number: int) -> Outcom
         after = newcomer(members, "after")
         whole = account.read_all(PATIENCE)
         account.close()
-        late = [f"{seconds:.1f} s {what}" for what, seconds, most in [("beside them", max(beside), NEW), ("once the primary was lost", lost, LOST), ("once they had ended", after, ENDED)]
-                if seconds > most]
+        figures = [("once they had ended", after, NEW)] if behaviour.keeps else [("beside them", max(beside), NEW), ("once the primary was lost", lost, LOST), ("once they had ended", after, ENDED)]
+        late = [f"{seconds:.1f} s {what}" for what, seconds, most in figures if seconds > most]
         happened = f"a newcomer is answered after {', '.join(f'{one:.2f}' for one in beside)} s; the primary lost: {lost:.2f} s; once they ended: {after:.2f} s"
         return Outcome(happened, wrong=members.who_ended() or "; ".join(late) or ("" if whole else "no answer after it"), lost=len(account.lost()))
 
@@ -410,5 +411,6 @@ def scenarios(folder: Path, port: int, prepared: Callable[[], Prepared], seconds
                    alone=True, short=False, seconds=10 * seconds)
     answered = f"a newcomer's answer in {NEW:g} s, {LOST:g} s where the primary is lost, {ENDED:g} s once they end"
     for behaviour in BEHAVIOURS:
-        yield Scenario(f"strangers, {CROWD} streams to each member: {behaviour.name}", answered, once, partial(try_crowd, place, behaviour), alone=True, short=behaviour.short,
+        promised = f"answers that fit; a newcomer's in {NEW:g} s once they end" if behaviour.keeps else answered
+        yield Scenario(f"strangers, {CROWD} streams to each member: {behaviour.name}", promised, once, partial(try_crowd, place, behaviour), alone=True, short=behaviour.short,
                        seconds=3 * seconds + 10)
