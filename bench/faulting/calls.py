@@ -34,8 +34,9 @@ class Rule(NamedTuple):
     times: int = ALWAYS  # how often such a call fails where it goes on to
 
 
-DEAF = ("receive", "accept", "poll", "watch")
-"""A member that is heard and hears nobody holds its group up as long as it leads, which a keeper ends: so nothing is promised of the others meanwhile."""
+HOLDS_UP = ("receive", "accept", "poll", "watch", "read")
+"""A member that is heard and hears nobody, or can read nothing any more, holds its group up as long as it leads, which a keeper ends: so nothing is promised
+of the others meanwhile."""
 
 
 def ends(*codes: int) -> FrozenSet[int]:
@@ -261,8 +262,8 @@ class Three(Run):
         members.finish(others[0])
         whole = account.read_all(LONG_PATIENCE)
         account.close()
-        is_deaf = env.get("FAULT_CALL") in DEAF and int(env["FAULT_TIMES"]) > 1
-        wrong = "the other two don't answer" if done < ASKS and not is_deaf else "" if whole else "started again without a fault it and another one don't answer"
+        holds_up = env.get("FAULT_CALL") in HOLDS_UP and int(env["FAULT_TIMES"]) > 1
+        wrong = "the other two don't answer" if done < ASKS and not holds_up else "" if whole else "started again without a fault it and another one don't answer"
         return code, Outcome("", wrong=wrong or members.is_whole(bad), lost=len(account.lost()))
 
 
