@@ -20,7 +20,7 @@ PASSES = 100  # so often a call is interrupted
 TURNS, ASKS = "4", 10
 TRIES = 3  # of a run without a fault, which a busy machine may hold up
 PATIENCE = 15.0  # seconds in which a group of three answers though one of its members fails
-ALONE_PATIENCE, LONG_PATIENCE = 1.0, 60.0
+ALONE_PATIENCE, OUTPUT_PATIENCE, LONG_PATIENCE = 1.0, 5.0, 60.0
 
 
 class Rule(NamedTuple):
@@ -34,8 +34,9 @@ class Rule(NamedTuple):
     times: int = ALWAYS  # how often such a call fails where it goes on to
 
 
-DEAF = ("receive", "accept", "poll", "watch")
-"""A member that is heard and hears nobody holds its group up as long as it leads, which a keeper ends: so nothing is promised of the others meanwhile."""
+HOLDS_UP = ("receive", "accept", "poll", "watch", "read")
+"""A member that is heard and hears nobody, or can read nothing any more, holds its group up as long as it leads, which a keeper ends: so nothing is promised
+of the others meanwhile."""
 
 
 def ends(*codes: int) -> FrozenSet[int]:
@@ -110,6 +111,11 @@ class Store:
             if size not in self.made:
                 self.made[size] = prepare(self.folder / str(size), self.port, size, 2 if size == 1 else 1)
             return self.made[size]
+
+
+def patience_of(env: Dict[str, str]) -> float:
+    """How long a member may take to end: where no line is taken it tries again for a second."""
+    return OUTPUT_PATIENCE if env.get("FAULT_CALL") == "say" and int(env["FAULT_TIMES"]) > 1 else 0.0
 
 
 class Run:
@@ -227,7 +233,7 @@ class Alone(Run):
         members.start(0, env=env)
         account.work(ASKS, ALONE_PATIENCE, lambda: members.has_ended(0))
         account.close()
-        code = members.finish(0)
+        code = members.finish(0, patience_of(env))
         members.start(0)
         whole = account.read_all(LONG_PATIENCE)
         account.close()
@@ -255,14 +261,14 @@ class Three(Run):
         for r in range(3):
             members.start(r, **({"env": env} if r == bad else {}))
         done = account.work(ASKS, PATIENCE)
-        code = members.finish(bad)
+        code = members.finish(bad, patience_of(env))
         members.start(bad)
         account.put(PATIENCE)
         members.finish(others[0])
         whole = account.read_all(LONG_PATIENCE)
         account.close()
-        is_deaf = env.get("FAULT_CALL") in DEAF and int(env["FAULT_TIMES"]) > 1
-        wrong = "the other two don't answer" if done < ASKS and not is_deaf else "" if whole else "started again without a fault it and another one don't answer"
+        holds_up = env.get("FAULT_CALL") in HOLDS_UP and int(env["FAULT_TIMES"]) > 1
+        wrong = "the other two don't answer" if done < ASKS and not holds_up else "" if whole else "started again without a fault it and another one don't answer"
         return code, Outcome("", wrong=wrong or members.is_whole(bad), lost=len(account.lost()))
 
 

@@ -63,10 +63,11 @@ class Members(hunting.members.Members):
     def has_ended(self, r: int) -> bool:
         return self.process(r).poll() is not None
 
-    def finish(self, r: int) -> Optional[int]:
-        """The exit code of a member that ended by itself; None where it went on, and is ended now."""
-        process = self.process(r)
-        code = process.poll()
+    def finish(self, r: int, patience: float = 0.0) -> Optional[int]:
+        """The exit code of a member that ended by itself, in so many seconds from now; None where it went on, and is ended now."""
+        process, end = self.process(r), time.monotonic() + patience
+        while (code := process.poll()) is None and time.monotonic() < end:
+            time.sleep(0.02)
         if code is None:
             process.send_signal(signal.SIGCONT)
             process.terminate()
