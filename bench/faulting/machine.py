@@ -25,7 +25,7 @@ STOPS = frozenset({signal.SIGSTOP, signal.SIGTSTP, signal.SIGTTIN, signal.SIGTTO
 FLOOD = 5_000  # signals
 DESCRIPTORS = (7, 6, 5, 4, 3, *range(8, 14), 20, 40, 60, 70, 75, 80, 100)
 PAGE = 4096
-MOST_SIGNALS = 16  # limits of memory, a page apart, at which it is the stack that can't grow
+LEAST_STACK = 32 << 10  # bytes; with much less the system starts no program at all
 EXEC_FAILED = 127  # the loader's, or that of a program that couldn't be started
 
 
@@ -192,19 +192,16 @@ def least_that_runs(words: Sequence[str], kind: int, low: int, high: int) -> int
 
 
 def try_limits(machine: Machine, kind: int, low: int, high: int, below: int, lane: int, number: int) -> Outcome:
-    """Each limit, in steps of a page, from so many pages below the least with which a member runs: it ends with 11, or runs, or isn't started. Where it is the
-    stack that can't grow the system ends it by a signal, whatever it does; of memory these are few limits."""
+    """Each limit, in steps of a page, from so many pages below the least with which a member runs: it ends with 11, or runs, or isn't started; no signal ends it."""
     with machine.alone(lane) as members:
         words = member_words(members)
         least = least_that_runs(words, kind, low, high)
-        ran = [(most, *run_limited(words, kind, most)) for most in range(least - below * PAGE, least + 4 * PAGE, PAGE)]
+        ran = [(most, *run_limited(words, kind, most)) for most in range(max(low, least - below * PAGE), least + 4 * PAGE, PAGE)]
         codes = [(most, EXEC_FAILED if "loading shared libraries" in said else code) for most, code, said in ran]
-        count = {code: sum(one == code for _, one in codes) for code in (GOES_ON, MEMORY, EXEC_FAILED, -signal.SIGSEGV)}
+        count = {code: sum(one == code for _, one in codes) for code in (GOES_ON, MEMORY, EXEC_FAILED)}
         bad = [(most, code) for most, code in codes if code not in count]
         wrong = "; ".join(f"with {most // 1024} KB: {meaning(code)}" for most, code in bad[:3])
-        if kind == resource.RLIMIT_AS and count[-signal.SIGSEGV] > MOST_SIGNALS:
-            wrong = wrong or f"{count[-signal.SIGSEGV]} limits at which a signal ends it"
-        happened = f"from {least // 1024} KB on it runs; of {len(codes)} limits {count[MEMORY]} end with 11, {count[EXEC_FAILED]} aren't started, {count[-signal.SIGSEGV]} want stack"
+        happened = f"from {least // 1024} KB on it runs; of {len(codes)} limits {count[MEMORY]} end with 11, {count[EXEC_FAILED]} aren't started, {len(bad)} end otherwise"
         return Outcome(happened, GOES_ON if not bad else bad[0][1], wrong)
 
 
@@ -308,8 +305,8 @@ def scenarios(machine: Machine, seed: int) -> Iterator[Scenario]:
         yield Scenario(f"machine: a member's clock {name}", f"the group answers; {whole}", once, partial(try_clock, machine, how))
     for scheme in ("", "tcp:"):
         yield Scenario(f"machine: few descriptors over {'TCP' if scheme else 'UDP'}", "7, 8 or 11, or it answers", lambda: list(DESCRIPTORS), partial(try_descriptors, machine, scheme))
-    yield Scenario("machine: little memory", "11, or it runs; a signal where the stack can't grow", once, partial(try_limits, machine, resource.RLIMIT_AS, 1 << 20, 64 << 20, 90))
-    yield Scenario("machine: little stack", "11, or it runs; a signal where it can't grow", once, partial(try_limits, machine, resource.RLIMIT_STACK, 1 << 12, 8 << 20, 12))
+    yield Scenario("machine: little memory", "11, or it runs", once, partial(try_limits, machine, resource.RLIMIT_AS, 1 << 20, 64 << 20, 90))
+    yield Scenario("machine: little stack", "11, or it runs", once, partial(try_limits, machine, resource.RLIMIT_STACK, LEAST_STACK, 8 << 20, 90))
     for output in OUTPUTS:
         yield Scenario(f"machine: its lines go to {output}", f"{'goes on' if 'nobody' in output else '6 write fault'}; {whole}", once, partial(try_output, machine, output))
     for what in FILES:
