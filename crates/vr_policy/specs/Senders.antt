@@ -25,9 +25,10 @@ IsSenderPlace same others a place = MatchOption (position (at_address same a) ot
 abbrev pub address_at : {A : Type 0} → List A → List (Sender A) → ℕ → Option A
 address_at peers others port = if nat_lt port (length peers) then slice_get peers port else option_map_or (λ s. s.address) (slice_get others (port - length peers)) None
 
--- a sender is heard by so many datagrams: it has its place, and the port of it
+-- a sender is heard by so many datagrams: it has its place, and the port of it; where there are no places it has none, and the last port
 pub record IsHeard {A : Type 0} (same : A → A → Bool) (old new : List (Sender A)) (a : A) (count : ℕ) (peers : ℕ) (port : ℕ) : Type 0 where
   pub place : ℕ
   pub own : 0 < length old → IsSenderPlace same old a place
   pub put : 0 < length old → new ≡ slice_set old place (record { address = Some a; heard = count })
   pub port_is : 0 < length old → port ≡ min (peers + place) (2 ^ 32 - 1)
+  pub none : old ≡ [] → (new ≡ []) × (port ≡ 2 ^ 32 - 1)

@@ -56,7 +56,8 @@ impl Again {
 
     /// After how many milliseconds the call is made again; 0 where it isn't any more.
     pub fn pause(&mut self) -> u64
-        ensures { pauses self.old ≢ [] → pauses self.old ≡ result ∷ pauses self.new }
+        ensures next { pauses self.old ≢ [] → pauses self.old ≡ result ∷ pauses self.new }
+        ensures over { pauses self.old ≡ [] → (result ≡ 0) × (pauses self.new ≡ []) }
     {
         if self.at_once {
             self.at_once = false;

@@ -104,8 +104,8 @@ impl Places {
         Ok(Places { guests })
     }
 
-    #[tactic(auto, using(std::proofs::lemmas::Grind::common_steps, crate::proofs::First::no_place, crate::proofs::First::this_place))]
     /// The place that a stream gets which comes now, from the machine of a member or not; `None` where it gets none.
+    #[tactic(auto, using(std::proofs::lemmas::Grind::common_steps, crate::proofs::First::no_place, crate::proofs::First::this_place))]
     pub fn place_for(&self, near: bool, now: u64) -> Option<usize>
         ensures { IsPlace (newcomer near now self.now) self.now result }
     {
