@@ -1,62 +1,96 @@
 //! The program over the real outside: standard input and output, a file, UDP or TCP, the system's clock, and runs of itself.
 #![tactic(auto)]
 
+ghost use Rattle.std.specs.Prelude.{ℕ, None, []};
+ghost use Rattle.vr_edge.specs.Told.{Grows};
+
 use std::alloc::AllocError;
-use std::io::ErrorKind;
+use std::env::{args, current_exe};
+use std::io;
+use std::io::{ErrorKind, Stdin, Stdout};
 use std::path::PathBuf;
 use std::process::ExitCode;
 use vr_real::{
-    FileDisk, RealClock, RealLink, RealSpawner, StdSink, StdSource, take_missing_streams,
+    FileDisk, RealClock, RealLink, RealSpawner, SocketLink, StdSink, StdSource,
+    take_missing_streams, take_stack,
 };
-use vr_status::Status;
-use vr_top::{finish, run};
+use vr_top::{Maker, Untold, run_outside};
 
-/// The words after the program's name. Where one of them is no text, there are none: no words are no command.
-fn words(rt: &HostRuntime) -> Result<Vec<String>, AllocError> {
-    match std::env::args(rt) {
-        Ok(args) => Ok(args.skip(1).collect(rt.alloc())?),
-        Err(error) if error.kind() == ErrorKind::OutOfMemory => Err(AllocError),
-        Err(_) => Ok(Vec::new(rt.alloc())),
+/// The runtime's hand: it makes what is outside, and tells the program's words and where it stands. It doesn't tell what it made.
+#[derive(Drop)]
+struct Hand<'r> {
+    rt: &'r HostRuntime,
+}
+
+/// Why the system didn't tell something.
+fn untold(error: io::Error) -> Untold {
+    match error.kind() {
+        ErrorKind::OutOfMemory => Untold::NoMemory,
+        _ => Untold::NoText,
     }
 }
 
-/// Where this program stands, `None` where the system doesn't tell it.
-fn own_path(rt: &HostRuntime) -> Result<Option<PathBuf>, AllocError> {
-    match std::env::current_exe(rt) {
-        Ok(path) => Ok(Some(path)),
-        Err(error) if error.kind() == ErrorKind::OutOfMemory => Err(AllocError),
-        Err(_) => Ok(None),
-    }
-}
+impl<'r> Maker for Hand<'r> {
+    type Source = StdSource<Stdin>;
 
-/// Makes the objects of the outside, and runs over them. Nothing is opened before each standard stream has its descriptor.
-fn run_outside(rt: &HostRuntime) -> Result<Status, AllocError> {
-    if !take_missing_streams() {
-        return Err(AllocError);
+    type Sink = StdSink<Stdout, &'r HostRuntime>;
+
+    type Disk = FileDisk<&'r HostRuntime>;
+
+    type Link = SocketLink<&'r HostRuntime>;
+
+    type Clock = RealClock<&'r HostRuntime>;
+
+    type Spawner = RealSpawner<&'r HostRuntime>;
+
+    type Path = PathBuf;
+
+    ghost made = { λ _. None };
+
+    fn take_ground(&mut self) -> bool {
+        take_missing_streams() && take_stack(self.rt.alloc())
     }
-    let alloc = rt.alloc();
-    let words = words(rt)?;
-    let mut source = StdSource::new(rt.stdin());
-    let mut sink = StdSink::new(rt.stdout(), rt);
-    let mut disk = FileDisk::new(rt);
-    disk.remember(alloc)?;
-    let mut link = RealLink::new(alloc, rt)?;
-    let mut clock = RealClock::new(rt);
-    let mut spawner = RealSpawner::new(alloc, rt, own_path(rt)?);
-    Ok(run(
-        alloc,
-        &words,
-        &mut source,
-        &mut sink,
-        &mut disk,
-        &mut link,
-        &mut clock,
-        &mut spawner,
-    ))
+
+    fn words(&mut self) -> Result<Vec<String>, Untold> {
+        let words = args(self.rt).map_err(untold)?;
+        words.collect(self.rt.alloc()).map_err(|_| Untold::NoMemory)
+    }
+
+    fn source(&mut self) -> StdSource<Stdin> {
+        StdSource::new(self.rt.stdin())
+    }
+
+    fn sink(&mut self) -> StdSink<Stdout, &'r HostRuntime> {
+        StdSink::new(self.rt.stdout(), self.rt)
+    }
+
+    fn disk(&mut self) -> Result<Self::Disk, AllocError> {
+        let mut disk = FileDisk::new(self.rt);
+        disk.remember(self.rt.alloc())?;
+        Ok(disk)
+    }
+
+    fn link(&mut self) -> Result<Self::Link, AllocError> {
+        RealLink::new(self.rt.alloc(), self.rt)
+    }
+
+    fn clock(&mut self) -> Self::Clock {
+        RealClock::new(self.rt)
+    }
+
+    fn path(&mut self) -> Result<PathBuf, Untold> {
+        current_exe(self.rt).map_err(untold)
+    }
+
+    // As the trait says of a maker that tells nothing.
+    fn spawner(&mut self, path: Option<PathBuf>) -> Self::Spawner
+        ensures { Grows {X = ℕ} None None [] }
+    {
+        RealSpawner::new(self.rt.alloc(), self.rt, path)
+    }
 }
 
 fn main(rt: HostRuntime) -> ExitCode {
-    let status = run_outside(&rt).unwrap_or(Status::NoMemory);
     let mut errors = StdSink::new(rt.stderr(), &rt);
-    ExitCode::from(finish(rt.alloc(), &status, &mut errors))
+    ExitCode::from(run_outside(rt.alloc(), &mut Hand { rt: &rt }, &mut errors))
 }

@@ -1,5 +1,5 @@
 -- What a writer holds once writes failed that wrote nothing.
-use Rattle.std.proofs.Common.{◌≡◌, ◌++◌, ℕ, List, Option, Some, None, Result, Ok, Err, take, MatchResult, IsErr}
+use Rattle.std.proofs.Common.{ℕ, List, Option, Some, None, Result, Ok, Err, take, IsErr}
 use Rattle.std.proofs.KnownBytes.{Keeps-trans}
 use Rattle.std.specs.Io.KnownBytes.{Appends, Keeps, WriteAppends}
 

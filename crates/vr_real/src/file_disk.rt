@@ -1,8 +1,8 @@
 //! A disk of sectors in a file.
 ghost use Rattle.std.specs.Prelude.{◌≡◌, ◌<◌, None};
-ghost use Rattle.vr_base.specs.Causes.{HasCause};
 
 use crate::counting::counted;
+use crate::real_clock::millis_of;
 use std::alloc::{AllocError, Global};
 use std::fs::{File, Files, OpenOptions};
 use std::io::ErrorKind;
@@ -177,20 +177,12 @@ impl<R: Clock> FileDisk<R> {
         self.read_at(i, to)
     }
 
-    /// The milliseconds of the clock. Where it fails, those when the system was told to forget.
-    fn now(&self) -> u64 {
-        match self.system.monotonic() {
-            Ok(time) => u64::try_from(time.as_millis()).unwrap_or(u64::MAX),
-            Err(_) => self.forgotten,
-        }
-    }
-
     /// Has the system's copies read anew, where that was a minute ago.
     fn refresh(&mut self)
         ensures faults { self.new.faults ≡ self.old.faults }
         ensures reads { self.new.read_faults ≡ self.old.read_faults }
     {
-        let now = self.now();
+        let now = millis_of(&self.system, self.forgotten);
         if now.saturating_sub(self.forgotten) < KEPT_MILLIS {
             return;
         }
@@ -215,7 +207,7 @@ impl<R: Files<File = File> + Clock> SectorDisk for FileDisk<R> {
         self.file = None;
         let opened = open(&self.system, name);
         self.file = Some(counted(opened, &mut self.faults, DiskFailed)?);
-        self.forgotten = self.now();
+        self.forgotten = millis_of(&self.system, self.forgotten);
         Ok(())
     }
 
@@ -240,9 +232,8 @@ impl<R: Files<File = File> + Clock> SectorDisk for FileDisk<R> {
     }
 
     fn keep_name(&mut self, room: Room, bytes: &[u8], name: Sum) {
-        match &mut self.memo {
-            Some(memo) => memo.keep(room, bytes, name),
-            None => {}
+        if let Some(memo) = &mut self.memo {
+            memo.keep(room, bytes, name);
         }
     }
 }

@@ -11,6 +11,14 @@ pub struct RealClock<R> {
     last: u64,
 }
 
+/// The milliseconds of a clock. Where it fails, the last ones come again.
+pub fn millis_of<R: time::Clock>(clock: &R, last: u64) -> u64 {
+    match clock.monotonic() {
+        Ok(time) => u64::try_from(time.as_millis()).unwrap_or(u64::MAX),
+        Err(_) => last,
+    }
+}
+
 impl<R> RealClock<R> {
     /// The clock of the system that is handed in.
     pub fn new(clock: R) -> RealClock<R>
@@ -24,9 +32,7 @@ impl<R: time::Clock> Clock for RealClock<R> {
     ghost left = { λ _. None };
 
     fn now(&mut self) -> u64 {
-        if let Ok(time) = self.clock.monotonic() {
-            self.last = u64::try_from(time.as_millis()).unwrap_or(u64::MAX);
-        }
+        self.last = millis_of(&self.clock, self.last);
         self.last
     }
 }

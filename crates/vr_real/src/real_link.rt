@@ -30,14 +30,15 @@ pub struct RealLink<D, S> {
     send_faults: u64,
 }
 
+/// A link over UDP or over TCP.
+pub type SocketLink<R> = RealLink<UdpLink<R>, StreamLink<TcpStreams<R>>>;
+
 /// What these addresses ask for, `None` where they differ in it.
 fn asked(own: &str, peers: &Vec<String>) -> Option<Over> {
-    let mut streams = 0usize;
-    for peer in peers.iter() {
-        if peer.as_str().starts_with(PREFIX) {
-            streams = streams.saturating_add(1);
-        }
-    }
+    let streams = peers
+        .iter()
+        .filter(|peer| peer.as_str().starts_with(PREFIX))
+        .count();
     let own_streams = own.starts_with(PREFIX);
     if streams == peers.len() && streams > 0 && (own.is_empty() || own_streams) {
         return Some(Over::Streams);
@@ -48,15 +49,12 @@ fn asked(own: &str, peers: &Vec<String>) -> Option<Over> {
     None
 }
 
-impl<R: Net + Drop + Copy> RealLink<UdpLink<R>, StreamLink<TcpStreams<R>>>
+impl<R: Net + Drop + Copy> SocketLink<R>
 where
     TcpStreams<R>: Streams,
 {
-    /// A link over UDP or over TCP that isn't attached; `attach` opens it through `net`.
-    pub fn new(
-        alloc: Global,
-        net: R,
-    ) -> Result<RealLink<UdpLink<R>, StreamLink<TcpStreams<R>>>, AllocError> {
+    /// A link that isn't attached; `attach` opens it through `net`.
+    pub fn new(alloc: Global, net: R) -> Result<SocketLink<R>, AllocError> {
         Ok(RealLink {
             datagrams: UdpLink::new(alloc, net)?,
             streams: StreamLink::new(alloc, PEERS, TcpStreams::new(alloc, net)?)?,

@@ -1,5 +1,5 @@
 //! Programs of the system.
-ghost use Rattle.std.specs.Prelude.{◌≡◌, ◌+◌, [], length, IfOk, OnOk, OnErr, None};
+ghost use Rattle.std.specs.Prelude.{◌≡◌, [], length, None};
 ghost use Rattle.vr_spawn.specs.Spawning.{IsNumbered};
 
 use crate::counting::counted;

@@ -180,10 +180,9 @@ pub fn put_stream(slots: &mut Vec<Slot>, at: usize, stream: TcpStream)
 
 /// Whether the stream at a port is known to be made.
 pub fn stands_at(slots: &Vec<Slot>, at: usize) -> bool {
-    match slots.get(at) {
-        Some(slot) => slot.stands && slot.stream.is_some(),
-        None => false,
-    }
+    slots
+        .get(at)
+        .is_some_and(|slot| slot.stands && slot.stream.is_some())
 }
 
 /// Whether a stream to the peer of a port is to be begun. Then that counts as begun now.

@@ -1,10 +1,11 @@
 //! Streams over TCP.
-ghost use Rattle.std.specs.Prelude.{◌≡◌, ◌≤◌, ◌+◌, ℕ, IfOk, IfSome, OnOk, OnErr, None, length, vec_len};
-ghost use Rattle.vr_edge.specs.Streaming.{IsPolled, IsPort};
+ghost use Rattle.std.specs.Prelude.{◌≡◌, ◌≤◌, ◌+◌, IfOk, IfSome, OnOk, OnErr, None, length, vec_len};
+ghost use Rattle.vr_edge.specs.Streaming.{IsPolled};
 
 use crate::addresses::{address_of, addresses_of};
 use crate::counting::counted;
 use crate::descriptors::has_descriptors;
+use crate::real_clock::millis_of;
 use crate::slots::{
     ENTRANCE, Slot, begins_at, empty_slots, is_free, note, put_stream, read_ready, stands_at,
     take_in,
@@ -60,10 +61,7 @@ pub struct TcpStreams<R> {
 
 /// The address at which streams of others are taken in.
 fn own_address(listener: &Option<TcpListener>) -> Option<SocketAddr> {
-    match listener {
-        Some(listener) => listener.local_addr().ok(),
-        None => None,
-    }
+    listener.as_ref()?.local_addr().ok()
 }
 
 impl<R: Drop> TcpStreams<R> {
@@ -125,21 +123,12 @@ impl<R: Drop> TcpStreams<R> {
         ensures others { self.new.call_faults ≡ self.old.call_faults }
     {
         let polled = read_ready(&mut self.slots, &mut self.next, to)?;
-        self.account(polled);
-        Some(polled)
-    }
-
-    /// Who has a place is told what came of its stream.
-    fn account(&mut self, polled: Polled)
-        ensures attached { vec_len self.new.peers ≡ vec_len self.old.peers }
-        ensures faults { self.new.faults ≡ self.old.faults }
-        ensures others { self.new.call_faults ≡ self.old.call_faults }
-    {
         match polled {
             Polled::Bytes(port, count) => self.hear(port, count),
             Polled::Ended(port) => self.free(port),
             Polled::Quiet => {}
         }
+        Some(polled)
     }
 
     /// So many bytes came at a port.
@@ -196,23 +185,7 @@ impl<R: Drop> TcpStreams<R> {
         ensures others { self.new.call_faults ≡ self.old.call_faults }
     {
         self.wait(millis)?;
-        match self.read(to) {
-            Some(polled) => Ok(polled),
-            None => Ok(Polled::Quiet),
-        }
-    }
-}
-
-impl<R: Clock> TcpStreams<R> {
-    /// Looks at the clock. Where that fails it is as if no time had gone by.
-    fn look_at_clock(&mut self)
-        ensures attached { vec_len self.new.peers ≡ vec_len self.old.peers }
-        ensures faults { self.new.faults ≡ self.old.faults }
-        ensures others { self.new.call_faults ≡ self.old.call_faults }
-    {
-        if let Ok(time) = self.net.monotonic() {
-            self.now = u64::try_from(time.as_millis()).unwrap_or(u64::MAX);
-        }
+        Ok(self.read(to).unwrap_or(Polled::Quiet))
     }
 }
 
@@ -253,7 +226,7 @@ impl<R: Net + Clock + Drop> TcpStreams<R> {
         if stands_at(&self.slots, at) {
             return Ok(());
         }
-        self.look_at_clock();
+        self.now = millis_of(&self.net, self.now);
         let (Some(address), Some(poll)) = (self.peers.get(at), &self.poll) else {
             return Ok(());
         };
@@ -331,18 +304,14 @@ impl<R: Net + Clock + Drop> Streams for TcpStreams<R> {
     }
 
     fn poll(&mut self, to: &mut [u8]) -> Result<Polled, StreamFailed> {
-        self.look_at_clock();
-        match self.find(to) {
-            Ok(polled) => Ok(polled),
-            Err(error) => counted(Err(error), &mut self.faults, StreamFailed),
-        }
+        self.now = millis_of(&self.net, self.now);
+        let found = self.find(to);
+        counted(found, &mut self.faults, StreamFailed)
     }
 
     fn write(&mut self, port: u32, bytes: &[u8]) -> Result<usize, StreamFailed> {
-        match self.put(port, bytes) {
-            Ok(count) => Ok(count),
-            Err(error) => counted(Err(error), &mut self.call_faults, StreamFailed),
-        }
+        let written = self.put(port, bytes);
+        counted(written, &mut self.call_faults, StreamFailed)
     }
 
     fn close(&mut self, port: u32) -> Result<(), StreamFailed> {

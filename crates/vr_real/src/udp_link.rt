@@ -1,6 +1,5 @@
 //! A link over a socket of datagrams.
 ghost use Rattle.std.specs.Prelude.{◌≡◌, ◌≤◌, None, vec_capacity};
-ghost use Rattle.vr_base.specs.Causes.{HasCause};
 
 use crate::addresses::{address_of, addresses_of};
 use crate::counting::counted;

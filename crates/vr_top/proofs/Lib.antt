@@ -4,3 +4,4 @@ pub mod Counts
 pub mod Coming
 pub mod OneLog
 pub mod Lines
+pub mod Begun

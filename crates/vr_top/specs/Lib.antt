@@ -4,3 +4,5 @@ pub mod Answers
 pub mod Causes
 pub mod Ends
 pub mod Telling
+pub mod Making
+pub mod Beginning

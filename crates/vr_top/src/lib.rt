@@ -3,8 +3,12 @@
 #![tactic(auto)]
 
 mod command;
+mod maker;
 mod roles;
 mod telling;
+mod whole;
 
 pub use command::run;
+pub use maker::{Maker, Untold};
 pub use telling::finish;
+pub use whole::run_outside;

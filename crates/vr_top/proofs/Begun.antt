@@ -1,0 +1,90 @@
+-- What a program comes to, call by call of its maker.
+use Rattle.std.proofs.Common.{◌≡◌, ℕ, List, [], ◌∷◌, Option, Some, None, Bool, true, false, Result, Ok, Err, arith, subst}
+use Rattle.std.proofs.lemmas.Grind.{common_steps}
+use Rattle.std.specs.Prelude.{◌≢◌, IsErr, MatchResult}
+use Rattle.std.specs.Result.{result_unwrap_or}
+use Rattle.std.specs.declared.alloc.AllocError.{AllocError}
+use Rattle.vr_edge.specs.Told.{Grows}
+use Rattle.vr_status.specs.declared.status.Status.{Status}
+use Rattle.vr_status.specs.declared.status.Status.TheVariants.{NoMemory}
+use Rattle.vr_top.specs.Beginning.{Began, Comes, Makes, makes, no_disk, no_ground, no_link, no_path, no_words, path_told, runs, words_after}
+use Rattle.vr_top.specs.Ends.{Ends}
+use Rattle.vr_top.specs.Making.{Clock, Disk, Ground, Link, Making, Path, Sink, Source, Spawner, Words}
+use Rattle.vr_top.specs.Outside.{Outside}
+use Rattle.vr_top.specs.declared.maker.Untold.{Untold}
+use Rattle.vr_top.specs.declared.maker.Untold.TheVariants as untold
+use Rattle.vr_words.specs.Asked.{asked}
+
+-- one call, and then others
+call_and : {X : Type 0} (a b c : Option (List X)) (x : X) (ys : List X) → Grows a b (x ∷ []) → Grows b c ys → Grows a c (x ∷ ys)
+call_and None None c x ys one more = more
+call_and None (Some l) c x ys one more = absurd (let clash : Some l ≡ None = one in cc)
+call_and (Some l) None None x ys one more = tt
+call_and (Some l) None (Some n) x ys one more = absurd (let clash : Some n ≡ None = more in cc)
+call_and (Some l) (Some m) None x ys one more = tt
+call_and (Some l) (Some m) (Some n) x ys one more = rw (more, one) (grind (arith, common_steps))
+
+-- what failed is told so
+pub failed : {A E Q : Type 0} (P : A → Type 0) (r : Result A E) → IsErr r → Q → MatchResult r P (λ e. Q)
+failed P (Ok x) is q = absurd (let clash : false ≡ true = is in cc)
+failed P (Err e) is q = q
+
+-- without its ground a program comes to want of memory
+pub groundless : {S K D L C P T : Type 0} (told : S → K → D → L → C → P → Outside S K D L C P) (there : Bool) (a b : Option (List (Making S K D L C P T)))
+    → there ≡ false → Grows a b (Ground there ∷ []) → Began (Comes told) a b NoMemory
+groundless told there a b is one = (Ground false ∷ [], (rw is at one), no_ground)
+
+-- and on its ground to what comes of what is made
+pub grounded : {S K D L C P T : Type 0} (told : S → K → D → L → C → P → Outside S K D L C P) (there : Bool) (a b c : Option (List (Making S K D L C P T)))
+    (r : Result Status AllocError) → there ≡ true → Grows a b (Ground there ∷ []) → MatchResult r (λ status. Began (Makes told) b c status) (λ e. Began (Makes told) b c NoMemory)
+    → Began (Comes told) a c (result_unwrap_or r NoMemory)
+grounded told there a b c (Ok status) is one more = (Ground true ∷ more.0, call_and a b c (Ground true) more.0 (rw is at one) more.1, makes more.0 status more.2)
+grounded told there a b c (Err e) is one more = (Ground true ∷ more.0, call_and a b c (Ground true) more.0 (rw is at one) more.1, makes more.0 NoMemory more.2)
+
+-- memory is short for the words
+pub short_of_words : {S K D L C P T : Type 0} (told : S → K → D → L → C → P → Outside S K D L C P) (words : Result (List (List ℕ)) Untold) (a b : Option (List (Making S K D L C P T)))
+    → words ≡ Err untold.NoMemory → Grows a b (Words words ∷ []) → Began (Makes told) a b NoMemory
+short_of_words told words a b is one = (Words (Err untold.NoMemory) ∷ [], (rw is at one), no_words)
+
+-- for the disk
+pub short_of_disk : {S K D L C P T : Type 0} (told : S → K → D → L → C → P → Outside S K D L C P) (words : Result (List (List ℕ)) Untold) (s : S) (k : K)
+    (disk : Result D AllocError) (e : AllocError) (a b c d f : Option (List (Making S K D L C P T))) → words ≢ Err untold.NoMemory → disk ≡ Err e
+    → Grows a b (Words words ∷ []) → Grows b c (Source s ∷ []) → Grows c d (Sink k ∷ []) → Grows d f (Disk disk ∷ []) → Began (Makes told) a f NoMemory
+short_of_disk told words s k disk e a b c d f there is gw gs gk gd =
+    (_, call_and a b f _ _ gw (call_and b c f _ _ gs (call_and c d f _ _ gk (rw is at gd))), no_disk words s k e there)
+
+-- for the link
+pub short_of_link : {S K D L C P T : Type 0} (told : S → K → D → L → C → P → Outside S K D L C P) (words : Result (List (List ℕ)) Untold) (s : S) (k : K)
+    (disk : Result D AllocError) (d : D) (link : Result L AllocError) (e : AllocError) (g0 g1 g2 g3 g4 g5 : Option (List (Making S K D L C P T)))
+    → words ≢ Err untold.NoMemory → disk ≡ Ok d → link ≡ Err e
+    → Grows g0 g1 (Words words ∷ []) → Grows g1 g2 (Source s ∷ []) → Grows g2 g3 (Sink k ∷ []) → Grows g3 g4 (Disk disk ∷ []) → Grows g4 g5 (Link link ∷ [])
+    → Began (Makes told) g0 g5 NoMemory
+short_of_link told words s k disk d link e g0 g1 g2 g3 g4 g5 there is fails gw gs gk gd gl =
+    (_, call_and g0 g1 g5 _ _ gw (call_and g1 g2 g5 _ _ gs (call_and g2 g3 g5 _ _ gk (call_and g3 g4 g5 _ _ (rw is at gd) (rw fails at gl)))), no_link words s k d e there)
+
+-- for the path
+pub short_of_path : {S K D L C P T : Type 0} (told : S → K → D → L → C → P → Outside S K D L C P) (words : Result (List (List ℕ)) Untold) (s : S) (k : K)
+    (disk : Result D AllocError) (d : D) (link : Result L AllocError) (l : L) (c : C) (path : Result T Untold) (g0 g1 g2 g3 g4 g5 g6 g7 : Option (List (Making S K D L C P T)))
+    → words ≢ Err untold.NoMemory → disk ≡ Ok d → link ≡ Ok l → path ≡ Err untold.NoMemory
+    → Grows g0 g1 (Words words ∷ []) → Grows g1 g2 (Source s ∷ []) → Grows g2 g3 (Sink k ∷ []) → Grows g3 g4 (Disk disk ∷ []) → Grows g4 g5 (Link link ∷ [])
+    → Grows g5 g6 (Clock c ∷ []) → Grows g6 g7 (Path path ∷ []) → Began (Makes told) g0 g7 NoMemory
+short_of_path told words s k disk d link l c path g0 g1 g2 g3 g4 g5 g6 g7 there is has fails gw gs gk gd gl gc gp = (
+  _,
+  call_and g0 g1 g7 _ _ gw (call_and g1 g2 g7 _ _ gs (call_and g2 g3 g7 _ _ gk (call_and g3 g4 g7 _ _ (rw is at gd) (call_and g4 g5 g7 _ _ (rw has at gl) (call_and g5 g6 g7 _ _ gc (rw fails at gp)))))),
+  no_path words s k d l c there,
+)
+
+-- and for nothing
+pub short_of_nothing : {S K D L C P T : Type 0} (told : S → K → D → L → C → P → Outside S K D L C P) (words : Result (List (List ℕ)) Untold) (after : List (List ℕ)) (s : S) (k : K)
+    (disk : Result D AllocError) (d : D) (link : Result L AllocError) (l : L) (c : C) (path : Result T Untold) (at : Option T) (p : P) (o : Outside S K D L C P) (status : Status)
+    (g0 g1 g2 g3 g4 g5 g6 g7 g8 : Option (List (Making S K D L C P T)))
+    → after ≡ words_after words → words ≢ Err untold.NoMemory → disk ≡ Ok d → link ≡ Ok l → at ≡ path_told path → path ≢ Err untold.NoMemory
+    → Grows g0 g1 (Words words ∷ []) → Grows g1 g2 (Source s ∷ []) → Grows g2 g3 (Sink k ∷ []) → Grows g3 g4 (Disk disk ∷ []) → Grows g4 g5 (Link link ∷ [])
+    → Grows g5 g6 (Clock c ∷ []) → Grows g6 g7 (Path path ∷ []) → Grows g7 g8 (Spawner at p ∷ [])
+    → Ends (asked after) (told s k d l c p) o status → Began (Makes told) g0 g8 status
+short_of_nothing told words after s k disk d link l c path at p o status g0 g1 g2 g3 g4 g5 g6 g7 g8 are there is has tells known gw gs gk gd gl gc gp gr ends = (
+  _,
+  call_and g0 g1 g8 _ _ gw (call_and g1 g2 g8 _ _ gs (call_and g2 g3 g8 _ _ gk (call_and g3 g4 g8 _ _ (rw is at gd) (call_and g4 g5 g8 _ _ (rw has at gl)
+      (call_and g5 g6 g8 _ _ gc (call_and g6 g7 g8 _ _ gp (rw tells at gr))))))),
+  runs words s k d l c path p o status there known (subst (λ words'. Ends (asked words') (told s k d l c p) o status) are ends),
+)

@@ -1,0 +1,23 @@
+-- What a maker tells of its calls.
+use Rattle.std.specs.Global.{Global}
+use Rattle.std.specs.Prelude.{ℕ, Bool, List, Option, Result, Ok, Err, String, Vec}
+use Rattle.std.specs.declared.alloc.AllocError.{AllocError}
+use Rattle.vr_edge.specs.Attaching.{texts_of}
+use Rattle.vr_top.specs.declared.maker.Untold.{Untold}
+
+-- a call of a maker, with what it gave
+pub data Making (S K D L C P T : Type 0) : Type 0 where
+  Ground : Bool → Making S K D L C P T
+  Words : Result (List (List ℕ)) Untold → Making S K D L C P T
+  Source : S → Making S K D L C P T
+  Sink : K → Making S K D L C P T
+  Disk : Result D AllocError → Making S K D L C P T
+  Link : Result L AllocError → Making S K D L C P T
+  Clock : C → Making S K D L C P T
+  Path : Result T Untold → Making S K D L C P T
+  Spawner : Option T → P → Making S K D L C P T
+
+-- the words as they are told
+abbrev pub texts_told : Result (Vec (String Global) Global) Untold → Result (List (List ℕ)) Untold
+texts_told (Ok words) = Ok (texts_of words.items)
+texts_told (Err why) = Err why
