@@ -44,32 +44,32 @@ all_255 zero i = omega arith
 all_255 (suc n) zero = omega arith
 all_255 (suc n) (suc i) = all_255 n i
 
-module _ (made : List Header) where
-  module _ (f : Face) (s : HasSectors (IsSealed made) f) where
+module _ (cluster : ℕ) (made : List Header) where
+  module _ (f : Face) (s : HasSectors (IsSealed cluster made) f) where
     -- each of them is sealed
-    pub together_sealed : (n i : ℕ) (b : List ℕ) → i + n ≤ sectors → together i n f ≡ Some b → (j : ℕ) → j < n → IsSealed made (piece (0 + 512 * j) 512 b)
+    pub together_sealed : (n i : ℕ) (b : List ℕ) → i + n ≤ sectors → together i n f ≡ Some b → (j : ℕ) → j < n → IsSealed cluster made (piece (0 + 512 * j) 512 b)
     unfolding piece
     together_sealed zero i b l e j p = absurd (omega (arith, p))
     together_sealed (suc n) i b l e zero p =
         let x = behind_parts (reads f i) (together (i + 1) n f) b (sym (together_cons n i f) ∙ e) in
-        let one = (has_at (IsSealed made) f i s (omega (arith, l))).reads x.0 x.2 in
+        let one = (has_at (IsSealed cluster made) f i s (omega (arith, l))).reads x.0 x.2 in
         let same : x.0 ≡ take 512 b = sym (take_at x.0 x.1 512 one.content.size) ∙ ap (take 512) (sym x.4) in
-        subst (IsSealed made) same one
+        subst (IsSealed cluster made) same one
     together_sealed (suc n) i b l e (suc j) p =
         let x = behind_parts (reads f i) (together (i + 1) n f) b (sym (together_cons n i f) ∙ e) in
-        let one = (has_at (IsSealed made) f i s (omega (arith, l))).reads x.0 x.2 in
+        let one = (has_at (IsSealed cluster made) f i s (omega (arith, l))).reads x.0 x.2 in
         let rest = together_sealed n (i + 1) x.1 (omega (arith, l)) x.3 j (omega (arith, p)) in
         let place : 512 + (0 + 512 * j) ≡ 0 + 512 * suc j = omega arith in
         let same : drop (0 + 512 * j) x.1 ≡ drop (0 + 512 * suc j) b =
         ap (drop (0 + 512 * j)) (sym (drop_at x.0 x.1 512 one.content.size) ∙ ap (drop 512) (sym x.4)) ∙ (drop_both 512 (0 + 512 * j) b ∙ ap (λ (k : ℕ). drop k b) place) in
-        subst (λ (y : List ℕ). IsSealed made (take 512 y)) same rest
+        subst (λ (y : List ℕ). IsSealed cluster made (take 512 y)) same rest
 
     together_full : (n i : ℕ) (b : List ℕ) → i + n ≤ sectors → together i n f ≡ Some b → IsFull n b
     unfolding together
     together_full zero i b l e = let same : [] ≡ b = cc in subst (IsFull 0) same (record { size = refl; each = λ k. omega arith })
     together_full (suc n) i b l e =
         let x = behind_parts (reads f i) (together (i + 1) n f) b e in
-        let one = ((has_at (IsSealed made) f i s (omega (arith, l))).reads x.0 x.2).content in
+        let one = ((has_at (IsSealed cluster made) f i s (omega (arith, l))).reads x.0 x.2).content in
         let rest = together_full n (i + 1) x.1 (omega (arith, l)) x.3 in
         let both : IsFull (suc n) (x.0 ++ x.1) = record { size = (let a = length-append x.0 x.1 in let b = one.size in let c = rest.size in omega (arith, a, b, c)); each = IsBytes-append x.0 x.1 one.each rest.each } in
         subst (IsFull (suc n)) (sym x.4) both
@@ -78,20 +78,20 @@ module _ (made : List Header) where
 
   -- each of its sectors is
   abbrev AreSealedPieces : List ℕ → Type 0
-  AreSealedPieces b = (j : ℕ) → j < 8 → IsSealed made (piece (0 + 512 * j) 512 b)
+  AreSealedPieces b = (j : ℕ) → j < 8 → IsSealed cluster made (piece (0 + 512 * j) 512 b)
 
   ones_pieces : AreSealedPieces (replicate 4096 255)
   ones_pieces j l =
       let k = 0 + 512 * j in
       let b : List ℕ = replicate 4096 255 in
       let n = length-replicate {A = ℕ} 4096 255 in
-      ones_sealed made (piece k 512 b) (piece_content k b (all_255 4096) (omega (arith, l, n))) (get_or-piece k 512 110 b (omega arith) ∙ get_or-replicate {A = ℕ} 4096 (k + 110) 255 0 (omega (arith, l)))
+      ones_sealed cluster made (piece k 512 b) (piece_content k b (all_255 4096) (omega (arith, l, n))) (get_or-piece k 512 110 b (omega arith) ∙ get_or-replicate {A = ℕ} 4096 (k + 110) 255 0 (omega (arith, l)))
 
   piece_front : (k : ℕ) (b z : List ℕ) → k + 512 ≤ length b → piece k 512 (b ++ z) ≡ piece k 512 b
   unfolding piece
   piece_front k b z l = let n = length-drop k b in ap (take 512) (drop-append-le k b z (omega (arith, l))) ∙ take-append-le 512 (drop k b) z (omega (arith, l, n))
 
-  padded_pieces : (n : ℕ) (b : List ℕ) → n ≤ 8 → IsFull n b → ((j : ℕ) → j < n → IsSealed made (piece (0 + 512 * j) 512 b)) → AreSealedPieces (b ++ replicate (4096 - 512 * n) 0)
+  padded_pieces : (n : ℕ) (b : List ℕ) → n ≤ 8 → IsFull n b → ((j : ℕ) → j < n → IsSealed cluster made (piece (0 + 512 * j) 512 b)) → AreSealedPieces (b ++ replicate (4096 - 512 * n) 0)
   padded_pieces n b most w each j l =
       let k = 0 + 512 * j in
       let z : List ℕ = replicate (4096 - 512 * n) 0 in
@@ -99,18 +99,18 @@ module _ (made : List Header) where
       let long = length-append b z in
       let zeros = length-replicate {A = ℕ} (4096 - 512 * n) 0 in
       elim (cases_lt j n) [
-        | inl there ↦ subst (IsSealed made) (sym (piece_front k b z (omega (arith, there, size)))) (each j there)
+        | inl there ↦ subst (IsSealed cluster made) (sym (piece_front k b z (omega (arith, there, size)))) (each j there)
         | inr behind ↦
             let zero_there : get_or (b ++ z) (k + 110) 0 ≡ 0 =
             get_or-append_right b z (length b) (k + 110) 0 refl (omega (arith, behind, size)) ∙ get_or-replicate {A = ℕ} (4096 - 512 * n) (k + 110 - length b) 0 0 (omega (arith, behind, size, l)) in
-            at_piece made k (b ++ z) (piece_content k (b ++ z) (IsBytes-append b z w.each (IsBytes-zeros (4096 - 512 * n))) (omega (arith, long, zeros, size, l, most))) (inl zero_there)
+            at_piece cluster made k (b ++ z) (piece_content k (b ++ z) (IsBytes-append b z w.each (IsBytes-zeros (4096 - 512 * n))) (omega (arith, long, zeros, size, l, most))) (inl zero_there)
       ]
 
   moved_pieces : (o : Option (List ℕ)) → ((p : List ℕ) → o ≡ Some p → AreSealedPieces p) → AreSealedPieces (moved_of o)
   moved_pieces None h = ones_pieces
   moved_pieces (Some p) h = elim (is_movable p) as (λ t. AreSealedPieces (cond t p (replicate 4096 255))) [ true ↦ h p refl | false ↦ ones_pieces ]
 
-  relocated_pieces : (f : Face) → HasSectors (IsSealed made) f → (slot : ℕ) → slot < 64 → AreSealedPieces (relocated f slot)
+  relocated_pieces : (f : Face) → HasSectors (IsSealed cluster made) f → (slot : ℕ) → slot < 64 → AreSealedPieces (relocated f slot)
   relocated_pieces f s slot l =
       let place = prepare_place 1 slot in
       let within = inside 1 slot l in
@@ -120,12 +120,12 @@ module _ (made : List Header) where
 
   -- ---- all of them
 
-  moves_sealed : (new : ℕ → List ℕ) → ((slot : ℕ) → slot < 64 → AreSealedPieces (new slot)) → (n slot : ℕ) → slot + n ≤ 64 → AllByRecursion (Puts (IsSealed made)) (moves slot n new)
+  moves_sealed : (new : ℕ → List ℕ) → ((slot : ℕ) → slot < 64 → AreSealedPieces (new slot)) → (n slot : ℕ) → slot + n ≤ 64 → AllByRecursion (Puts (IsSealed cluster made)) (moves slot n new)
   unfolding moves
   moves_sealed new h zero slot l = tt
   moves_sealed new h (suc n) slot l =
-      seals_append made (writes (prepare_place 2 slot) (prepare_sectors 2) (new slot)) (moves (slot + 1) n new)
-      (seals_writes made 8 (prepare_place 2 slot) 0 (new slot) (inside 2 slot (omega (arith, l))) (h slot (omega (arith, l)))) (moves_sealed new h n (slot + 1) (omega (arith, l)))
+      seals_append cluster made (writes (prepare_place 2 slot) (prepare_sectors 2) (new slot)) (moves (slot + 1) n new)
+      (seals_writes cluster made 8 (prepare_place 2 slot) 0 (new slot) (inside 2 slot (omega (arith, l))) (h slot (omega (arith, l)))) (moves_sealed new h n (slot + 1) (omega (arith, l)))
 
 pub moves_are_sealed : MovesAreSealed
-moves_are_sealed made f s = seals_append made (moves 0 64 (relocated f)) (Sync ∷ []) (moves_sealed made (relocated f) (relocated_pieces made f s) 64 0 (omega arith)) (tt, tt)
+moves_are_sealed cluster made f s = seals_append cluster made (moves 0 64 (relocated f)) (Sync ∷ []) (moves_sealed cluster made (relocated f) (relocated_pieces cluster made f s) 64 0 (omega arith)) (tt, tt)

@@ -105,45 +105,45 @@ take_less (suc n) zero b l = absurd (omega (arith, l))
 take_less (suc n) (suc m) [] l = refl
 take_less (suc n) (suc m) (x ∷ b) l = ap (λ ys. x ∷ ys) (take_less n m b (omega (arith, l)))
 
-module _ (made : List Header) where
+module _ (cluster : ℕ) (made : List Header) where
   -- what stands at a place of a sector
-  pub at_piece : (k : ℕ) (b : List ℕ) → IsContent (piece k 512 b) → IsPlain (get_or b (k + 110) 0) → IsSealed made (piece k 512 b)
+  pub at_piece : (k : ℕ) (b : List ℕ) → IsContent (piece k 512 b) → IsPlain (get_or b (k + 110) 0) → IsSealed cluster made (piece k 512 b)
   at_piece k b c p =
       let e = get_or-piece k 512 110 b (omega arith) in
       elim p [
-        | inl z ↦ plain_sealed made (piece k 512 b) c (inl (e ∙ z))
-        | inr t ↦ plain_sealed made (piece k 512 b) c (inr (omega (arith, e, t), omega (arith, e, t)))
+        | inl z ↦ plain_sealed cluster made (piece k 512 b) c (inl (e ∙ z))
+        | inr t ↦ plain_sealed cluster made (piece k 512 b) c (inr (omega (arith, e, t), omega (arith, e, t)))
       ]
 
   -- ---- calls that write pieces
 
-  pub seals_append : (cs ds : List Call) → AllByRecursion (Puts (IsSealed made)) cs → AllByRecursion (Puts (IsSealed made)) ds → AllByRecursion (Puts (IsSealed made)) (cs ++ ds)
+  pub seals_append : (cs ds : List Call) → AllByRecursion (Puts (IsSealed cluster made)) cs → AllByRecursion (Puts (IsSealed cluster made)) ds → AllByRecursion (Puts (IsSealed cluster made)) (cs ++ ds)
   seals_append [] ds a b = b
   seals_append (c ∷ cs) ds a b = (a.0, seals_append cs ds a.1 b)
 
-  pub seals_writes : (n i k : ℕ) (b : List ℕ) → i + n ≤ sectors → ((j : ℕ) → j < n → IsSealed made (piece (k + 512 * j) 512 b)) → AllByRecursion (Puts (IsSealed made)) (writes i n (drop k b))
+  pub seals_writes : (n i k : ℕ) (b : List ℕ) → i + n ≤ sectors → ((j : ℕ) → j < n → IsSealed cluster made (piece (k + 512 * j) 512 b)) → AllByRecursion (Puts (IsSealed cluster made)) (writes i n (drop k b))
   unfolding writes piece
   seals_writes zero i k b l h = tt
   seals_writes (suc n) i k b l h =
       let z : k + 512 * 0 ≡ k = omega arith in
-      let first : IsSealed made (piece 0 512 (drop k b)) = subst (λ (m : ℕ). IsSealed made (take 512 (drop m b))) z (h 0 (omega arith)) in
+      let first : IsSealed cluster made (piece 0 512 (drop k b)) = subst (λ (m : ℕ). IsSealed cluster made (take 512 (drop m b))) z (h 0 (omega arith)) in
       let m : k + 512 ≡ k + 512 = refl in
-      let rest = seals_writes n (i + 1) (k + 512) b (omega (arith, l)) (λ j p. (let e : k + 512 * suc j ≡ k + 512 + 512 * j = omega arith in subst (λ (m : ℕ). IsSealed made (take 512 (drop m b))) e (h (suc j) (omega (arith, p))))) in
-      ((omega (arith, l), first), subst (λ (x : List ℕ). AllByRecursion (Puts (IsSealed made)) (writes (i + 1) n x)) (sym (drop_both k 512 b)) rest)
+      let rest = seals_writes n (i + 1) (k + 512) b (omega (arith, l)) (λ j p. (let e : k + 512 * suc j ≡ k + 512 + 512 * j = omega arith in subst (λ (m : ℕ). IsSealed cluster made (take 512 (drop m b))) e (h (suc j) (omega (arith, p))))) in
+      ((omega (arith, l), first), subst (λ (x : List ℕ). AllByRecursion (Puts (IsSealed cluster made)) (writes (i + 1) n x)) (sym (drop_both k 512 b)) rest)
 
   -- ---- slots
 
-  pub header_sealed : (h : Header) → IsHeader h → IsContent (sector_of h) → (is_entry_header h ≡ true → h.op < spelled_from h.cluster → In h made) → IsSealed made (sector_of h)
-  header_sealed h i c m = headed_sealed made (sector_of h) h c i (sector_spells h i) m
+  pub header_sealed : (h : Header) → IsHeader h → IsContent (sector_of h) → (is_entry_header h ≡ true → h.op < spelled_from h.cluster → h.cluster ≡ cluster → In h made) → IsSealed cluster made (sector_of h)
+  header_sealed h i c m = headed_sealed cluster made (sector_of h) h c i (sector_spells h i) m
 
-  prepare_piece : (e : Whole) → IsWhole e → IsBytes (prepare_bytes e) → length (prepare_bytes e) ≡ 4096 → In e.header made → (j : ℕ) → j < 8 → IsSealed made (piece (0 + 512 * j) 512 (prepare_bytes e))
+  prepare_piece : (e : Whole) → IsWhole e → IsBytes (prepare_bytes e) → length (prepare_bytes e) ≡ 4096 → In e.header made → (j : ℕ) → j < 8 → IsSealed cluster made (piece (0 + 512 * j) 512 (prepare_bytes e))
   unfolding piece
   prepare_piece e w are size m zero l =
       let c = piece_content 0 (prepare_bytes e) are (omega (arith, size)) in
-      headed_sealed made (piece 0 512 (prepare_bytes e)) e.header c w.header (take_less 128 512 (prepare_bytes e) (omega arith) ∙ prepare_spells e w.header) (λ _ _. m)
+      headed_sealed cluster made (piece 0 512 (prepare_bytes e)) e.header c w.header (take_less 128 512 (prepare_bytes e) (omega arith) ∙ prepare_spells e w.header) (λ _ _ _. m)
   prepare_piece e w are size m (suc j) l = at_piece (0 + 512 * suc j) (prepare_bytes e) (piece_content (0 + 512 * suc j) (prepare_bytes e) are (omega (arith, size, l))) (prepare_plain e w (0 + 512 * suc j + 110) (omega arith))
 
-  prepare_sealed : (version : ℕ) (e : Whole) → IsWhole e → IsBytes (prepare_bytes e) → length (prepare_bytes e) ≡ 4096 → In e.header made → AllByRecursion (Puts (IsSealed made)) (prepare_calls version e)
+  prepare_sealed : (version : ℕ) (e : Whole) → IsWhole e → IsBytes (prepare_bytes e) → length (prepare_bytes e) ≡ 4096 → In e.header made → AllByRecursion (Puts (IsSealed cluster made)) (prepare_calls version e)
   unfolding prepare_calls
   prepare_sealed version e w are size m =
       let slot = slot_of e.header in
@@ -152,15 +152,15 @@ module _ (made : List Header) where
       seals_append (writes (prepare_place version slot) n (prepare_bytes e)) (Sync ∷ [])
       (seals_writes n (prepare_place version slot) 0 (prepare_bytes e) (inside version slot (omega arith)) (λ j l. prepare_piece e w are size m j (omega (arith, l, most)))) (tt, tt)
 
-  pub header_calls_sealed : (h : Header) → IsHeader h → IsContent (sector_of h) → (h.op < spelled_from h.cluster → In h made) → AllByRecursion (Puts (IsSealed made)) (header_calls h)
+  pub header_calls_sealed : (h : Header) → IsHeader h → IsContent (sector_of h) → (h.op < spelled_from h.cluster → h.cluster ≡ cluster → In h made) → AllByRecursion (Puts (IsSealed cluster made)) (header_calls h)
   unfolding header_calls
-  header_calls_sealed h i c m = ((omega arith, header_sealed h i c (λ _ low. m low)), (tt, tt))
+  header_calls_sealed h i c m = ((omega arith, header_sealed h i c (λ _ low own. m low own)), (tt, tt))
 
-  pub new_sealed : (version : ℕ) (e : Whole) → IsWhole e → IsContent (sector_of e.header) → IsBytes (prepare_bytes e) → length (prepare_bytes e) ≡ 4096 → In e.header made → AllByRecursion (Puts (IsSealed made)) (new_calls version e)
-  new_sealed version e w c are size m = seals_append (prepare_calls version e) (header_calls e.header) (prepare_sealed version e w are size m) (header_calls_sealed e.header w.header c (λ _. m))
+  pub new_sealed : (version : ℕ) (e : Whole) → IsWhole e → IsContent (sector_of e.header) → IsBytes (prepare_bytes e) → length (prepare_bytes e) ≡ 4096 → In e.header made → AllByRecursion (Puts (IsSealed cluster made)) (new_calls version e)
+  new_sealed version e w c are size m = seals_append (prepare_calls version e) (header_calls e.header) (prepare_sealed version e w are size m) (header_calls_sealed e.header w.header c (λ _ _. m))
 
-  pub again_sealed : (version : ℕ) (e : Whole) → IsWhole e → IsContent (sector_of e.header) → IsBytes (prepare_bytes e) → length (prepare_bytes e) ≡ 4096 → In e.header made → AllByRecursion (Puts (IsSealed made)) (again_calls version e)
-  again_sealed version e w c are size m = seals_append (header_calls e.header) (prepare_calls version e) (header_calls_sealed e.header w.header c (λ _. m)) (prepare_sealed version e w are size m)
+  pub again_sealed : (version : ℕ) (e : Whole) → IsWhole e → IsContent (sector_of e.header) → IsBytes (prepare_bytes e) → length (prepare_bytes e) ≡ 4096 → In e.header made → AllByRecursion (Puts (IsSealed cluster made)) (again_calls version e)
+  again_sealed version e w c are size m = seals_append (header_calls e.header) (prepare_calls version e) (header_calls_sealed e.header w.header c (λ _ _. m)) (prepare_sealed version e w are size m)
 
 -- ---- copies of the superblock
 
@@ -206,7 +206,7 @@ blank_of b e =
     (and_parts (is_zeros (piece 94 34 b)) rest s.1).0
 
 -- the bytes behind the fields, from a header of the list on, or behind them all
-module _ (made : List Header) (v : SuperValue) (g : IsGood v) (are : IsBytes (copy_bytes v)) (m : AllByRecursion (λ h. In h made) v.headers) where
+module _ (cluster : ℕ) (made : List Header) (v : SuperValue) (g : IsGood v) (are : IsBytes (copy_bytes v)) (m : AllByRecursion (λ h. In h made) v.headers) where
   abbrev hs : List Header
   hs = v.headers
 
@@ -234,9 +234,9 @@ module _ (made : List Header) (v : SuperValue) (g : IsGood v) (are : IsBytes (co
       let all : piece 94 34 (copy_bytes v) ≡ replicate 34 0 = are_zeros (piece 94 34 (copy_bytes v)) zeros_there ∙ ap (λ k. replicate k 0) n in
       sym (get_or-piece 94 34 16 (copy_bytes v) (omega arith)) ∙ ap (λ b. get_or b 16 0) all
 
-  copy_piece : (j : ℕ) → j < 20 → IsSealed made (piece (0 + 512 * j) 512 (copy_bytes v))
+  copy_piece : (j : ℕ) → j < 20 → IsSealed cluster made (piece (0 + 512 * j) 512 (copy_bytes v))
   unfolding piece list_bytes
-  copy_piece zero l = at_piece made 0 (copy_bytes v) (piece_content 0 (copy_bytes v) are (let s = size in omega (arith, s))) (inl blank)
+  copy_piece zero l = at_piece cluster made 0 (copy_bytes v) (piece_content 0 (copy_bytes v) are (let s = size in omega (arith, s))) (inl blank)
   copy_piece (suc j) l =
       let k = 0 + 512 * suc j in
       let s = size in
@@ -253,32 +253,32 @@ module _ (made : List Header) (v : SuperValue) (g : IsGood v) (are : IsBytes (co
             ∙ (ap (drop (128 * n)) (behind_copy v g.numbers)
             ∙ (list_from hs n rest g.each (omega (arith, there)) ∙ (ap (λ ys. list_bytes ys ++ rest) x.2 ∙ append_assoc (header_bytes h) (list_bytes x.1) rest)))) in
             let spells : Spells h (take 512 (drop k (copy_bytes v))) = take_less 128 512 (drop k (copy_bytes v)) (omega arith) ∙ (ap (take 128) whole ∙ take_at (header_bytes h) (list_bytes x.1 ++ rest) 128 (length-header_bytes h x.3.0)) in
-            headed_sealed made (piece k 512 (copy_bytes v)) h c x.3.0 spells (λ _ _. x.3.1)
-        | inr none ↦ at_piece made k (copy_bytes v) c (subst IsPlain (sym (tail_at (k + 110) (omega arith))) (past_list (k + 110 - 128) (omega (arith, none))))
+            headed_sealed cluster made (piece k 512 (copy_bytes v)) h c x.3.0 spells (λ _ _ _. x.3.1)
+        | inr none ↦ at_piece cluster made k (copy_bytes v) c (subst IsPlain (sym (tail_at (k + 110) (omega arith))) (past_list (k + 110 - 128) (omega (arith, none))))
       ]
 
-  copy_sealed : (copy : ℕ) → copy < 4 → AllByRecursion (Puts (IsSealed made)) (copy_calls copy (copy_bytes v))
+  copy_sealed : (copy : ℕ) → copy < 4 → AllByRecursion (Puts (IsSealed cluster made)) (copy_calls copy (copy_bytes v))
   unfolding copy_calls
-  copy_sealed copy l = seals_append made (writes (20 * copy) 20 (copy_bytes v)) (Sync ∷ []) (seals_writes made 20 (20 * copy) 0 (copy_bytes v) (omega (arith, l)) copy_piece) (tt, tt)
+  copy_sealed copy l = seals_append cluster made (writes (20 * copy) 20 (copy_bytes v)) (Sync ∷ []) (seals_writes cluster made 20 (20 * copy) 0 (copy_bytes v) (omega (arith, l)) copy_piece) (tt, tt)
 
-  mend_copy_sealed : (copy : ℕ) → copy < 4 → AllByRecursion (Puts (IsSealed made)) (mend_copy copy (copy_bytes v))
+  mend_copy_sealed : (copy : ℕ) → copy < 4 → AllByRecursion (Puts (IsSealed cluster made)) (mend_copy copy (copy_bytes v))
   unfolding mend_copy
   mend_copy_sealed copy l =
-      let later = seals_writes made 19 (20 * copy + 1) 512 (copy_bytes v) (omega (arith, l)) (λ j p. (let e : 0 + 512 * suc j ≡ 512 + 512 * j = omega arith in subst (λ i. IsSealed made (piece i 512 (copy_bytes v))) e (copy_piece (suc j) (omega (arith, p))))) in
-      ((omega (arith, l), copy_piece 0 (omega arith)), (tt, seals_append made (writes (20 * copy + 1) 19 (drop 512 (copy_bytes v))) (Sync ∷ []) later (tt, tt)))
+      let later = seals_writes cluster made 19 (20 * copy + 1) 512 (copy_bytes v) (omega (arith, l)) (λ j p. (let e : 0 + 512 * suc j ≡ 512 + 512 * j = omega arith in subst (λ i. IsSealed cluster made (piece i 512 (copy_bytes v))) e (copy_piece (suc j) (omega (arith, p))))) in
+      ((omega (arith, l), copy_piece 0 (omega arith)), (tt, seals_append cluster made (writes (20 * copy + 1) 19 (drop 512 (copy_bytes v))) (Sync ∷ []) later (tt, tt)))
 
-  mends_sealed : (n k : ℕ) (f : Face) → k + n ≤ 4 → AllByRecursion (Puts (IsSealed made)) (mend_from k n (copy_bytes v) f)
+  mends_sealed : (n k : ℕ) (f : Face) → k + n ≤ 4 → AllByRecursion (Puts (IsSealed cluster made)) (mend_from k n (copy_bytes v) f)
   unfolding mend_from
   mends_sealed zero k f l = tt
   mends_sealed (suc n) k f l =
       let b = copy_bytes v in
-      let first : AllByRecursion (Puts (IsSealed made)) (mend_unless k b f) = elim (has b (copy_reading f k)) as (λ t. AllByRecursion (Puts (IsSealed made)) (cond t [] (mend_copy k b))) [ true ↦ tt | false ↦ mend_copy_sealed k (omega (arith, l)) ] in
-      seals_append made (mend_unless k b f) (mend_from (k + 1) n b f) first (mends_sealed n (k + 1) f (omega (arith, l)))
+      let first : AllByRecursion (Puts (IsSealed cluster made)) (mend_unless k b f) = elim (has b (copy_reading f k)) as (λ t. AllByRecursion (Puts (IsSealed cluster made)) (cond t [] (mend_copy k b))) [ true ↦ tt | false ↦ mend_copy_sealed k (omega (arith, l)) ] in
+      seals_append cluster made (mend_unless k b f) (mend_from (k + 1) n b f) first (mends_sealed n (k + 1) f (omega (arith, l)))
 
-  pub saves_sealed : (n k : ℕ) → k + n ≤ 4 → AllByRecursion (Puts (IsSealed made)) (save_from k n (copy_bytes v))
+  pub saves_sealed : (n k : ℕ) → k + n ≤ 4 → AllByRecursion (Puts (IsSealed cluster made)) (save_from k n (copy_bytes v))
   unfolding save_from
   saves_sealed zero k l = tt
-  saves_sealed (suc n) k l = seals_append made (copy_calls k (copy_bytes v)) (save_from (k + 1) n (copy_bytes v)) (copy_sealed k (omega (arith, l))) (saves_sealed n (k + 1) (omega (arith, l)))
+  saves_sealed (suc n) k l = seals_append cluster made (copy_calls k (copy_bytes v)) (save_from (k + 1) n (copy_bytes v)) (copy_sealed k (omega (arith, l))) (saves_sealed n (k + 1) (omega (arith, l)))
 
-  pub mend_sealed : (f : Face) → AllByRecursion (Puts (IsSealed made)) (mend_calls v f)
+  pub mend_sealed : (f : Face) → AllByRecursion (Puts (IsSealed cluster made)) (mend_calls v f)
   mend_sealed f = mends_sealed 4 0 f (omega arith)

@@ -64,32 +64,36 @@ turned_version b h c f = let v = front_version (damaged b) h f in let t = turned
 abbrev pub IsFree : ℕ → Type 0
 IsFree x = (x ≡ 0) ⊎ ((3 ≤ x) × (x ≤ 252))
 
-module _ (made : List Header) where
-  pub plain_sealed : (b : List ℕ) → IsContent b → IsFree (get_or b 110 0) → IsSealed made b
-  plain_sealed b c (inl none) = record { content = c; front = λ h f. (let v = front_version b h f in absurd (omega (arith, none, v))); turned = λ h f. (let v = turned_version b h c f in absurd (omega (arith, none, v))) }
-  plain_sealed b c (inr other) = record { content = c; front = λ h f. (let v = front_version b h f in absurd (omega (arith, other, v))); turned = λ h f. (let v = turned_version b h c f in absurd (omega (arith, other, v))) }
+module _ (cluster : ℕ) (made : List Header) where
+  pub plain_sealed : (b : List ℕ) → IsContent b → IsFree (get_or b 110 0) → IsSealed cluster made b
+  plain_sealed b c (inl none) = record { content = c; front = λ h f _. (let v = front_version b h f in absurd (omega (arith, none, v))); turned = λ h f _. (let v = turned_version b h c f in absurd (omega (arith, none, v))) }
+  plain_sealed b c (inr other) = record { content = c; front = λ h f _. (let v = front_version b h f in absurd (omega (arith, other, v))); turned = λ h f _. (let v = turned_version b h c f in absurd (omega (arith, other, v))) }
 
   -- 255 is none either, and turned it is 0
-  pub ones_sealed : (b : List ℕ) → IsContent b → get_or b 110 0 ≡ 255 → IsSealed made b
-  ones_sealed b c e = record { content = c; front = λ h f. (let v = front_version b h f in absurd (omega (arith, e, v))); turned = λ h f. (let v = turned_version b h c f in absurd (omega (arith, e, v))) }
+  pub ones_sealed : (b : List ℕ) → IsContent b → get_or b 110 0 ≡ 255 → IsSealed cluster made b
+  ones_sealed b c e = record { content = c; front = λ h f _. (let v = front_version b h f in absurd (omega (arith, e, v))); turned = λ h f _. (let v = turned_version b h c f in absurd (omega (arith, e, v))) }
 
   same_read : (a b : Header) (r : Result Header HeaderFault) → r ≡ Ok a → r ≡ Ok b → a ≡ b
   same_read a b r e f = cc
 
   -- one that was made stands there, if it is that of an entry
-  pub headed_sealed : (b : List ℕ) (h : Header) → IsContent b → IsHeader h → Spells h b → (is_entry_header h ≡ true → h.op < spelled_from h.cluster → In h made) → IsSealed made b
+  pub headed_sealed : (b : List ℕ) (h : Header) → IsContent b → IsHeader h → Spells h b → (is_entry_header h ≡ true → h.op < spelled_from h.cluster → h.cluster ≡ cluster → In h made) → IsSealed cluster made b
   headed_sealed b h c i s m =
       let read = decoded_again h b i s in
       let version = (sound b (no_fault b h read)).version in
       record {
         content = c;
-        front = λ x f. (let same = same_read h x (decoded b) read f.reads in subst (λ (x : Header). In x made) same (m (subst (λ (x : Header). is_entry_header x ≡ true) (sym same) f.entry) (subst (λ (x : Header). x.op < spelled_from x.cluster) (sym same) f.low)));
-        turned = λ x f. (let v = turned_version b x c f in absurd (omega (arith, v, version)));
+        front = λ x f own.
+            let same = same_read h x (decoded b) read f.reads in
+            let entry = subst (λ (x : Header). is_entry_header x ≡ true) (sym same) f.entry in
+            let low = subst (λ (x : Header). x.op < spelled_from x.cluster) (sym same) f.low in
+            subst (λ (x : Header). In x made) same (m entry low (subst (λ (x : Header). x.cluster ≡ cluster) (sym same) own));
+        turned = λ x f _. (let v = turned_version b x c f in absurd (omega (arith, v, version)));
       }
 
-  pub turned_sealed : (b : List ℕ) → IsSealed made b → IsSealed made (damaged b)
-  turned_sealed b s = record { content = damaged_content b s.content; front = s.turned; turned = λ h f. s.front h (subst (λ (x : List ℕ). Fronts x h) (twice b s.content.each) f) }
+  pub turned_sealed : (b : List ℕ) → IsSealed cluster made b → IsSealed cluster made (damaged b)
+  turned_sealed b s = record { content = damaged_content b s.content; front = s.turned; turned = λ h f own. s.front h (subst (λ (x : List ℕ). Fronts x h) (twice b s.content.each) f) own }
 
 -- what is sealed stays so where more is made
-pub sealed_more : (some more : List Header) (b : List ℕ) → ((h : Header) → In h some → In h more) → IsSealed some b → IsSealed more b
-sealed_more some more b m s = record { content = s.content; front = λ h f. m h (s.front h f); turned = λ h f. m h (s.turned h f) }
+pub sealed_more : (cluster : ℕ) (some more : List Header) (b : List ℕ) → ((h : Header) → In h some → In h more) → IsSealed cluster some b → IsSealed cluster more b
+sealed_more cluster some more b m s = record { content = s.content; front = λ h f own. m h (s.front h f own); turned = λ h f own. m h (s.turned h f own) }

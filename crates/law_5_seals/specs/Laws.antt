@@ -37,27 +37,27 @@ pub record Lasts (P : List ℕ → Type 0) (f : Face) : Type 0 where
 
 -- what is sealed lasts
 abbrev pub SealsLast : Type 0
-SealsLast = (made : List Header) (f : Face) → HasSectors (IsSealed made) f → Lasts (IsSealed made) f
+SealsLast = (cluster : ℕ) (made : List Header) (f : Face) → HasSectors (IsSealed cluster made) f → Lasts (IsSealed cluster made) f
 
 -- an entry that was made is written in sealed sectors, in a file of either version
-pub record IsSealedSlot (version : ℕ) (made : List Header) (e : Whole) : Type 0 where
-  pub new : AllByRecursion (Puts (IsSealed made)) (new_calls version e)
-  pub again : AllByRecursion (Puts (IsSealed made)) (again_calls version e)
-  pub header : AllByRecursion (Puts (IsSealed made)) (header_calls e.header)
+pub record IsSealedSlot (version cluster : ℕ) (made : List Header) (e : Whole) : Type 0 where
+  pub new : AllByRecursion (Puts (IsSealed cluster made)) (new_calls version e)
+  pub again : AllByRecursion (Puts (IsSealed cluster made)) (again_calls version e)
+  pub header : AllByRecursion (Puts (IsSealed cluster made)) (header_calls e.header)
 
 abbrev pub SlotsAreSealed : Type 0
 SlotsAreSealed =
-    (version : ℕ) (made : List Header) (e : Whole) → IsWhole e → IsContent (sector_of e.header) → IsBytes (prepare_bytes e) → length (prepare_bytes e) ≡ 4096 → In e.header made → IsSealedSlot version made e
+    (version cluster : ℕ) (made : List Header) (e : Whole) → IsWhole e → IsContent (sector_of e.header) → IsBytes (prepare_bytes e) → length (prepare_bytes e) ≡ 4096 → In e.header made → IsSealedSlot version cluster made e
 
 -- and a value that names what was made, over another one
 abbrev pub ValuesAreSealed : Type 0
 ValuesAreSealed =
-    (made : List Header) (old new : SuperValue) (f : Face) → IsGood old → IsGood new → IsBytes (copy_bytes old) → IsBytes (copy_bytes new) → AllByRecursion (λ h. In h made) old.headers
-    → AllByRecursion (λ h. In h made) new.headers → AllByRecursion (Puts (IsSealed made)) (write_calls old new f)
+    (cluster : ℕ) (made : List Header) (old new : SuperValue) (f : Face) → IsGood old → IsGood new → IsBytes (copy_bytes old) → IsBytes (copy_bytes new) → AllByRecursion (λ h. In h made) old.headers
+    → AllByRecursion (λ h. In h made) new.headers → AllByRecursion (Puts (IsSealed cluster made)) (write_calls old new f)
 
 -- and the prepares of a sealed disk, at their new places
 abbrev pub MovesAreSealed : Type 0
-MovesAreSealed = (made : List Header) (f : Face) → HasSectors (IsSealed made) f → AllByRecursion (Puts (IsSealed made)) (move_calls (relocated f))
+MovesAreSealed = (cluster : ℕ) (made : List Header) (f : Face) → HasSectors (IsSealed cluster made) f → AllByRecursion (Puts (IsSealed cluster made)) (move_calls (relocated f))
 
 -- the name of a payload's block
 pub record HasPlace (p : Payload) : Type 0 where

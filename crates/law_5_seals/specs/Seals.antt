@@ -1,4 +1,4 @@
--- Sectors that begin with the header of an entry, of an op that a log may come to, only where that entry was begun to be written.
+-- Sectors that begin with the header of an entry of a group, of an op that a log may come to, only where that entry was begun to be written.
 use Rattle.std.specs.Prelude.{ℕ, zero, suc, ◌^◌, ◌<◌, ◌≡◌, ⊤, true, List, length, All, Some, Ok}
 use Rattle.vr_disk.specs.DiskState.{Call, Write, Sync, Cell, Face, Waiting, IsContent, damaged}
 use Rattle.vr_disk.specs.Regions.{sectors}
@@ -43,11 +43,12 @@ pub record Fronts (bytes : List ℕ) (h : Header) : Type 0 where
   pub entry : is_entry_header h ≡ true
   pub low : h.op < spelled_from h.cluster
 
--- a sector in whose front no such header stands but one of those, nor once each of its bits is turned
-pub record IsSealed (made : List Header) (bytes : List ℕ) : Type 0 where
+-- a sector in whose front no such header of this group stands but one of those, nor once each of its bits is turned; a header of another group may,
+-- since no member of this one takes it
+pub record IsSealed (cluster : ℕ) (made : List Header) (bytes : List ℕ) : Type 0 where
   pub content : IsContent bytes
-  pub front : (h : Header) → Fronts bytes h → In h made
-  pub turned : (h : Header) → Fronts (damaged bytes) h → In h made
+  pub front : (h : Header) → Fronts bytes h → h.cluster ≡ cluster → In h made
+  pub turned : (h : Header) → Fronts (damaged bytes) h → h.cluster ≡ cluster → In h made
 
 -- no header of an entry begins these bytes, nor once each of their bits is turned
 pub record IsHeadless (bytes : List ℕ) : Type 0 where

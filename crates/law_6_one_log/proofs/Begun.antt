@@ -83,15 +83,15 @@ named_more some more v m a = all_more v.headers a where
   all_more [] a = tt
   all_more (h ∷ hs) a = (m h a.0, all_more hs a.1)
 
-pub block_more : (some more : List Header) (b : List ℕ) → ((h : Header) → In h some → In h more) → IsSealedBlock some b → IsSealedBlock more b
-block_more some more b m s = record { bytes = s.bytes; sectors = λ j l. sealed_more some more _ m (s.sectors j l) }
+pub block_more : {home : ℕ} (some more : List Header) (b : List ℕ) → ((h : Header) → In h some → In h more) → IsSealedBlock home some b → IsSealedBlock home more b
+block_more {home} some more b m s = record { bytes = s.bytes; sectors = λ j l. sealed_more home some more _ m (s.sectors j l) }
 
 -- ---- what is begun is sealed
 
-headless_sealed : (made : List Header) (cs : List Call) → AllByRecursion IsCall cs → AllByRecursion PutsHeadless cs → AreSealed made cs
-headless_sealed made [] a b = tt
-headless_sealed made (Write i bytes ∷ cs) a b = ((a.0.0, record { content = a.0.1; front = λ h f. absurd (b.0.front h f); turned = λ h f. absurd (b.0.turned h f) }), headless_sealed made cs a.1 b.1)
-headless_sealed made (Sync ∷ cs) a b = (tt, headless_sealed made cs a.1 b.1)
+headless_sealed : (home : ℕ) (made : List Header) (cs : List Call) → AllByRecursion IsCall cs → AllByRecursion PutsHeadless cs → AreSealed home made cs
+headless_sealed home made [] a b = tt
+headless_sealed home made (Write i bytes ∷ cs) a b = ((a.0.0, record { content = a.0.1; front = λ h f _. absurd (b.0.front h f); turned = λ h f _. absurd (b.0.turned h f) }), headless_sealed home made cs a.1 b.1)
+headless_sealed home made (Sync ∷ cs) a b = (tt, headless_sealed home made cs a.1 b.1)
 
 -- a checkpoint of a state of the program
 texted_of : (texts : Texts) (old : PayloadTable) → IsOfState texts old → Texted texts old
@@ -133,26 +133,26 @@ check_headless cluster texts op old h a s =
     (sessions_headless cluster texts op old a s)
 
 -- those from here on, which saw these before them
-module _ (made all : List Header) (P : List ℕ → Type 0) (m : (h : Header) → In h made → In h all) where
+module _ (home : ℕ) (made all : List Header) (P : List ℕ → Type 0) (m : (h : Header) → In h made → In h all) where
   seals_from : (es : List Effect) → ((h : Header) → In h (made_in es) → In h all) → ((n : ℕ) (old new : SuperValue) → slice_get es n ≡ Some (Save old new) → AreNamed all new)
-      → AllByRecursion (WritesBlocks P (IsSealedBlock made)) es → AllByRecursion ComesOfEntries es → AllByRecursion (Seals all) es
+      → AllByRecursion (WritesBlocks P (IsSealedBlock home made)) es → AllByRecursion ComesOfEntries es → AllByRecursion (Seals home all) es
   unfolding made_in
   seals_from [] w s b c = tt
   seals_from (effect.Write again e ∷ es) w s b c = (w e.header (inl refl), seals_from es (λ h i. w h (inr i)) (λ n old new k. s (suc n) old new k) b.1 c.1)
   seals_from (Rewrite x ∷ es) w s b c = (tt, seals_from es w (λ n old new k. s (suc n) old new k) b.1 c.1)
   seals_from (Save old new ∷ es) w s b c = (s 0 old new refl, seals_from es w (λ n old new k. s (suc n) old new k) b.1 c.1)
   seals_from (Mend v ∷ es) w s b c = (tt, seals_from es w (λ n old new k. s (suc n) old new k) b.1 c.1)
-  seals_from (Checkpoint k t o p ∷ es) w s b c = (headless_sealed all _ b.0.0 (check_headless k t o p b.0.1 b.0.0 c.0), seals_from es w (λ n old new k. s (suc n) old new k) b.1 c.1)
+  seals_from (Checkpoint k t o p ∷ es) w s b c = (headless_sealed home all _ b.0.0 (check_headless k t o p b.0.1 b.0.0 c.0), seals_from es w (λ n old new k. s (suc n) old new k) b.1 c.1)
   seals_from (PutBlock n x ∷ es) w s b c = (block_more made all x m b.0.1, seals_from es w (λ n old new k. s (suc n) old new k) b.1 c.1)
   seals_from (Say o ∷ es) w s b c = (tt, seals_from es w (λ n old new k. s (suc n) old new k) b.1 c.1)
 
 -- of a script, with those that are begun first
-pub begun_sealed : (made : List Header) (P : List ℕ → Type 0) (es bs rest : List Effect) → es ≡ bs ++ rest → SavesNamed made es → AllByRecursion (WritesBlocks P (IsSealedBlock made)) es → AllByRecursion ComesOfEntries bs
-    → AllByRecursion (Seals (made ++ made_in bs)) bs
-begun_sealed made P es bs rest e s b c =
+pub begun_sealed : (home : ℕ) (made : List Header) (P : List ℕ → Type 0) (es bs rest : List Effect) → es ≡ bs ++ rest → SavesNamed made es → AllByRecursion (WritesBlocks P (IsSealedBlock home made)) es → AllByRecursion ComesOfEntries bs
+    → AllByRecursion (Seals home (made ++ made_in bs)) bs
+begun_sealed home made P es bs rest e s b c =
     let saves : SavesNamed made (bs ++ rest) = subst (SavesNamed made) e s in
-    let blocks = all_left (WritesBlocks P (IsSealedBlock made)) bs rest (subst (AllByRecursion (WritesBlocks P (IsSealedBlock made))) e b) in
-    seals_from made (made ++ made_in bs) P (λ h i. in_left made (made_in bs) h i) bs (λ h i. in_right made (made_in bs) h i)
+    let blocks = all_left (WritesBlocks P (IsSealedBlock home made)) bs rest (subst (AllByRecursion (WritesBlocks P (IsSealedBlock home made))) e b) in
+    seals_from home made (made ++ made_in bs) P (λ h i. in_left made (made_in bs) h i) bs (λ h i. in_right made (made_in bs) h i)
     (λ n old new k.
     let l = slice_get_within bs n (Save old new) k in
     let there = saves n old new (get_left bs rest n l ∙ k) in

@@ -46,50 +46,50 @@ use Rattle.law_6_one_log.proofs.UnforgedValues.{bridged_fresh}
 zero_there : get_or zero_sector 110 0 ≡ 0
 zero_there = refl
 
-zero_sealed : IsSealed [] zero_sector
-zero_sealed = plain_sealed [] zero_sector zero_content (inl zero_there)
+zero_sealed : {home : ℕ} → IsSealed home [] zero_sector
+zero_sealed {home} = plain_sealed home [] zero_sector zero_content (inl zero_there)
 
-zero_some : (b : List ℕ) → Some zero_sector ≡ Some b → IsSealed [] b
-zero_some b e = let same : zero_sector ≡ b = cc in subst (IsSealed []) same zero_sealed
+zero_some : {home : ℕ} (b : List ℕ) → Some zero_sector ≡ Some b → IsSealed home [] b
+zero_some {home} b e = let same : zero_sector ≡ b = cc in subst (IsSealed home []) same zero_sealed
 
-zero_cell_sealed : HasCell (IsSealed []) zero_cell
+zero_cell_sealed : {home : ℕ} → HasCell (IsSealed home []) zero_cell
 zero_cell_sealed = record { truth = zero_sealed; reads = zero_some; before = zero_sealed }
 
-zero_face_sealed : HasSectors (IsSealed []) zero_face
-zero_face_sealed = record {
+pub zero_face_sealed : {home : ℕ} → HasSectors (IsSealed home []) zero_face
+zero_face_sealed {home} = record {
   count = length-replicate sectors zero_cell;
-  cells = λ k d l. let n = length-replicate sectors zero_cell in subst (HasCell (IsSealed [])) (sym (get_or-replicate sectors k zero_cell d (omega (arith, n, l)))) zero_cell_sealed;
+  cells = λ k d l. let n = length-replicate sectors zero_cell in subst (HasCell (IsSealed home [])) (sym (get_or-replicate sectors k zero_cell d (omega (arith, n, l)))) zero_cell_sealed;
   waiting = λ k d l. absurd (omega arith);
 }
 
 -- ---- formatting
 
-zeros_sealed : (n i : ℕ) → i + n ≤ sectors → AreSealed [] (map (λ k. Write k zero_sector) (range_with_len i n))
-zeros_sealed zero i l = tt
-zeros_sealed (suc n) i l = ((omega (arith, l), zero_sealed), zeros_sealed n (i + 1) (omega (arith, l)))
+zeros_sealed : (home n i : ℕ) → i + n ≤ sectors → AreSealed home [] (map (λ k. Write k zero_sector) (range_with_len i n))
+zeros_sealed home zero i l = tt
+zeros_sealed home (suc n) i l = ((omega (arith, l), zero_sealed), zeros_sealed home n (i + 1) (omega (arith, l)))
 
 reserved_none : (ver home slot : ℕ) → is_entry_header (reserved_header ver home slot) ≡ true → In (reserved_header ver home slot) []
 reserved_none ver home slot e = let bad : false ≡ true = e in absurd cc
 
-reserved_sealed : (ver home n i : ℕ) → (1 ≤ ver) × (ver ≤ 2) → home < 2 ^ 64 → i + n ≤ 64 → AreSealed [] (map (λ slot. Write (header_place slot) (sector_of (reserved_header ver home slot))) (range_with_len i n))
+reserved_sealed : (ver home n i : ℕ) → (1 ≤ ver) × (ver ≤ 2) → home < 2 ^ 64 → i + n ≤ 64 → AreSealed home [] (map (λ slot. Write (header_place slot) (sector_of (reserved_header ver home slot))) (range_with_len i n))
 reserved_sealed ver home zero i k room l = tt
 reserved_sealed ver home (suc n) i k room l =
     let is = reserved_is ver home i k room (omega (arith, l)) in
-    ((omega (arith, l), header_sealed [] (reserved_header ver home i) is (sector_content (reserved_header ver home i) is) (λ e _. reserved_none ver home i e)), reserved_sealed ver home n (i + 1) k room (omega (arith, l)))
+    ((omega (arith, l), header_sealed home [] (reserved_header ver home i) is (sector_content (reserved_header ver home i) is) (λ e _ _. reserved_none ver home i e)), reserved_sealed ver home n (i + 1) k room (omega (arith, l)))
 
-format_sealed : (kind : Kind) (home n i : ℕ) → IsKind kind → home < 2 ^ 64 → least_members kind.version ≤ n → n ≤ 6 → i < n → AreSealed [] (format_calls kind home n i)
+pub format_sealed : (kind : Kind) (home n i : ℕ) → IsKind kind → home < 2 ^ 64 → least_members kind.version ≤ n → n ≤ 6 → i < n → AreSealed home [] (format_calls kind home n i)
 format_sealed kind home n i k room a b l =
     let v = first_value kind home n i in
     let ver = kind.version in
     let good = (fresh_fits kind home n i k room a b l).value in
     let last : List Call = Sync ∷ save_from 0 4 (copy_bytes v) in
-    subst (AreSealed []) (sym (format_is kind home n i))
-    (seals_append [] (zero_prepares ver) (reserved_headers ver home ++ last) (zeros_sealed (64 * prepare_sectors ver) (prepare_place ver 0) (prepares_fit ver))
-    (seals_append [] (reserved_headers ver home) last (reserved_sealed ver home 64 0 k room (omega arith)) (tt, saves_sealed [] v good (copy_are v good) tt 4 0 (omega arith))))
+    subst (AreSealed home []) (sym (format_is kind home n i))
+    (seals_append home [] (zero_prepares ver) (reserved_headers ver home ++ last) (zeros_sealed home (64 * prepare_sectors ver) (prepare_place ver 0) (prepares_fit ver))
+    (seals_append home [] (reserved_headers ver home) last (reserved_sealed ver home 64 0 k room (omega arith)) (tt, saves_sealed home [] v good (copy_are v good) tt 4 0 (omega arith))))
 
 -- ---- the world
 
-fresh_sealed : (kinds : ℕ → Kind) (home n : ℕ) → AreKinds kinds n → home < 2 ^ 64 → n ≤ 6 → IsSealedWorld (first_world kinds home n) []
+fresh_sealed : (kinds : ℕ → Kind) (home n : ℕ) → AreKinds kinds n → home < 2 ^ 64 → n ≤ 6 → IsSealedWorld home (first_world kinds home n) []
 unfolding first_world
 fresh_sealed kinds home n k room b = record {
   disks = λ i m e.
@@ -98,7 +98,7 @@ fresh_sealed kinds home n k room b = record {
       let within = slice_get_within (map f (range_with_len 0 n)) i m e in
       let l : i < n = omega (arith, size, within) in
       let is : m ≡ f i = some_world m (f i) (sym e ∙ (slice_get-get_or (map f (range_with_len 0 n)) i m within ∙ ap Some (get_or-map-range_with_len f 0 n i i m l (omega arith)))) in
-      subst (λ (m : world.Host Lying). HasSectors (IsSealed []) m.disk.face) (sym is) (has_after_all (IsSealed []) (format_calls (kinds i) home n i) zero_face zero_face_sealed (format_sealed (kinds i) home n i (k i l).0 room (k i l).1 b l));
+      subst (λ (m : world.Host Lying). HasSectors (IsSealed home []) m.disk.face) (sym is) (has_after_all (IsSealed home []) (format_calls (kinds i) home n i) zero_face zero_face_sealed (format_sealed (kinds i) home n i (k i l).0 room (k i l).1 b l));
   sent = λ number s e. absurd cc;
 }
 
@@ -130,7 +130,7 @@ worlds_begin_unforged kinds home n k room a b =
         fit = fresh_group_fits kinds home n k room a b;
         stock = group_stocked kinds home n;
         bridged = c.0;
-        sealed = subst (IsSealedWorld (first_world kinds home n)) (sym (none_made kinds home n)) (fresh_sealed kinds home n k room b);
+        sealed = subst (IsSealedWorld home (first_world kinds home n)) (sym (none_made kinds home n)) (fresh_sealed kinds home n k room b);
         past = fresh_led kinds home n k room a b;
         few = omega (arith, none);
       },

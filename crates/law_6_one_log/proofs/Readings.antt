@@ -39,19 +39,19 @@ contains_of [] h i = absurd i
 contains_of (y ∷ ys) h (inl e) = (0, omega arith, sym e)
 contains_of (y ∷ ys) h (inr i) = let c = contains_of ys h i in let l = c.1 in (suc c.0, omega (arith, l), c.2)
 
-module _ (made : List Header) (f : Face) (s : HasSectors (IsSealed made) f) where
+module _ {home : ℕ} (made : List Header) (f : Face) (s : HasSectors (IsSealed home made) f) where
   -- ---- a block
 
-  reading_sealed : (address : ℕ) (b : List ℕ) → address < grid_size → IsBytes b → block_reading f address ≡ Some b → IsSealedBlock made b
+  reading_sealed : (address : ℕ) (b : List ℕ) → address < grid_size → IsBytes b → block_reading f address ≡ Some b → IsSealedBlock home made b
   unfolding block_reading
-  reading_sealed address b l are e = record { bytes = are; sectors = together_sealed made f s 8 (block_place address) b (block_inside address l) e }
+  reading_sealed address b l are e = record { bytes = are; sectors = together_sealed home made f s 8 (block_place address) b (block_inside address l) e }
 
-  pub block_sealed : (name : Name) (b : List ℕ) → IsFace f → block_in f name ≡ Some b → IsSealedBlock made b
+  pub block_sealed : (name : Name) (b : List ℕ) → IsFace f → block_in f name ≡ Some b → IsSealedBlock home made b
   unfolding named_at
   block_sealed name b face e =
-      elim (nat_lt name.address grid_size) as (λ t. nat_lt name.address grid_size ≡ t → cond (is_some (cond t (option_and_then (named name) (block_reading f name.address)) None)) (block_reading f name.address) None ≡ Some b → IsSealedBlock made b) [
+      elim (nat_lt name.address grid_size) as (λ t. nat_lt name.address grid_size ≡ t → cond (is_some (cond t (option_and_then (named name) (block_reading f name.address)) None)) (block_reading f name.address) None ≡ Some b → IsSealedBlock home made b) [
         | false ↦ λ t q. absurd cc
-        | true ↦ λ t q. elim (is_some (option_and_then (named name) (block_reading f name.address))) as (λ s. cond s (block_reading f name.address) None ≡ Some b → IsSealedBlock made b) [
+        | true ↦ λ t q. elim (is_some (option_and_then (named name) (block_reading f name.address))) as (λ s. cond s (block_reading f name.address) None ≡ Some b → IsSealedBlock home made b) [
           | false ↦ λ p. absurd cc
           | true ↦ λ p. reading_sealed name.address b (ltb-true name.address grid_size t) (block_are f name b face e) p
         ] q
@@ -59,16 +59,16 @@ module _ (made : List Header) (f : Face) (s : HasSectors (IsSealed made) f) wher
 
   -- ---- a header, and an entry
 
-  spelled_made : (b : List ℕ) (h : Header) → IsSealed made b → IsHeader h → Spells h b → is_entry_header h ≡ true → h.op < spelled_from h.cluster → In h made
-  spelled_made b h x i spells entry low = x.front h (record { reads = decoded_again h b i spells; entry = entry; low = low })
+  spelled_made : (b : List ℕ) (h : Header) → IsSealed home made b → IsHeader h → Spells h b → is_entry_header h ≡ true → h.op < spelled_from h.cluster → h.cluster ≡ home → In h made
+  spelled_made b h x i spells entry low own = x.front h (record { reads = decoded_again h b i spells; entry = entry; low = low }) own
 
-  pub header_made : (slot : ℕ) (h : Header) → IsFace f → slot < 64 → header_in f slot ≡ Some h → is_entry_header h ≡ true → h.op < spelled_from h.cluster → In h made
-  header_made slot h face l e entry low =
+  pub header_made : (slot : ℕ) (h : Header) → IsFace f → slot < 64 → header_in f slot ≡ Some h → is_entry_header h ≡ true → h.op < spelled_from h.cluster → h.cluster ≡ home → In h made
+  header_made slot h face l e entry low own =
       let r = read_header f slot h face l e in
-      spelled_made (sector_of h) h ((has_at (IsSealed made) f (header_place slot) s (omega (arith, l))).reads (sector_of h) r.reads) r.header (sector_spells h r.header) entry low
+      spelled_made (sector_of h) h ((has_at (IsSealed home made) f (header_place slot) s (omega (arith, l))).reads (sector_of h) r.reads) r.header (sector_spells h r.header) entry low own
 
-  pub entry_made : (ver slot : ℕ) (e : Whole) → IsFace f → slot < 64 → whole_in ver f slot ≡ Some e → e.header.op < spelled_from e.header.cluster → In e.header made
-  entry_made ver slot e face l w low =
+  pub entry_made : (ver slot : ℕ) (e : Whole) → IsFace f → slot < 64 → whole_in ver f slot ≡ Some e → e.header.op < spelled_from e.header.cluster → e.header.cluster ≡ home → In e.header made
+  entry_made ver slot e face l w low own =
       let few = counted ver in
       let within = inside ver slot l in
       let n = prepare_sectors ver in
@@ -77,12 +77,12 @@ module _ (made : List Header) (f : Face) (s : HasSectors (IsSealed made) f) wher
       let p = padded_parts ver (together (prepare_place ver slot) n f) (prepare_bytes e) r.reads in
       let some : n ≡ suc (n - 1) = omega (arith, few.0) in
       let x = together_first (n - 1) (prepare_place ver slot) f p.0 (ap (λ (k : ℕ). together (prepare_place ver slot) k f) (sym some) ∙ p.1) in
-      let one = (has_at (IsSealed made) f (prepare_place ver slot) s (omega (arith, within, few.0))).reads x.first x.reads in
+      let one = (has_at (IsSealed home made) f (prepare_place ver slot) s (omega (arith, within, few.0))).reads x.first x.reads in
       let size = one.content.size in
       let rest : List ℕ = x.rest ++ behind in
       let whole : prepare_bytes e ≡ x.first ++ rest = p.2 ∙ (ap (padded ver) x.whole ∙ append_assoc x.first x.rest behind) in
       let spells : Spells e.header x.first = sym (take-append-le 128 x.first rest (omega (arith, size))) ∙ (ap (take 128) (sym whole) ∙ prepare_spells e r.whole.header) in
-      spelled_made x.first e.header one r.whole.header spells (is_entry_header_of e.header r.whole.entry.header) low
+      spelled_made x.first e.header one r.whole.header spells (is_entry_header_of e.header r.whole.entry.header) low own
 
   -- ---- so nothing is forged
 
@@ -103,8 +103,8 @@ module _ (made : List Header) (f : Face) (s : HasSectors (IsSealed made) f) wher
   low_in v k h p b low = let op = p.op in subst (λ (n : ℕ). h.op < spelled_from n) (sym p.group) (omega (arith, op, b, low))
 
   -- where an opening looks for it, below the ops that sessions could spell
-  pub found_made : (v : SuperValue) (held : List (Option (List ℕ))) (ver : ℕ) → IsFace f → v.fields.checkpoint + 64 < spelled_from v.fields.cluster → AreMade made v (record { face = f; held = held; version = ver })
-  found_made v held ver face low = record {
-    header = λ k h a b e fits. (let p = fits_parts v k h fits in contains_of made h (header_made (k % 64) h face (omega arith) e p.entry (low_in v k h p b low)));
-    entry = λ k x a b e fits. (let p = fits_parts v k x.header fits in contains_of made x.header (entry_made ver (k % 64) x face (omega arith) e (low_in v k x.header p b low)));
+  pub found_made : (v : SuperValue) (held : List (Option (List ℕ))) (ver : ℕ) → IsFace f → v.fields.cluster ≡ home → v.fields.checkpoint + 64 < spelled_from v.fields.cluster → AreMade made v (record { face = f; held = held; version = ver })
+  found_made v held ver face own low = record {
+    header = λ k h a b e fits. (let p = fits_parts v k h fits in contains_of made h (header_made (k % 64) h face (omega arith) e p.entry (low_in v k h p b low) (p.group ∙ own)));
+    entry = λ k x a b e fits. (let p = fits_parts v k x.header fits in contains_of made x.header (entry_made ver (k % 64) x face (omega arith) e (low_in v k x.header p b low) (p.group ∙ own)));
   }

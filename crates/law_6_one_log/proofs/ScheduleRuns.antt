@@ -126,7 +126,7 @@ module _ {home : ℕ} (w : World Lying) (g : Group) (x : Happening) (u : IsUnfor
           fit = moves.fit;
           stock = moves.stock;
           bridged = on.0;
-          sealed = subst (IsSealedWorld h.world) (sym moves.made) sealed;
+          sealed = subst (IsSealedWorld home h.world) (sym moves.made) sealed;
           past = led;
           few = omega (arith, size, made, few);
         }

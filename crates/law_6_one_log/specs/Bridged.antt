@@ -37,7 +37,7 @@ pub record IsLed (cluster : ℕ) (g : group.Group) : Type 0 where
 abbrev pub AreNamed : List Header → SuperValue → Type 0
 AreNamed made v = AllByRecursion (λ h. In h made) v.headers
 
--- the eight sectors of a block are sealed
-pub record IsSealedBlock (made : List Header) (block : List ℕ) : Type 0 where
+-- the eight sectors of a block are sealed, for this group
+pub record IsSealedBlock (cluster : ℕ) (made : List Header) (block : List ℕ) : Type 0 where
   pub bytes : IsBytes block
-  pub sectors : (j : ℕ) → j < 8 → IsSealed made (piece (0 + 512 * j) 512 block)
+  pub sectors : (j : ℕ) → j < 8 → IsSealed cluster made (piece (0 + 512 * j) 512 block)

@@ -25,7 +25,7 @@ pub record IsUnforgedBeside (cluster : ℕ) (w : World Lying) (g : Group) : Type
   pub fit : IsFitGroup cluster g
   pub stock : IsStockedGroup g
   pub bridged : IsBridged cluster g
-  pub sealed : IsSealedWorld w g.made
+  pub sealed : IsSealedWorld cluster w g.made
   pub past : IsLed cluster g
   pub few : length bridged.machine.made ≤ length past.run
 

@@ -17,12 +17,12 @@ use Rattle.law_4_disks.specs.Worlds.{IsHashedAt, IsLine, begun_in, read_in}
 use Rattle.law_5_seals.specs.Seals.{HasSectors, IsSealed}
 use Rattle.law_6_one_log.specs.Bridged.{IsSealedBlock}
 
--- ---- a world none of whose sectors is forged
+-- ---- a world none of whose sectors is forged, for the group of this number
 
 -- of the sectors of each disk, and of each block that was sent
-pub record IsSealedWorld (w : World Lying) (made : List Header) : Type 0 where
-  pub disks : (i : ℕ) (m : Host Lying) → slice_get w.members i ≡ Some m → HasSectors (IsSealed made) m.disk.face
-  pub sent : (number : ℕ) (s : Sent) → slice_get w.sent number ≡ Some s → IsGiven (IsSealedBlock made) s.message
+pub record IsSealedWorld (cluster : ℕ) (w : World Lying) (made : List Header) : Type 0 where
+  pub disks : (i : ℕ) (m : Host Lying) → slice_get w.members i ≡ Some m → HasSectors (IsSealed cluster made) m.disk.face
+  pub sent : (number : ℕ) (s : Sent) → slice_get w.sent number ≡ Some s → IsGiven (IsSealedBlock cluster made) s.message
 
 -- ---- what is asked of a schedule
 

@@ -38,15 +38,15 @@ use Rattle.vr_name_rows.proofs.Waits.{off, three}
 
 -- ---- lines
 
-abbrev Of : List Effect → Type 0
+abbrev pub Of : List Effect → Type 0
 Of es = AllByRecursion (IsOf all_three) es
 
 -- a step whose effects are known
-acting : (w : World Lying) (x : Happening) (e : Event) (r q : Replica) (d : Lying) (es : List Effect) → work_of w x ≡ Some (stepping e (host r d) r) → react e lying r d ≡ record { replica = q; script = es } → Plain all_three d → Of es
+pub acting : (w : World Lying) (x : Happening) (e : Event) (r q : Replica) (d : Lying) (es : List Effect) → work_of w x ≡ Some (stepping e (host r d) r) → react e lying r d ≡ record { replica = q; script = es } → Plain all_three d → Of es
     → (b : List ℕ) → HashesAt w x b → IsText all_three b
 acting w x e r q d es work is p all = line_text all_three w x (host r d) (react e lying r d).script refl work p (subst (λ (s : Step). Of s.script) (sym is) all)
 
-idle : (w : World Lying) (x : Happening) → work_of w x ≡ None → begun_in w x ≡ [] → (b : List ℕ) → HashesAt w x b → IsText all_three b
+pub idle : (w : World Lying) (x : Happening) → work_of w x ≡ None → begun_in w x ≡ [] → (b : List ℕ) → HashesAt w x b → IsText all_three b
 idle w x none starts b (inl h) = let bad : None ≡ Some h.0 = sym none ∙ h.1 in absurd cc
 idle w x none starts b (inr u) = absurd (none_used w x none starts b u)
 
@@ -64,29 +64,49 @@ gives_to r to = record { from = r.index; to = to; message = start_view r }
 abbrev prepares_to : Replica → Whole → ℕ → Sent
 prepares_to r e to = record { from = r.index; to = to; message = prepare e r }
 
-abbrev s3 : List Sent
+abbrev pub s3 : List Sent
 s3 = sent_2 Strict ++ acked q1 first 0 ∷ []
 
 abbrev s5 : List Sent
 s5 = s3 ++ prepares second (p3 Strict)
 
+-- what the change of view sends and what follows it, behind what was sent before
+
+abbrev pub told : List Sent → List Sent
+told sent = sent ++ tells_to v1 0 ∷ tells_to v1 2 ∷ []
+
+abbrev pub stated : List Sent → List Sent
+stated sent = told sent ++ tells_to u1e 0 ∷ tells_to u1e 1 ∷ record { from = 2; to = 1; message = do_view_change u1 } ∷ []
+
+abbrev pub chosen : List Sent → List Sent
+chosen sent = stated sent ++ gives_to v2 0 ∷ gives_to v2 2 ∷ prepares_to v2 first 0 ∷ prepares_to v2 first 2 ∷ []
+
+abbrev pub taken : List Sent → List Sent
+taken sent = chosen sent ++ acked u2 first 1 ∷ []
+
+abbrev pub made : List Sent → List Sent
+made sent = taken sent ++ prepares_to v4 third 0 ∷ prepares_to v4 third 2 ∷ []
+
+abbrev pub stored : List Sent → List Sent
+stored sent = made sent ++ acked u3 third 1 ∷ []
+
 abbrev s6 : List Sent
-s6 = s5 ++ tells_to v1 0 ∷ tells_to v1 2 ∷ []
+s6 = told s5
 
 abbrev s7 : List Sent
-s7 = s6 ++ tells_to u1e 0 ∷ tells_to u1e 1 ∷ record { from = 2; to = 1; message = do_view_change u1 } ∷ []
+s7 = stated s5
 
 abbrev s8 : List Sent
-s8 = s7 ++ gives_to v2 0 ∷ gives_to v2 2 ∷ prepares_to v2 first 0 ∷ prepares_to v2 first 2 ∷ []
+s8 = chosen s5
 
 abbrev s9 : List Sent
-s9 = s8 ++ acked u2 first 1 ∷ []
+s9 = taken s5
 
 abbrev s10 : List Sent
-s10 = s9 ++ prepares_to v4 third 0 ∷ prepares_to v4 third 2 ∷ []
+s10 = made s5
 
 abbrev s11 : List Sent
-s11 = s10 ++ acked u3 third 1 ∷ []
+s11 = stored s5
 
 -- ---- the worlds that the lines come through
 
@@ -143,22 +163,22 @@ asks_at_0 : (x : Lying) → Some (stepping (event.Request (in_version (version (
 unfolding blank
 asks_at_0 x = asks_of puts (p2 Strict) x refl
 
-asks_at_1 : (y : Lying) → Some (stepping (event.Request (in_version (version v3) registers_later)) (host v3 y) v3) ≡ Some (stepping (event.Request registers_later) (host v3 y) v3)
+pub asks_at_1 : (y : Lying) → Some (stepping (event.Request (in_version (version v3) registers_later)) (host v3 y) v3) ≡ Some (stepping (event.Request registers_later) (host v3 y) v3)
 unfolding blank value_of
 asks_at_1 y = asks_of registers_later v3 y refl
 
 -- ---- the disks
 
-abbrev x0 : Lying
+abbrev pub x0 : Lying
 x0 = blank_disk Strict 0
 
-abbrev y0 : Lying
+abbrev pub y0 : Lying
 y0 = blank_disk Strict 1
 
-abbrev z0 : Lying
+abbrev pub z0 : Lying
 z0 = blank_disk Strict 2
 
-abbrev x1 : Lying
+abbrev pub x1 : Lying
 x1 = after_all lying x0 (makes first (p1 Strict))
 
 abbrev x2 : Lying
@@ -167,42 +187,42 @@ x2 = after_all lying x1 (answers first (p1c Strict))
 abbrev x3 : Lying
 x3 = after_all lying x2 (makes second (p3 Strict))
 
-abbrev y1 : Lying
+abbrev pub y1 : Lying
 y1 = after_all lying y0 (stores first (b1 Strict))
 
-abbrev y2 : Lying
+abbrev pub y2 : Lying
 y2 = after_all lying y1 enters_v
 
-abbrev y3 : Lying
+abbrev pub y3 : Lying
 y3 = after_all lying y2 chooses_v
 
-abbrev y4 : Lying
+abbrev pub y4 : Lying
 y4 = after_all lying y3 (answers first v2c)
 
-abbrev y5 : Lying
+abbrev pub y5 : Lying
 y5 = after_all lying y4 makes_v
 
-abbrev z1 : Lying
+abbrev pub z1 : Lying
 z1 = after_all lying z0 (stores first q1)
 
-abbrev z2 : Lying
+abbrev pub z2 : Lying
 z2 = after_all lying z1 enters_u
 
-abbrev z3 : Lying
+abbrev pub z3 : Lying
 z3 = after_all lying z2 takes_u
 
-abbrev z4 : Lying
+abbrev pub z4 : Lying
 z4 = after_all lying z3 (stores_u ++ map Say (commit_line first u3c))
 
 -- ---- what the steps begin
 
-makes_first_of : Of (makes first (p1 Strict))
+pub makes_first_of : Of (makes first (p1 Strict))
 makes_first_of = ((inl refl, first_taken), (tt, (tt, tt)))
 
-stores_first_of : Of (stores first (b1 Strict))
+pub stores_first_of : Of (stores first (b1 Strict))
 stores_first_of = ((inl refl, first_taken), (tt, tt))
 
-stores_2_of : Of (stores first q1)
+pub stores_2_of : Of (stores first q1)
 stores_2_of = ((inl refl, first_taken), (tt, tt))
 
 answers_0_of : Of (answers first (p1c Strict))
@@ -212,69 +232,69 @@ answers_0_of = (tt, (tt, tt))
 makes_second_of : Of (makes second (p3 Strict))
 makes_second_of = ((inr (inl refl), second_taken), (tt, (tt, tt)))
 
-enters_v_of : Of enters_v
+pub enters_v_of : Of enters_v
 enters_v_of = (tt, (tt, (tt, tt)))
 
-enters_u_of : Of enters_u
+pub enters_u_of : Of enters_u
 enters_u_of = (tt, (tt, (tt, (tt, tt))))
 
-chooses_of : Of chooses_v
+pub chooses_of : Of chooses_v
 chooses_of = (tt, (tt, (tt, (tt, (tt, (tt, tt))))))
 
-takes_of : Of takes_u
+pub takes_of : Of takes_u
 takes_of = (tt, (tt, tt))
 
-answers_1_of : Of (answers first v2c)
+pub answers_1_of : Of (answers first v2c)
 unfolding blank
 answers_1_of = (tt, (tt, tt))
 
-makes_third_of : Of makes_v
+pub makes_third_of : Of makes_v
 makes_third_of = ((inr (inr (inl refl)), third_taken), (tt, (tt, tt)))
 
-stores_third_of : Of (stores_u ++ map Say (commit_line first u3c))
+pub stores_third_of : Of (stores_u ++ map Say (commit_line first u3c))
 stores_third_of = ((inr (inr (inl refl)), third_taken), (tt, (tt, tt)))
 
-answers_third_of : Of (answers third v4c)
+pub answers_third_of : Of (answers third v4c)
 unfolding blank
 answers_third_of = (tt, (tt, tt))
 
-plain_x0 : Plain all_three x0
+pub plain_x0 : Plain all_three x0
 plain_x0 = (blank_plain Strict all_three).0
 
-plain_y0 : Plain all_three y0
+pub plain_y0 : Plain all_three y0
 plain_y0 = (blank_plain Strict all_three).1
 
-plain_z0 : Plain all_three z0
+pub plain_z0 : Plain all_three z0
 plain_z0 = (blank_plain Strict all_three).2
 
-plain_x1 : Plain all_three x1
+pub plain_x1 : Plain all_three x1
 plain_x1 = plain_all all_three (makes first (p1 Strict)) x0 makes_first_of plain_x0
 
 plain_x2 : Plain all_three x2
 plain_x2 = plain_all all_three (answers first (p1c Strict)) x1 answers_0_of plain_x1
 
-plain_y1 : Plain all_three y1
+pub plain_y1 : Plain all_three y1
 plain_y1 = plain_all all_three (stores first (b1 Strict)) y0 stores_first_of plain_y0
 
-plain_y2 : Plain all_three y2
+pub plain_y2 : Plain all_three y2
 plain_y2 = plain_all all_three enters_v y1 enters_v_of plain_y1
 
-plain_y3 : Plain all_three y3
+pub plain_y3 : Plain all_three y3
 plain_y3 = plain_all all_three chooses_v y2 chooses_of plain_y2
 
-plain_y4 : Plain all_three y4
+pub plain_y4 : Plain all_three y4
 plain_y4 = plain_all all_three (answers first v2c) y3 answers_1_of plain_y3
 
-plain_y5 : Plain all_three y5
+pub plain_y5 : Plain all_three y5
 plain_y5 = plain_all all_three makes_v y4 makes_third_of plain_y4
 
-plain_z1 : Plain all_three z1
+pub plain_z1 : Plain all_three z1
 plain_z1 = plain_all all_three (stores first q1) z0 stores_2_of plain_z0
 
-plain_z2 : Plain all_three z2
+pub plain_z2 : Plain all_three z2
 plain_z2 = plain_all all_three enters_u z1 enters_u_of plain_z1
 
-plain_z3 : Plain all_three z3
+pub plain_z3 : Plain all_three z3
 plain_z3 = plain_all all_three takes_u z2 takes_of plain_z2
 
 -- ---- what is read
@@ -287,11 +307,11 @@ sits_y1 : Sits (value 1) (but_first kept_slot) y1
 unfolding after_all
 sits_y1 = said _ _ _ (send 0 (prepare_ok name_of first_header (b1 Strict)) (b1 Strict)) sits_1
 
-entry_y1 : lying.entry y1 1 ≡ Some first
+pub entry_y1 : lying.entry y1 1 ≡ Some first
 unfolding after_all
 entry_y1 = written_there false first y0.face plain_y0.count first_taken
 
-header_y1 : lying.header y1 1 ≡ Some first_header
+pub header_y1 : lying.header y1 1 ≡ Some first_header
 header_y1 = ap (λ (s : Slot). s.header) (sits_y1.looks.at 1 (omega arith))
 
 has_y1 : Reads 1 first y1
@@ -301,10 +321,10 @@ has_y1 = record { version = refl; entry = written_there false first y0.face plai
 has_y2 : Reads 1 first y2
 has_y2 = reads_all 1 first enters_v y1 (tt, (tt, (tt, tt))) has_y1
 
-has_begun : Reads 1 first (after_all lying y2 begins_v)
+pub has_begun : Reads 1 first (after_all lying y2 begins_v)
 has_begun = reads_all 1 first begins_v y2 (tt, (tt, (tt, (tt, tt)))) has_y2
 
-has_y3 : Reads 1 first y3
+pub has_y3 : Reads 1 first y3
 has_y3 = reads_all 1 first chooses_v y2 (tt, (tt, (tt, (tt, (tt, (tt, tt)))))) has_y2
 
 has_z1 : Reads 1 first z1
@@ -314,10 +334,10 @@ has_z1 = record { version = refl; entry = written_there false first z0.face plai
 has_z3 : Reads 1 first z3
 has_z3 = reads_all 1 first takes_u z2 (tt, (tt, tt)) (reads_all 1 first enters_u z1 (tt, (tt, (tt, (tt, tt)))) has_z1)
 
-has_stored : Reads 1 first (after_all lying z3 stores_u)
+pub has_stored : Reads 1 first (after_all lying z3 stores_u)
 has_stored = reads_all 1 first stores_u z3 (λ e. omega (arith, e), (tt, tt)) has_z3
 
-reads_y5 : lying.entry y5 2 ≡ Some third
+pub reads_y5 : lying.entry y5 2 ≡ Some third
 unfolding after_all
 reads_y5 = entry_there all_three false third y4 plain_y4 third_taken
 
