@@ -12,3 +12,4 @@ pub mod Ending
 pub mod Halting
 pub mod Migrations
 pub mod Running
+pub mod Left

@@ -43,7 +43,7 @@ use Rattle.law_7_members.specs.Whole as whole
 use Rattle.law_7_members.proofs.Files.{RunsOn, none_runs, opened_runs, runs_on, some_runs}
 use Rattle.law_7_members.proofs.Values.{same_value}
 use Rattle.law_7_members.proofs.Begun.{begin_new, begun_keep_one_log}
-use Rattle.law_7_members.specs.Whole.{AreAtWork, AreRuns, Begins, Carries, Lives, RunsAreAtWork, RunsKeepOneLog, all_said, file_of, handled, made_on, making, own, unheld, world_of}
+use Rattle.law_7_members.specs.Whole.{AreAtWork, AreRuns, Begins, Carries, Lives, RunsAreAtWork, RunsKeepOneLog, all_said, file_of, handled, made_on, making, own, as_read, world_of}
 
 -- ---- one thing after another, of one member
 
@@ -159,7 +159,7 @@ begun kind c _ _ (whole.makes d o o' run arrivals acts told unfinished size live
     record { replica = Some (fresh kind c.cluster c.n c.replica); file = file; is = refl; goes = subst (λ (r : Replica). Goes c (Some r) file (handled arrivals run.dids ++ acts)) is.1 all }
 begun kind c _ _ (whole.stops_late f acts unfinished opened lives) =
     let r = Some (fresh kind c.cluster c.n c.replica) in
-    record { replica = r; file = unheld kind f; is = refl; goes = (None, unheld kind f, files.ends (unheld kind f) r, lives_go c None (unheld kind f) acts (none_runs (unheld kind f)) lives) }
+    record { replica = r; file = as_read kind f; is = refl; goes = (None, as_read kind f, files.ends (as_read kind f) r, lives_go c None (as_read kind f) acts (none_runs (as_read kind f)) lives) }
 begun kind c _ _ whole.waits = record { replica = Some (fresh kind c.cluster c.n c.replica); file = made_on kind c zero_face; is = refl; goes = tt }
 
 -- ---- all members

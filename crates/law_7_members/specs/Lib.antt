@@ -4,4 +4,5 @@ pub mod Runs
 pub mod Whole
 pub mod Laws
 pub mod Ends
+pub mod Left
 pub mod Migrations

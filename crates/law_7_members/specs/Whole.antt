@@ -1,17 +1,15 @@
 -- Whole runs of the programs of a group's members, interleaved.
-use Rattle.std.specs.Prelude.{ℕ, ◌^◌, ◌<◌, ◌≤◌, ◌≡◌, ◌==◌, ⊤, true, List, [], ◌∷◌, ◌++◌, length, map, Option, Some, None, Ok, if◌then◌else◌}
+use Rattle.std.specs.Prelude.{ℕ, ◌^◌, ◌<◌, ◌≤◌, ◌≡◌, ◌==◌, ⊤, List, [], ◌∷◌, ◌++◌, length, map, Option, Some, None, if◌then◌else◌}
 use Rattle.std.specs.List.{AllByRecursion, range_with_len}
 use Rattle.vr_base.specs.Groups.{least_members}
 use Rattle.vr_base.specs.declared.kind.Kind.{Kind}
 use Rattle.vr_base.specs.declared.table.Config.{Config}
-use Rattle.vr_disk.specs.DiskState.{Call, Disk, Face, IsContent, IsFace, Sync, after, damaged}
+use Rattle.vr_disk.specs.DiskState.{Call, Disk, Face, IsFace, Sync, after}
 use Rattle.vr_disk.specs.Stops.{Stops}
-use Rattle.vr_header.specs.declared.header.Header.{Header}
-use Rattle.vr_header.specs.Made.{is_entry_header}
 use Rattle.vr_header.specs.NoCollision.{NoCollision}
-use Rattle.vr_header.specs.Spelling.{decoded}
 use Rattle.vr_lie.specs.declared.fault.Fault.{Fault}
 use Rattle.vr_lie.specs.Faults.{IsFault, faulted}
+use Rattle.vr_lie.specs.Held.{looked}
 use Rattle.vr_msg.specs.declared.output.Output.{Output}
 use Rattle.vr_msg.specs.declared.output.Sent.{Sent}
 use Rattle.vr_super.specs.Copies.{SuperValue}
@@ -26,7 +24,7 @@ use Rattle.vr_world.specs.World.{Happened, Host, World}
 use Rattle.vr_node.specs.Outputs.{messages}
 use Rattle.vr_node.specs.Sectors.{sectors_by}
 use Rattle.law_4_disks.specs.Worlds.{first_world}
-use Rattle.law_5_seals.specs.Seals.{HasSectors}
+use Rattle.law_5_seals.specs.Seals.{HasSectors, IsSealed}
 use Rattle.law_6_one_log.specs.Schedules.{IsHashedOf}
 use Rattle.law_6_one_log.specs.Laws.{KeepsLog}
 use Rattle.vr_serve.specs.Runs.{Did}
@@ -67,23 +65,18 @@ pub data Lives (c : Config) : Option Replica → Lying → List Act → Type 0 w
 abbrev pub making : Kind → Config → List Call
 making kind c = format_calls kind c.cluster c.n c.replica
 
--- a sector that begins with no header of an entry, as it is or with each of its bits turned
-pub record IsBare (bytes : List ℕ) : Type 0 where
-  pub content : IsContent bytes
-  pub front : (h : Header) → decoded bytes ≡ Ok h → is_entry_header h ≡ true → ⊥
-  pub turned : (h : Header) → decoded (damaged bytes) ≡ Ok h → is_entry_header h ≡ true → ⊥
-
--- a file of whatever bytes, no sector of which begins so, and that was attached
-pub record IsUnused (f : Face) : Type 0 where
+-- A file of whatever bytes that was attached, and that no member of the group of this number has written to: no sector of it begins with the header of an
+-- entry of that group, of an op that a log may come to, as it is or with each of its bits turned. What other groups left on it may stand there.
+pub record IsUnused (cluster : ℕ) (f : Face) : Type 0 where
   pub face : IsFace f
   pub rests : f.waiting ≡ []
-  pub bare : HasSectors IsBare f
+  pub bare : HasSectors (IsSealed cluster []) f
 
--- A file on which no making of the member came to its end: it is of zeros, or of any other bytes of that kind; or a making stopped on one of these, at
+-- A file on which no making of the member came to its end: it is of zeros, or of any other bytes but entries of its group; or a making stopped on one of these, at
 -- a call that failed or was cut, and the file was attached again; or one of these began to lie, by any fault.
 pub data IsUnfinished (c : Config) : Face → Type 0 where
   zeros : IsUnfinished c zero_face
-  unused : (file : Face) → IsUnused file → IsUnfinished c file
+  unused : (file : Face) → IsUnused c.cluster file → IsUnfinished c file
   stopped : (kind : Kind) (file left : Face) → IsKind kind → least_members kind.version ≤ c.n → IsUnfinished c file → Stops (making kind c) file left → IsUnfinished c (after left Sync)
   decays : (file : Face) (fault : Fault) → IsUnfinished c file → IsFault fault → IsUnfinished c (faulted file fault)
 
@@ -96,12 +89,12 @@ pub record LeavesUnfinished (c : Config) (d' : Option Disk) : Type 0 where
 abbrev pub MakingsLeaveUnfinished : Type 0
 MakingsLeaveUnfinished = (kind : Kind) (c : Config) (d : Disk) (d' : Option Disk) (status : Status) → IsUnfinished c d.face → OpensNone (Some kind) c (Some d) d' status → LeavesUnfinished c d'
 
--- such a file, which is to be of this kind, none of whose slots holds an entry; and what a whole making leaves of it
-abbrev pub unheld : Kind → Face → Lying
-unheld kind f = record { face = f; held = each_slot (λ slot. None); version = kind.version }
+-- such a file, which is to be of this kind, and whose slots hold what they read as; and what a whole making leaves of it
+abbrev pub as_read : Kind → Face → Lying
+as_read kind f = record { face = f; held = each_slot (λ slot. looked kind.version f slot None); version = kind.version }
 
 abbrev pub made_on : Kind → Config → Face → Lying
-made_on kind c f = after_calls (unheld kind f) (making kind c)
+made_on kind c f = after_calls (as_read kind f) (making kind c)
 
 -- a member that was just made, with its file
 abbrev pub new_host : Kind → Config → Lying → Host Lying
@@ -114,7 +107,7 @@ pub data Begins (kind : Kind) (c : Config) : Host Lying → List Act → Type 0 
       → Lives c (Some run.last.replica.memory) (file_of (made_on kind c disk.face) run.node.replica.memory run.dids) acts
       → Begins kind c (new_host kind c (made_on kind c disk.face)) (handled arrivals run.dids ++ acts)
   -- a making stopped so late that its file opens as the first value: it counts as made, and as ended then
-  stops_late : (file : Face) (acts : List Act) → IsUnfinished c file → opens file ≡ Some (first_value kind c.cluster c.n c.replica) → Lives c None (unheld kind file) acts → Begins kind c (new_host kind c (unheld kind file)) (Ends ∷ acts)
+  stops_late : (file : Face) (acts : List Act) → IsUnfinished c file → opens file ≡ Some (first_value kind c.cluster c.n c.replica) → Lives c None (as_read kind file) acts → Begins kind c (new_host kind c (as_read kind file)) (Ends ∷ acts)
   -- it isn't made yet, and does nothing
   waits : Begins kind c (new_host kind c (made_on kind c zero_face)) []
 

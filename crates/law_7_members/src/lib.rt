@@ -4,6 +4,7 @@
 
 ghost use Rattle.law_7_members.specs.Ends.{FoundRunsEnd, MadeRunsEnd, MakingRunsAreActs, MigrationsAreActs, NodeRunsAreActs, OpeningsHalt};
 ghost use Rattle.law_7_members.specs.Laws.{MembersAreFound, NodesAreFound, NodesAreOneRun, NodesKeepOneLog};
+ghost use Rattle.law_7_members.specs.Left.{FilesOpenAsOwn, NextMigrationsAreActs, NextRunsAreActs};
 ghost use Rattle.law_7_members.specs.Migrations.{MigrationsAreCounted, MigrationsKeepSlots};
 ghost use Rattle.law_7_members.specs.Runs.{RunsAreDeeds};
 ghost use Rattle.law_7_members.specs.Whole.{MakingsLeaveUnfinished, RunsAreAtWork, RunsKeepOneLog, ZerosBeginTheFirst};
@@ -86,6 +87,21 @@ pub fn making_runs_are_acts()
 /// A run of the migration left the file alone, moved, as a migration that is cut at one of its calls, or mended alone.
 pub fn migrations_are_acts()
     ensures { MigrationsAreActs }
+{}
+
+/// Each file that members leave, whatever befell them, opens as a value of its version alone.
+pub fn files_open_as_own()
+    ensures { FilesOpenAsOwn }
+{}
+
+/// So any next run of a member's program on its file is acts that go on from what was left.
+pub fn next_runs_are_acts()
+    ensures { NextRunsAreActs }
+{}
+
+/// So is any next run of the migration.
+pub fn next_migrations_are_acts()
+    ensures { NextMigrationsAreActs }
 {}
 
 /// A migration keeps what each slot holds, at its old place and at its new one, whole and cut at any of its calls by any code.
