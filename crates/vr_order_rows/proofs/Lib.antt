@@ -1,0 +1,4 @@
+pub mod Going
+pub mod Row
+pub mod Clients
+pub mod Effect
