@@ -6,6 +6,7 @@
 #   bench/alone.sh [FOLDER [PUTS]]     FOLDER on the disk that is to be measured (a new one in /tmp without it), PUTS in each of five rounds (2000)
 # Needs bash, awk, a C compiler and libsqlite3-dev; strace for the syncs. Where other work goes on, run it at real-time priority
 # (chrt -f 10 bench/alone.sh).
+. "$(dirname "$0")/../command/help.sh"
 set -u
 cd "$(dirname "$0")/.." || exit 2
 program=$(command/program) || exit 2

@@ -2,6 +2,7 @@
 # Instructions of one apply (check, the machine's apply, the sessions' apply), over a million applies of four clients on
 # 128 keys, and of the same in plain Rust with std's BTreeMap; instructions, bytes and allocations of one encoding of a
 # full state. Needs valgrind, and rustc for the second.
+. "$(dirname "$0")/../command/help.sh"
 set -eu
 top=$(cd "$(dirname "$0")/.." && pwd)
 work=$(mktemp -d)

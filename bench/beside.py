@@ -23,6 +23,10 @@ import tempfile
 import time
 from pathlib import Path
 
+if sys.argv[1:] in (["-h"], ["--help"]):
+    print(__doc__)
+    sys.exit(0)
+
 ROOT = Path(__file__).resolve().parent.parent
 PROGRAM = subprocess.run([ROOT / "command" / "program"], stdout=subprocess.PIPE, text=True).stdout.strip() or sys.exit(2)
 SIZE = 3

@@ -6,6 +6,7 @@
 #   bench/builds.sh BEFORE AFTER [RUNS]     two programs, such as crates/vr_app/out/vr_app of two clones, and how often each runs: 1 to 99
 #                                           times, 5 unless told; where the machine's pace changes, five runs don't meet its best
 # Needs bash, awk and taskset.
+. "$(dirname "$0")/../command/help.sh"
 set -eu
 runs=${3:-5}
 [ $# -ge 2 ] && [ $# -le 3 ] && [ -x "$1" ] && [ -x "$2" ] && [[ $runs =~ ^[1-9][0-9]?$ ]] || {

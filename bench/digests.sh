@@ -8,6 +8,7 @@
 # these lines: where the lines or a format change, they are to be found anew.
 #   bench/digests.sh
 # Needs bash, awk and valgrind.
+. "$(dirname "$0")/../command/help.sh"
 set -eu
 cd "$(dirname "$0")/.."
 program=$(command/program) || exit 2

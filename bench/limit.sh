@@ -3,6 +3,7 @@
 # two and 1,000,000 lines after the first, of which it refuses the last, and on the same without that one. It ends with status 1 where the
 # program ends otherwise or writes anything.
 #   bench/limit.sh
+. "$(dirname "$0")/../command/help.sh"
 set -eu
 cd "$(dirname "$0")/.."
 program=$(command/program) || exit 2

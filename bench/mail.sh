@@ -3,6 +3,7 @@
 # put of a value of 1,024 bytes, and a start_view with 64 headers, over a link in memory, whose copy of the bytes is counted too. Needs valgrind.
 # It ends with status 1 where a message of another group costs above 1.1 times one of another version, or where one is taken that isn't its
 # receiver's, or isn't taken that is.
+. "$(dirname "$0")/../command/help.sh"
 set -eu
 top=$(cd "$(dirname "$0")/.." && pwd)
 command -v valgrind > /dev/null || { echo "bench/mail.sh: valgrind is missing" >&2; exit 2; }

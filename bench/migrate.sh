@@ -6,6 +6,7 @@
 #   bench/migrate.sh [FOLDER]     a new one in /tmp without it
 # It ends with status 1 where the program takes more than 1.3 times as long from the first write to the last sync. Needs bash, awk and a C
 # compiler.
+. "$(dirname "$0")/../command/help.sh"
 set -u
 cd "$(dirname "$0")/.." || exit 2
 program=$(command/program) || exit 2

@@ -8,6 +8,7 @@
 #   bench/node.sh [FOLDER [PUTS]]     FOLDER on the disk that is to be measured (a new one in /tmp without it), PUTS a client (2000)
 # It ends with status 1 where one client's mean is above twice the floor's. Needs bash, awk, a C compiler, and strace for the system calls.
 # Where other work goes on, run all of it at real-time priority (chrt -f 10 bench/node.sh): else a sync's end waits for time slices.
+. "$(dirname "$0")/../command/help.sh"
 set -u
 cd "$(dirname "$0")/.." || exit 2
 program=$(command/program) || exit 2

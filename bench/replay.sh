@@ -6,6 +6,7 @@
 # more than 1.2 times the instructions per line at 100,000 as at 10,000.
 #   bench/replay.sh [FOLDER]    FOLDER keeps the schedules; without it they are thrown away
 # Needs bash, awk, GNU time (/usr/bin/time) and valgrind.
+. "$(dirname "$0")/../command/help.sh"
 set -eu
 cd "$(dirname "$0")/.."
 program=$(command/program) || exit 2

@@ -3,6 +3,7 @@
 # add within the function that hands an event to a member, without those of making its disk lie. Beside them what the steps need: the
 # digests and the calls of the disk that they make; and how many times that the steps take.
 # Needs bash, awk and valgrind.
+. "$(dirname "$0")/../command/help.sh"
 set -eu
 cd "$(dirname "$0")/.."
 program=$(command/program) || exit 2

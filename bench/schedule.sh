@@ -2,7 +2,9 @@
 # Writes a schedule of so many lines: a plain one over so many replicas, or view after view where they are 3.
 #   bench/schedule.sh LINES REPLICAS
 # Needs bash and awk.
+. "$(dirname "$0")/../command/help.sh"
 set -eu
+[[ $# -eq 2 && $1 =~ ^[0-9]+$ && $2 =~ ^[1-6]$ ]] || { echo "usage: bench/schedule.sh LINES REPLICAS" >&2; exit 2; }
 
 # A plain schedule of so many lines over so many replicas: eight clients register, and then put and get in turn, each key of
 # a hundred over and over. Each operation is delivered to as many backups as commit it, and each acknowledgement to the

@@ -5,6 +5,7 @@
 # event at 100,000 as at 10,000.
 #   bench/soak.sh [SEED..]     the seeds 0, 3 and 7 where none is given (groups of 4, 6 and 5)
 # Needs bash, awk, GNU time (/usr/bin/time) and valgrind.
+. "$(dirname "$0")/../command/help.sh"
 set -eu
 cd "$(dirname "$0")/.."
 program=$(command/program) || exit 2

@@ -1,6 +1,7 @@
 #!/bin/sh
 # Instructions of a slot write, of a checkpoint of a full state of which one payload changed, and of a fault of a disk
 # that lies, beside the digests that they need. Needs valgrind.
+. "$(dirname "$0")/../command/help.sh"
 set -eu
 top=$(cd "$(dirname "$0")/.." && pwd)
 work=$(mktemp -d)

@@ -3,6 +3,7 @@
 # reader of the same bytes has to make: a prepare with a put of a value of 1,024 bytes, and a start_view with 64 headers, 32 times one after
 # the other. Then how often each run asked for memory, with the stream taken 10 times and not at all: the same. Needs valgrind.
 # It ends with status 1 where a deframer takes above 1.3 times the digests in pieces of 4,096 bytes, loses a message, or asks for memory.
+. "$(dirname "$0")/../command/help.sh"
 set -eu
 top=$(cd "$(dirname "$0")/.." && pwd)
 work=$(mktemp -d)

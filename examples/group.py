@@ -11,6 +11,10 @@ import time
 TOP = pathlib.Path(__file__).resolve().parent.parent
 TURNS = "1000000000"
 
+if sys.argv[1:] in (["-h"], ["--help"]):
+    print(sys.modules["__main__"].__doc__)
+    sys.exit(0)
+
 
 def program():
     """The program; without it the script ends. What there is, or isn't, is said on standard error."""
