@@ -74,7 +74,7 @@ class Verdict(NamedTuple):
     code: int
     leader: Optional[int]
     view: Optional[int]
-    commit: int
+    commit: Optional[int]
     why: List[str]
     may_change: bool = False
 
@@ -85,9 +85,9 @@ def leader_of(members: List[Known]) -> Optional[int]:
     return max(leading, key=lambda member: members[member].view(), default=None)
 
 
-def commit_of(members: List[Known]) -> int:
-    """The greatest operation that any member is known to have applied or to know as committed."""
-    return max([0] + [max(number(known.line, "commit"), number(known.line, "applied")) for known in members])
+def commit_of(members: List[Known]) -> Optional[int]:
+    """The greatest operation that any member is known to have applied or to know as committed; None where no keeper tells of any."""
+    return max((max(number(known.line, "commit"), number(known.line, "applied")) for known in members if known.line is not None), default=None)
 
 
 def absence(members: List[Known], leader: Optional[int]) -> Optional[str]:
@@ -249,9 +249,9 @@ def judge(members: List[Known], has_keepers: bool) -> Verdict:
     return Verdict(AILS if why else WELL, leader, view, commit_of(members), why)
 
 
-def behind(known: Known, commit: int) -> Optional[int]:
+def behind(known: Known, commit: Optional[int]) -> Optional[int]:
     """By how many operations a member is behind the greatest commit number; None where it isn't known."""
-    if known.line is None or known.line["state"] == "down" or number(known.line, "applied") == 0 < commit:
+    if commit is None or known.line is None or known.line["state"] == "down" or number(known.line, "applied") == 0 < commit:
         return None
     return max(0, commit - number(known.line, "applied"))
 

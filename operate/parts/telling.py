@@ -63,7 +63,9 @@ def table(told: Dict) -> str:
     head = f"group {told['group']} {SAID[told['verdict']]}"
     if told["leader"] is not None:
         head += f"; member {told['leader']} leads view {told['view']}"
+    if told["commit"] is not None:
+        head += f"; commit {told['commit']}"
     rows = [NAMES] + [row(member) for member in told["members"]]
     widths = [max(len(line[column]) for line in rows) for column in range(len(NAMES))]
     lines = ["  ".join(cell.ljust(width) for cell, width in zip(line, widths)).rstrip() for line in rows]
-    return "\n".join([f"{head}; commit {told['commit']}"] + [f"  {why}" for why in told["why"]] + lines + stop_lines(told))
+    return "\n".join([head] + [f"  {why}" for why in told["why"]] + lines + stop_lines(told))

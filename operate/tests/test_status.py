@@ -89,6 +89,12 @@ class Judging(unittest.TestCase):
                     self.assertEqual(len(table(told).splitlines()), 2 + len(verdict.why) + len(members) + len(stop_lines(told)))
                     json.dumps(told)
 
+    def test_without_keepers_nothing_is_said_of_the_commit_number(self):
+        for has_keepers, rows in ((True, ROWS[:1]), (False, PROBED[:1])):
+            for _, members, _, _ in rows:
+                told = as_json(5, members, judge(members, has_keepers), has_keepers)
+                self.assertEqual((told["commit"], "; commit" in table(told).splitlines()[0]), (40 if has_keepers else None, has_keepers))
+
     def test_how_far_one_is_behind(self):
         members = [LEADS, known(1, "follows", applied="12"), known(2, "follows", applied="0")]
         self.assertEqual([member["behind"] for member in as_json(5, members, judge(members, True))["members"]], [0, 28, None])
