@@ -131,9 +131,6 @@ def with_above(text: str, block: str) -> str:
 
 
 def bad_above(pages: Pages, block: str) -> Iterator[str]:
-    having = [path for path, text in pages.items() if BEGIN in text]
-    if not having:
-        yield f"no page has the line {BEGIN.strip()}, under which it tells how many crates stand above each"
-    for path in having:
-        if pages[path].split(BEGIN)[1].split(END)[0].split() != block.split():
+    for path, text in pages.items():
+        if BEGIN in text and text.split(BEGIN)[1].split(END)[0].split() != block.split():
             yield f"{path}: how many crates stand above each isn't what bench/paths --above tells"

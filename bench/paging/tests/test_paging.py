@@ -242,7 +242,7 @@ class Numbers(Case):
         page = {"docs/DEVELOPING.md": f"a\n{counting.BEGIN}- old\n{counting.END}b\n"}
         self.check(counting.bad_above(page, "- new\n"), "docs/DEVELOPING.md: how many crates stand above")
         self.check(counting.bad_above({"docs/DEVELOPING.md": counting.with_above(page["docs/DEVELOPING.md"], "- new\n")}, "- new\n"))
-        self.check(counting.bad_above({"docs/DEVELOPING.md": "a\n"}, "- new\n"), "no page has the line")
+        self.check(counting.bad_above({"docs/DEVELOPING.md": "a\n"}, "- new\n"))
 
 
 class Words(Case):
