@@ -230,6 +230,6 @@ programs_linearize kinds cluster n first ps h are number few many short r never 
         ordered = ordered;
         answers = of_log ps h runs kinds cluster n first are number few many brought names k.one;
         own = λ i single t a there outcome. ordered.own t.request a (record { by = i; heard = t; moment = there; request = refl; outcome = outcome }) (alone ps h runs i single t there);
-        linearizable = linearizes log h c k.order k.one.log.once;
+        linearizable = λ single. linearizes log h c k.order k.one.log.once (λ q a x. subst (λ (p : RequestFields). IsAlone h p) x.request (alone ps h runs x.by (single x.by) x.heard x.moment));
       },
     )

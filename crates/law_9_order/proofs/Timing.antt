@@ -18,7 +18,7 @@ use Rattle.law_7_members.specs.Files.{ActBy}
 use Rattle.law_9_answers.specs.Heard.{Heard}
 use Rattle.law_9_asked.specs.Asked.{IsExecuted}
 use Rattle.law_9_asked.proofs.Executing.{executed}
-use Rattle.law_9_order.specs.History.{Asks, Befalls, HasAsked, HasHeard, HasOneSessionEach, Hears, IsAlone, IsCarried, IsExecutedAs, IsLinearizable, IsNew, IsOfAsked, IsOrdered, Moment, acts_in}
+use Rattle.law_9_order.specs.History.{Asks, Befalls, HasAsked, HasHeard, HasOneSessionEach, HaveOwnNumbers, Hears, IsAlone, IsCarried, IsExecutedAs, IsLinearizable, IsNew, IsOfAsked, IsOrdered, Moment, acts_in}
 use Rattle.law_9_order.specs.Laws.{HistoriesAreLinearizable}
 use Rattle.law_9_order.specs.Order.{AsksComeFirst, IsAskedFor, RestsOnAsked}
 use Rattle.law_9_order.proofs.Acting.{runs_keep_order}
@@ -163,8 +163,8 @@ module _ (log : List Whole) (h : List Moment) (carried : IsCarried h) (order : A
   pub are_ordered : IsOrdered log h
   are_ordered = record { executed = executed_there; own = of_its_own; asked = asked_upto; real_time = in_time }
 
-  pub linearizes : IsOnceInSession log → HasOneSessionEach log → IsLinearizable log h
-  linearizes once each = record { ordered = are_ordered; once = executed_once log once each }
+  pub linearizes : IsOnceInSession log → HaveOwnNumbers h → HasOneSessionEach log → IsLinearizable log h
+  linearizes once single each = record { ordered = are_ordered; executed = λ q a x. of_its_own q a x (single q a x); once = executed_once log once each }
 
 pub histories_linearize : HistoriesAreLinearizable
 histories_linearize kinds cluster n first h are number some many short r never carried =

@@ -94,7 +94,12 @@ pub record IsOrdered (log : List Whole) (h : List Moment) : Type 0 where
 abbrev pub HasOneSessionEach : List Whole → Type 0
 HasOneSessionEach log = (client : ℕ) (before later : List Whole) → log ≡ before ++ later → IsTrue (begins_session client empty before) → IsTrue (begins_session client (state_after before) later) → ⊥
 
--- it has that order, and each request is executed at most once
+-- whoever heard an outcome asked under a client's number and a request's that nobody else asked anything else under
+abbrev pub HaveOwnNumbers : List Moment → Type 0
+HaveOwnNumbers h = (q : RequestFields) (a : Answered) → HasHeard h q a → IsAlone h q
+
+-- It has that order; each outcome that is heard is of the operation that was asked; and each request is executed at most once.
 pub record IsLinearizable (log : List Whole) (h : List Moment) : Type 0 where
   pub ordered : IsOrdered log h
+  pub executed : (q : RequestFields) (a : Answered) → HasHeard h q a → IsExecutedAs log q a
   pub once : (q p : RequestFields) (a b : Answered) → q.client ≡ p.client → q.request ≡ p.request → IsExecuted log q a → IsExecuted log p b → a ≡ b

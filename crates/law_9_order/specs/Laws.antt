@@ -21,7 +21,7 @@ use Rattle.law_6_one_log.specs.Schedules.{IsHashedOf}
 use Rattle.law_7_members.specs.Files.{ActBy, Breaks, Handles, act_by, all_lines}
 use Rattle.law_7_members.specs.Whole.{AreRuns, KeepOneLog, world_of}
 use Rattle.law_9_answers.specs.Laws.{AnswerByOneLog}
-use Rattle.law_9_order.specs.History.{Asks, Befalls, HasOneSessionEach, Hears, IsCarried, IsLinearizable, IsOrdered, Moment, acts_in}
+use Rattle.law_9_order.specs.History.{Asks, Befalls, HasOneSessionEach, HaveOwnNumbers, Hears, IsCarried, IsLinearizable, IsOrdered, Moment, acts_in}
 use Rattle.law_9_order.specs.Order.{AsksComeFirst, request_in}
 use Rattle.law_9_order.specs.Programs.{AreInterleaved, HaveNames, HearInOrder, IsBrought, Program}
 
@@ -38,11 +38,11 @@ RunsKeepOrder =
     → KeepOrder kinds cluster n first xs
 
 -- So what clients of such runs ask and hear, over a network that forges neither requests nor outcomes, has the order of the log; and it is
--- linearizable, where no client's number begins a second session.
+-- linearizable, where each client has a number of its own, and none begins a second session.
 pub record AreLinearizable (kinds : ℕ → Kind) (cluster n : ℕ) (first : ℕ → Host Lying) (h : List Moment) : Type 0 where
   pub one : KeepOneLog kinds cluster n first (acts_in h)
   pub ordered : IsOrdered one.log.safe.log h
-  pub linearizable : HasOneSessionEach one.log.safe.log → IsLinearizable one.log.safe.log h
+  pub linearizable : HaveOwnNumbers h → HasOneSessionEach one.log.safe.log → IsLinearizable one.log.safe.log h
 
 abbrev pub HistoriesAreLinearizable : Type 0
 HistoriesAreLinearizable =

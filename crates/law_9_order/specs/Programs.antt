@@ -147,5 +147,5 @@ pub record HearInOrder (kinds : ℕ → Kind) (cluster n : ℕ) (first : ℕ →
   pub answers : (i : ℕ) (t : Heard) → Contains h (Hears i t) → IsOfLog cluster n (acts_in h) one.log.safe.log one.log.matched.run t
   -- where a program's client number is its own, each outcome that it hears is of the operation that it asked
   pub own : (i : ℕ) → IsAloneAmong ps i → (t : Heard) (a : Answered) → Contains h (Hears i t) → t.answer ≡ answer.Outcome a → IsExecutedAs one.log.safe.log t.request a
-  -- and where no client's number begins a second session, each request is executed once at most
-  pub linearizable : HasOneSessionEach one.log.safe.log → IsLinearizable one.log.safe.log h
+  -- and where each has its own, and none begins a second session, it is linearizable
+  pub linearizable : ((i : ℕ) → IsAloneAmong ps i) → HasOneSessionEach one.log.safe.log → IsLinearizable one.log.safe.log h

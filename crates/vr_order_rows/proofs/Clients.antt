@@ -168,7 +168,7 @@ module _ (log : List Whole) (at_first : slice_get log 0 ≡ Some first) (at_thir
 
   -- ---- so it has the order of the log
 
-  own : (q : RequestFields) (a : Answered) → HasHeard clients q a → IsExecutedAs log q a
+  pub own : (q : RequestFields) (a : Answered) → HasHeard clients q a → IsExecutedAs log q a
   own q a x =
       let y = heard_all q a x in
       subst (λ (p : RequestFields). IsExecutedAs log p a) y.0 (subst (λ (b : Answered). IsExecutedAs log (register_of 8) b) (sym y.1) executed_own)
@@ -228,4 +228,4 @@ once_two : IsOnceInSession two
 once_two before between later d e is client request before_it then = each_once before between d e client request before_it then
 
 pub linearizable_two : IsLinearizable two clients
-linearizable_two = record { ordered = clients_ordered two refl refl; once = executed_once two once_two sessions_two }
+linearizable_two = record { ordered = clients_ordered two refl refl; executed = own two refl refl; once = executed_once two once_two sessions_two }
