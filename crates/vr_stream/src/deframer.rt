@@ -1,5 +1,5 @@
 //! Where messages end in the pieces of a stream.
-ghost use Rattle.std.specs.Prelude.{◌≡◌, ◌≤◌, ◌<◌, ◌++◌, [], IfOk, length, drop, nat_lt, take, vec_len, vec_capacity};
+ghost use Rattle.std.specs.Prelude.{◌≡◌, ◌≢◌, ◌≤◌, ◌<◌, ◌++◌, [], IfOk, length, drop, nat_lt, take, vec_len, vec_capacity};
 ghost use Rattle.vr_stream.specs.Looking.{Gives};
 
 use crate::Next;
@@ -98,6 +98,7 @@ impl Deframer {
     pub fn next(&mut self, to: &mut Vec<u8>) -> Next
         requires { 20480 ≤ vec_capacity to.old }
         ensures gives { Gives self.old self.new to.new.items result }
+        ensures kept { result ≢ Next.Message → to.new ≡ to.old }
         ensures room { vec_capacity to.old ≤ vec_capacity to.new }
     {
         match look(&self.bytes[self.start..]) {

@@ -1,5 +1,5 @@
 //! A link over streams.
-ghost use Rattle.std.specs.Prelude.{◌≡◌, ◌≤◌, ◌<◌, ◌+◌, ◌⊎◌, [], ◌∷◌, true, None, IfOk, OnErr, OnOk, replicate, vec_capacity, vec_len};
+ghost use Rattle.std.specs.Prelude.{◌≡◌, ◌≤◌, ◌<◌, ◌+◌, ◌⊎◌, [], ◌∷◌, true, false, None, IfOk, OnErr, OnOk, replicate, vec_capacity, vec_len};
 ghost use Rattle.vr_stream.specs.Framers.{framing};
 ghost use Rattle.vr_stream.specs.Heard.{IsTold};
 
@@ -28,6 +28,7 @@ impl<T: Streams> StreamLink<T> {
         ensures streams { IfOk result (λ l. l.framed.streams ≡ streams) }
         ensures peers { IfOk result (λ l. l.framed.peers ≡ peers) }
         ensures lines { IfOk result (λ l. l.framed.framer.lines.items ≡ replicate (peers + 64) fresh_line) }
+        ensures over { IfOk result (λ l. l.framed.is_over ≡ false) }
         ensures ready { IfOk result (λ l. l.framed.framer.ready ≡ None) }
         ensures faults { IfOk result (λ l. (l.framed.faults ≡ 0) × (l.framed.send_faults ≡ 0)) }
     {
@@ -46,6 +47,7 @@ impl<T: Streams> StreamLink<T> {
         ensures streams { IfOk result (λ l. l.framed.streams ≡ streams) }
         ensures peers { IfOk result (λ l. l.framed.peers ≡ peers) }
         ensures lines { IfOk result (λ l. l.framed.framer.lines.items ≡ replicate (peers + 64) fresh_line) }
+        ensures over { IfOk result (λ l. l.framed.is_over ≡ false) }
         ensures ready { IfOk result (λ l. l.framed.framer.ready ≡ None) }
         ensures faults { IfOk result (λ l. (l.framed.faults ≡ 0) × (l.framed.send_faults ≡ 0)) }
         ensures told { IfOk result (λ l. l.is_told ≡ true) }
