@@ -12,5 +12,5 @@ speak-requires-clause-changing g c =
     let entered = view_entered _ _ _ (c.in_ok-enter.ensures.made c.requires.last) in
     let kept = log_view_entered _ _ _ (c.in_ok-enter.ensures.made c.requires.last) in
     let heard = log_view_heard c.args.message.now.replica c.enter.new.replica c.hear.new.self c.hear.ensures.heard in
-    let low = log_view_low _ c.requires.ready in
+    let low = log_view_low _ c.requires.act.ready in
     omega (arith, entered, kept, heard, low, c.hear.ensures.view, c.requires.later)
