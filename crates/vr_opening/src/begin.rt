@@ -126,7 +126,7 @@ fn go_on<D: SectorDisk>(
     load_on(replica, alloc, disk, out)
 }
 
-// The same, unless sequence numbers are at their end: then nothing is written any more, and nothing sent.
+// Goes on with the opening, unless sequence numbers are at their end: then nothing is written any more, and nothing sent.
 #[tactic(auto, using(crate::proofs::Begins::resumed, crate::proofs::Begins::spent, crate::proofs::Begins::unspent_room, vr_journal::proofs::Loads::ready_opened, vr_journal::proofs::Stepping::wants))]
 fn resume<D: SectorDisk>(
     replica: &mut Replica,

@@ -92,7 +92,7 @@ fn op_at(replica: &Replica, i: u64) -> u64
     replica.saved().fields().checkpoint + 1 + i
 }
 
-// The same where the op is one of the checkpoint.
+// Finds what is known of the op of a header that the value names, where it is one of the checkpoint.
 #[tactic(auto, using(vr_journal::proofs::Stepping::does_quiet, crate::proofs::Olds::old_skipped))]
 fn recover_listed<D: SectorDisk>(
     replica: &mut Replica,
@@ -116,7 +116,7 @@ fn recover_listed<D: SectorDisk>(
     }
 }
 
-// The same for the header at a place.
+// Finds what is known of the op of the header at this place of the value's, where it is one of the checkpoint.
 #[tactic(auto, using(crate::proofs::Olds::one_header))]
 fn recover_at<D: SectorDisk>(
     replica: &mut Replica,
@@ -200,7 +200,7 @@ fn recover_window<D: SectorDisk>(
     Ok(())
 }
 
-// The same with a buffer of its own.
+// Finds what is known of the ops of the window, with a buffer of its own to read into.
 #[tactic(auto, using(vr_journal::proofs::Stepping::does_no_memory))]
 fn recover_ops<D: SectorDisk>(
     replica: &mut Replica,

@@ -52,7 +52,7 @@ pub fn decide_do_view_change(replica: &Replica, message: &DoViewChange) -> State
     }
 }
 
-// The same Part; its header has the values of the program.
+// A copy of a Part, whose header has the values of the program.
 #[tactic(auto, using(crate::proofs::Copies::valued))]
 fn copy_part(part: &Part) -> Part
     ensures same { result ≡ part.now }
@@ -67,7 +67,7 @@ fn copy_part(part: &Part) -> Part
     }
 }
 
-// The same Parts; their headers have the values of the program.
+// A copy of Parts, whose headers have the values of the program.
 #[tactic(auto, using(crate::proofs::Copies::copies))]
 fn copy_parts(alloc: Global, parts: &[Part]) -> Result<Seq<Part>, AllocError>
     ensures same { IfOk result (λ copy. copy ≡ parts.now) }
@@ -80,7 +80,7 @@ fn copy_parts(alloc: Global, parts: &[Part]) -> Result<Seq<Part>, AllocError>
     Ok(copy)
 }
 
-// The same statement; its headers have the values of the program.
+// A copy of a statement, whose headers have the values of the program.
 fn copy_statement(alloc: Global, statement: &Statement) -> Result<Statement, AllocError>
     ensures same { IfOk result (λ copy. copy ≡ statement.now) }
     ensures values { OnOk result (AreHeaders (known statement.now.body.parts)) }
