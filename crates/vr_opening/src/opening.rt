@@ -68,7 +68,7 @@ fn is_old(replica: &Replica, header: &Header) -> bool
 }
 
 // How many headers the value has.
-fn names(replica: &Replica) -> usize
+fn header_count(replica: &Replica) -> usize
     ensures { result ≡ length replica.now.saved.headers }
 {
     replica.saved().headers().len()
@@ -150,7 +150,7 @@ fn recover_olds<D: SectorDisk>(
     ensures cause { Caused (D.faults disk.old) (D.faults disk.new) result }
     ensures step { Does (each recover_old (old_headers replica.old.saved)) replica.old replica.new (D.told disk.old) (D.told disk.new) out.old out.new result }
 {
-    let count = names(replica);
+    let count = header_count(replica);
     for i in 0..count {
         recover_at(replica, alloc, disk, i, out)?;
     }

@@ -14,7 +14,7 @@ use vr_journal::{Replica, find_entry};
 
 // Reads the entry of this header, which is stored; one that can't be read is lost.
 #[tactic(auto, using(crate::proofs::EntryReadings::found, vr_journal::proofs::Memory::readies))]
-fn read_stored<D: SectorDisk>(
+fn look_up_stored<D: SectorDisk>(
     replica: &mut Replica,
     alloc: Global,
     disk: &mut D,
@@ -41,7 +41,7 @@ fn read_stored<D: SectorDisk>(
 /// Reads the entry of an op where it is stored; one that can't be read is lost. `None`: there is none to be had. It changes nothing on
 /// the disk, and an `Err` changes nothing.
 #[tactic(auto, using(vr_journal::proofs::Memory::here_op))]
-pub fn read_entry<D: SectorDisk>(
+pub fn look_up<D: SectorDisk>(
     replica: &mut Replica,
     alloc: Global,
     disk: &mut D,
@@ -55,7 +55,7 @@ pub fn read_entry<D: SectorDisk>(
     ensures kept { OnErr result (replica.new ≡ replica.old) }
 {
     match replica.part_at(op) {
-        Part::Here(header) => read_stored(replica, alloc, disk, &header),
+        Part::Here(header) => look_up_stored(replica, alloc, disk, &header),
         _ => Ok(None),
     }
 }

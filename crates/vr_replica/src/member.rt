@@ -14,7 +14,7 @@ ghost use Rattle.vr_replica.specs.Entries.{after_reading, entry_by};
 ghost use Rattle.vr_replica.specs.Running.{memory_of};
 ghost use Rattle.vr_journal.specs.Acts.{Untouched};
 
-use crate::entries::read_entry;
+use crate::entries::look_up;
 use crate::reacting::react;
 use std::alloc::Global;
 use std::marker::Model;
@@ -236,6 +236,6 @@ impl Replica {
         ensures left { IfOk result (λ found. self.new.memory ≡ after_reading (part_at self.old.memory op) found self.old.memory) }
         ensures kept { OnErr result (self.new ≡ self.old) }
     {
-        read_entry(&mut self.memory, alloc, disk, op)
+        look_up(&mut self.memory, alloc, disk, op)
     }
 }
