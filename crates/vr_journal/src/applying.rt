@@ -1,12 +1,13 @@
 //! Apply: the stored entries up to the commit number, in order.
-ghost use Rattle.std.specs.Prelude.{◌≡◌, ◌<◌, ◌≤◌, ◌+◌, ◌-◌, ◌^◌, IfOk, OnOk, true, if◌then◌else◌};
+ghost use Rattle.std.specs.Prelude.{◌≡◌, ◌<◌, ◌≤◌, ◌+◌, ◌^◌, IfOk, true};
 ghost use Rattle.vr_ckpt.specs.Saves.{saved_checkpoint};
 ghost use Rattle.vr_ckpt.specs.StateTexts.{texts_of};
 ghost use Rattle.vr_memory.specs.Replica.{part_at, version};
 ghost use Rattle.vr_memory.specs.Words.{checkpoints, make_checkpoint, is_checkpoint, applied, apply_entry, apply_next, apply, with_entry, learn};
-ghost use Rattle.vr_step.specs.Does.{Does, Caused, PerformsTo, done};
+ghost use Rattle.vr_step.specs.Does.{Caused, PerformsTo, done};
 ghost use Rattle.vr_header.specs.declared.part.Part.TheVariants.{Here};
-ghost use Rattle.vr_memory.specs.Ready.{IsReady, MayApply, HasApplied, due};
+ghost use Rattle.vr_memory.specs.Ready.{MayApply, HasApplied, due};
+ghost use Rattle.vr_journal.specs.Acts.{Acts, MayAct, Spends};
 
 use crate::reading::find_entry;
 use crate::words::save;
@@ -58,11 +59,8 @@ fn make_checkpoint<D: SectorDisk>(
     requires due { is_checkpoint replica.old.applied ≡ true }
     requires applied { HasApplied replica.old }
     requires room { replica.old.saved.fields.sequence + 1 < 2 ^ 64 }
-    ensures ready { OnOk result (IsReady replica.new) }
-    ensures view { OnOk result (replica.new.view ≡ replica.old.view) }
-    ensures spent { OnOk result (replica.new.saved.fields.sequence ≤ replica.old.saved.fields.sequence + 1) }
-    ensures cause { Caused (D.faults disk.old) (D.faults disk.new) result }
-    ensures step { Does make_checkpoint replica.old replica.new (D.told disk.old) (D.told disk.new) out.old out.new result }
+    ensures spends { Spends 1 replica.old replica.new result }
+    ensures acts { Acts D.SectorDisk make_checkpoint replica.old replica.new disk.old disk.new out.old out.new result }
 {
     let saved = put_checkpoint(replica, alloc, disk)?;
     replica.move_window(saved);
@@ -79,11 +77,8 @@ fn check_point<D: SectorDisk>(
 ) -> Result<(), Halt>
     requires applied { HasApplied replica.old }
     requires room { replica.old.saved.fields.sequence + 1 < 2 ^ 64 }
-    ensures ready { OnOk result (IsReady replica.new) }
-    ensures view { OnOk result (replica.new.view ≡ replica.old.view) }
-    ensures spent { OnOk result (replica.new.saved.fields.sequence ≤ replica.old.saved.fields.sequence + 1) }
-    ensures cause { Caused (D.faults disk.old) (D.faults disk.new) result }
-    ensures step { Does due replica.old replica.new (D.told disk.old) (D.told disk.new) out.old out.new result }
+    ensures spends { Spends 1 replica.old replica.new result }
+    ensures acts { Acts D.SectorDisk due replica.old replica.new disk.old disk.new out.old out.new result }
 {
     if replica.is_due() {
         make_checkpoint(replica, alloc, disk, out)
@@ -104,11 +99,8 @@ fn apply_entry<D: SectorDisk>(
     requires may { MayApply replica.old }
     requires taken { entry.header.version ≤ version replica.old }
     requires room { replica.old.saved.fields.sequence + 1 < 2 ^ 64 }
-    ensures ready { OnOk result (IsReady replica.new) }
-    ensures view { OnOk result (replica.new.view ≡ replica.old.view) }
-    ensures spent { OnOk result (replica.new.saved.fields.sequence ≤ replica.old.saved.fields.sequence + 1) }
-    ensures cause { Caused (D.faults disk.old) (D.faults disk.new) result }
-    ensures step { Does (apply_entry entry) replica.old replica.new (D.told disk.old) (D.told disk.new) out.old out.new result }
+    ensures spends { Spends 1 replica.old replica.new result }
+    ensures acts { Acts D.SectorDisk (apply_entry entry) replica.old replica.new disk.old disk.new out.old out.new result }
 {
     let _header = entry.header();
     replica.apply_state(entry, out)?;
@@ -127,11 +119,8 @@ fn apply_found<D: SectorDisk>(
     requires may { MayApply replica.old }
     requires here { part_at replica.old header.now.op ≡ Here header.now }
     requires room { replica.old.saved.fields.sequence + 1 < 2 ^ 64 }
-    ensures ready { OnOk result (IsReady replica.new) }
-    ensures view { OnOk result (replica.new.view ≡ replica.old.view) }
-    ensures spent { OnOk result (replica.new.saved.fields.sequence ≤ replica.old.saved.fields.sequence + 1) }
-    ensures cause { Caused (D.faults disk.old) (D.faults disk.new) result }
-    ensures step { Does (with_entry apply_entry (Here header.now)) replica.old replica.new (D.told disk.old) (D.told disk.new) out.old out.new result }
+    ensures spends { Spends 1 replica.old replica.new result }
+    ensures acts { Acts D.SectorDisk (with_entry apply_entry (Here header.now)) replica.old replica.new disk.old disk.new out.old out.new result }
 {
     match find_entry(replica, alloc, disk, header)? {
         Some(entry) => apply_entry(replica, alloc, disk, entry, out),
@@ -154,11 +143,8 @@ fn apply_part<D: SectorDisk>(
     requires may { MayApply replica.old }
     requires part { part ≡ part_at replica.old (replica.old.applied + 1) }
     requires room { replica.old.saved.fields.sequence + 1 < 2 ^ 64 }
-    ensures ready { OnOk result (IsReady replica.new) }
-    ensures view { OnOk result (replica.new.view ≡ replica.old.view) }
-    ensures spent { OnOk result (replica.new.saved.fields.sequence ≤ replica.old.saved.fields.sequence + 1) }
-    ensures cause { Caused (D.faults disk.old) (D.faults disk.new) result }
-    ensures step { Does (with_entry apply_entry part) replica.old replica.new (D.told disk.old) (D.told disk.new) out.old out.new result }
+    ensures spends { Spends 1 replica.old replica.new result }
+    ensures acts { Acts D.SectorDisk (with_entry apply_entry part) replica.old replica.new disk.old disk.new out.old out.new result }
 {
     match part {
         Part::Here(header) => apply_found(replica, alloc, disk, &header, out),
@@ -174,13 +160,9 @@ fn apply_next<D: SectorDisk>(
     disk: &mut D,
     out: &mut Outbox,
 ) -> Result<(), Halt>
-    requires ready { IsReady replica.old }
-    requires room { replica.old.saved.fields.sequence + 1 < 2 ^ 64 }
-    ensures ready { OnOk result (IsReady replica.new) }
-    ensures view { OnOk result (replica.new.view ≡ replica.old.view) }
-    ensures spent { OnOk result (replica.new.saved.fields.sequence ≤ replica.old.saved.fields.sequence + 1) }
-    ensures cause { Caused (D.faults disk.old) (D.faults disk.new) result }
-    ensures step { Does apply_next replica.old replica.new (D.told disk.old) (D.told disk.new) out.old out.new result }
+    requires { MayAct 1 replica.old }
+    ensures spends { Spends 1 replica.old replica.new result }
+    ensures acts { Acts D.SectorDisk apply_next replica.old replica.new disk.old disk.new out.old out.new result }
 {
     if replica.may_apply() {
         let part = replica.part_at(replica.applied() + 1);
@@ -198,11 +180,8 @@ pub fn apply<D: SectorDisk>(
     disk: &mut D,
     out: &mut Outbox,
 ) -> Result<(), Halt>
-    requires ready { IsReady replica.old }
-    requires room { replica.old.saved.fields.sequence + 64 < 2 ^ 64 }
-    ensures ready { OnOk result (IsReady replica.new) }
-    ensures cause { Caused (D.faults disk.old) (D.faults disk.new) result }
-    ensures step { Does apply replica.old replica.new (D.told disk.old) (D.told disk.new) out.old out.new result }
+    requires { MayAct 64 replica.old }
+    ensures { Acts D.SectorDisk apply replica.old replica.new disk.old disk.new out.old out.new result }
 {
     let times = replica.to_apply();
     for i in 0..times {
@@ -221,11 +200,8 @@ pub fn learn<D: SectorDisk>(
     commit: u64,
     out: &mut Outbox,
 ) -> Result<(), Halt>
-    requires ready { IsReady replica.old }
-    requires room { replica.old.saved.fields.sequence + 64 < 2 ^ 64 }
-    ensures ready { OnOk result (IsReady replica.new) }
-    ensures cause { Caused (D.faults disk.old) (D.faults disk.new) result }
-    ensures step { Does (learn commit) replica.old replica.new (D.told disk.old) (D.told disk.new) out.old out.new result }
+    requires { MayAct 64 replica.old }
+    ensures { Acts D.SectorDisk (learn commit) replica.old replica.new disk.old disk.new out.old out.new result }
 {
     replica.learn_commit(commit);
     apply(replica, alloc, disk, out)

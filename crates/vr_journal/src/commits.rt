@@ -1,9 +1,9 @@
 //! Commit numbers rise.
-ghost use Rattle.std.specs.Prelude.{◌≡◌, ◌<◌, ◌+◌, ◌^◌, OnOk};
+ghost use Rattle.std.specs.Prelude.{◌≡◌, ◌<◌, ◌+◌};
 ghost use Rattle.vr_journal.specs.Waits.{EndsAtOnce, Waits, applies_next};
 ghost use Rattle.vr_memory.specs.Ready.{IsReady};
 ghost use Rattle.vr_memory.specs.Words.{advance};
-ghost use Rattle.vr_step.specs.Does.{Caused, Does};
+ghost use Rattle.vr_journal.specs.Acts.{Acts, MayAct};
 
 use crate::applying::apply;
 use std::alloc::Global;
@@ -33,12 +33,9 @@ pub fn advance<D: SectorDisk>(
     disk: &mut D,
     out: &mut Outbox,
 ) -> Result<(), Halt>
-    requires ready { IsReady replica.old }
-    requires room { replica.old.saved.fields.sequence + 64 < 2 ^ 64 }
-    ensures ready { OnOk result (IsReady replica.new) }
-    ensures cause { Caused (D.faults disk.old) (D.faults disk.new) result }
+    requires { MayAct 64 replica.old }
     ensures at_once { Waits replica.old → EndsAtOnce disk.old disk.new result }
-    ensures step { Does advance replica.old replica.new (D.told disk.old) (D.told disk.new) out.old out.new result }
+    ensures acts { Acts D.SectorDisk advance replica.old replica.new disk.old disk.new out.old out.new result }
 {
     replica.advance_commit();
     if applies_next(replica) {

@@ -1,10 +1,10 @@
 //! The checkpoint is loaded.
-ghost use Rattle.std.specs.Prelude.{◌≡◌, IfOk, OnOk, nat_lt};
-ghost use Rattle.vr_ckpt.specs.declared.found.Load.{Load};
+ghost use Rattle.std.specs.Prelude.{◌≡◌, IfOk, nat_lt};
 ghost use Rattle.vr_memory.specs.Replica.{version};
 ghost use Rattle.vr_memory.specs.Words.{load, checkpoint_at};
-ghost use Rattle.vr_step.specs.Does.{Does, Finds, Caused};
-ghost use Rattle.vr_memory.specs.Ready.{IsReady, MayLoad};
+ghost use Rattle.vr_step.specs.Does.{Finds};
+ghost use Rattle.vr_memory.specs.Ready.{MayLoad};
+ghost use Rattle.vr_journal.specs.Acts.{Acts, Keeps, Untouched};
 
 use std::alloc::Global;
 use vr_base::NoMemory;
@@ -22,8 +22,7 @@ fn find_checkpoint<D: SectorDisk>(
     disk: &mut D,
 ) -> Result<Load, NoMemory>
     ensures found { IfOk result (λ l. Finds (version replica.now) (checkpoint_at replica.now.root) (D.told disk.old) (D.told disk.new) l) }
-    ensures told { D.told disk.new ≡ D.told disk.old }
-    ensures faults { D.faults disk.new ≡ D.faults disk.old }
+    ensures untouched { Untouched D.SectorDisk disk.old disk.new }
 {
     vr_ckpt::load(alloc, disk, replica.root())
 }
@@ -43,11 +42,8 @@ pub fn load<D: SectorDisk>(
     _out: &mut Outbox,
 ) -> Result<(), Halt>
     requires opened { MayLoad replica.old }
-    ensures ready { OnOk result (IsReady replica.new) }
-    ensures view { OnOk result (replica.new.view ≡ replica.old.view) }
-    ensures saved { OnOk result (replica.new.saved ≡ replica.old.saved) }
-    ensures cause { Caused (D.faults disk.old) (D.faults disk.new) result }
-    ensures step { Does load replica.old replica.new (D.told disk.old) (D.told disk.new) _out.old _out.new result }
+    ensures keeps { Keeps replica.old replica.new result }
+    ensures acts { Acts D.SectorDisk load replica.old replica.new disk.old disk.new _out.old _out.new result }
 {
     if has_checkpoint(replica) {
         let found = find_checkpoint(replica, alloc, disk)?;

@@ -1,9 +1,9 @@
 //! Entries that are prepared again.
-ghost use Rattle.std.specs.Prelude.{◌≡◌, ◌≤◌, OnOk};
+ghost use Rattle.std.specs.Prelude.{◌≤◌};
 ghost use Rattle.vr_memory.specs.Ready.{IsReady};
 ghost use Rattle.vr_memory.specs.Replica.{last_view};
 ghost use Rattle.vr_memory.specs.Words.{prepare_again};
-ghost use Rattle.vr_step.specs.Does.{Caused, Does};
+ghost use Rattle.vr_journal.specs.Acts.{Acts, Keeps};
 
 use crate::reading::read_entry;
 use std::alloc::Global;
@@ -23,11 +23,8 @@ pub fn prepare_again<D: SectorDisk>(
 ) -> Result<(), Halt>
     requires ready { IsReady replica.old }
     requires view { replica.old.view ≤ last_view }
-    ensures ready { OnOk result (IsReady replica.new) }
-    ensures view { OnOk result (replica.new.view ≡ replica.old.view) }
-    ensures saved { OnOk result (replica.new.saved ≡ replica.old.saved) }
-    ensures cause { Caused (D.faults disk.old) (D.faults disk.new) result }
-    ensures step { Does (prepare_again op) replica.old replica.new (D.told disk.old) (D.told disk.new) out.old out.new result }
+    ensures keeps { Keeps replica.old replica.new result }
+    ensures acts { Acts D.SectorDisk (prepare_again op) replica.old replica.new disk.old disk.new out.old out.new result }
 {
     match read_entry(replica, alloc, disk, op)? {
         Some(entry) => replica.send_prepare(alloc, &entry, out)?,

@@ -1,11 +1,11 @@
 //! The words of which rules are made.
-ghost use Rattle.std.specs.Prelude.{◌≡◌, ◌<◌, ◌≤◌, ◌+◌, ◌^◌, OnOk};
+ghost use Rattle.std.specs.Prelude.{◌≡◌, ◌≤◌, ◌+◌, OnOk};
 ghost use Rattle.vr_memory.specs.Words.{save, write, accept, enter, entered, value_of, with_saved};
 ghost use Rattle.vr_memory.specs.Outputs.{send_to_all, start_view_change};
 ghost use Rattle.vr_memory.specs.Steps.{◌⨾◌, change, says};
 ghost use Rattle.vr_memory.specs.Replica.{last_view};
-ghost use Rattle.vr_step.specs.Does.{Does, Caused};
 ghost use Rattle.vr_memory.specs.Ready.{IsReady, MayStore};
+ghost use Rattle.vr_journal.specs.Acts.{Acts, Keeps, MayAct, Spends};
 
 use crate::effects::{save_value, write_entry};
 use std::alloc::Global;
@@ -26,12 +26,9 @@ fn save_made<D: SectorDisk>(
 ) -> Result<(), Halt>
     requires ready { IsReady replica.old }
     requires value { value ≡ value_of replica.old }
-    ensures ready { OnOk result (IsReady replica.new) }
-    ensures view { OnOk result (replica.new.view ≡ replica.old.view) }
-    ensures spent { OnOk result (replica.new.saved.fields.sequence ≤ replica.old.saved.fields.sequence + 1) }
+    ensures spends { Spends 1 replica.old replica.new result }
     ensures made { OnOk result (replica.new ≡ with_saved replica.old) }
-    ensures cause { Caused (D.faults disk.old) (D.faults disk.new) result }
-    ensures step { Does save replica.old replica.new (D.told disk.old) (D.told disk.new) _out.old _out.new result }
+    ensures acts { Acts D.SectorDisk save replica.old replica.new disk.old disk.new _out.old _out.new result }
 {
     // Asked for what its type keeps: a value makes a good copy.
     let _fields = value.fields();
@@ -49,14 +46,10 @@ pub fn save<D: SectorDisk>(
     disk: &mut D,
     out: &mut Outbox,
 ) -> Result<(), Halt>
-    requires ready { IsReady replica.old }
-    requires room { replica.old.saved.fields.sequence + 1 < 2 ^ 64 }
-    ensures ready { OnOk result (IsReady replica.new) }
-    ensures view { OnOk result (replica.new.view ≡ replica.old.view) }
-    ensures spent { OnOk result (replica.new.saved.fields.sequence ≤ replica.old.saved.fields.sequence + 1) }
+    requires { MayAct 1 replica.old }
+    ensures spends { Spends 1 replica.old replica.new result }
     ensures made { OnOk result (replica.new ≡ with_saved replica.old) }
-    ensures cause { Caused (D.faults disk.old) (D.faults disk.new) result }
-    ensures step { Does save replica.old replica.new (D.told disk.old) (D.told disk.new) out.old out.new result }
+    ensures acts { Acts D.SectorDisk save replica.old replica.new disk.old disk.new out.old out.new result }
 {
     let value = replica.value(alloc)?;
     save_made(replica, disk, value, out)
@@ -72,11 +65,8 @@ pub fn write<D: SectorDisk>(
 ) -> Result<(), Halt>
     requires ready { IsReady replica.old }
     requires may { MayStore entry.now replica.old }
-    ensures ready { OnOk result (IsReady replica.new) }
-    ensures view { OnOk result (replica.new.view ≡ replica.old.view) }
-    ensures saved { OnOk result (replica.new.saved ≡ replica.old.saved) }
-    ensures cause { Caused (D.faults disk.old) (D.faults disk.new) result }
-    ensures step { Does (write entry.now) replica.old replica.new (D.told disk.old) (D.told disk.new) _out.old _out.new result }
+    ensures keeps { Keeps replica.old replica.new result }
+    ensures acts { Acts D.SectorDisk (write entry.now) replica.old replica.new disk.old disk.new _out.old _out.new result }
 {
     write_entry(replica, disk, entry)?;
     replica.store(entry);
@@ -93,11 +83,8 @@ pub fn accept<D: SectorDisk>(
 ) -> Result<(), Halt>
     requires ready { IsReady replica.old }
     requires may { MayStore entry.now replica.old }
-    ensures ready { OnOk result (IsReady replica.new) }
-    ensures view { OnOk result (replica.new.view ≡ replica.old.view) }
-    ensures saved { OnOk result (replica.new.saved ≡ replica.old.saved) }
-    ensures cause { Caused (D.faults disk.old) (D.faults disk.new) result }
-    ensures step { Does (accept entry.now) replica.old replica.new (D.told disk.old) (D.told disk.new) out.old out.new result }
+    ensures keeps { Keeps replica.old replica.new result }
+    ensures acts { Acts D.SectorDisk (accept entry.now) replica.old replica.new disk.old disk.new out.old out.new result }
 {
     if is_here(&replica.part_at(entry.header().op)) {
         Ok(())
@@ -115,15 +102,12 @@ fn enter_now<D: SectorDisk>(
     view: u32,
     out: &mut Outbox,
 ) -> Result<(), Halt>
-    requires ready { IsReady replica.old }
-    requires room { replica.old.saved.fields.sequence + 1 < 2 ^ 64 }
+    requires act { MayAct 1 replica.old }
     requires later { replica.old.view ≤ view }
     requires within { view ≤ last_view }
-    ensures ready { OnOk result (IsReady replica.new) }
     ensures spent { OnOk result (replica.new.saved.fields.sequence ≤ replica.old.saved.fields.sequence + 1) }
     ensures made { OnOk result (replica.new ≡ with_saved (entered view replica.old)) }
-    ensures cause { Caused (D.faults disk.old) (D.faults disk.new) result }
-    ensures step { Does (change (entered view) ⨾ save ⨾ says (send_to_all start_view_change)) replica.old replica.new (D.told disk.old) (D.told disk.new) out.old out.new result }
+    ensures acts { Acts D.SectorDisk (change (entered view) ⨾ save ⨾ says (send_to_all start_view_change)) replica.old replica.new disk.old disk.new out.old out.new result }
 {
     replica.turn_to(view);
     save(replica, alloc, disk, out)?;
@@ -140,14 +124,11 @@ pub fn enter<D: SectorDisk>(
     view: u32,
     out: &mut Outbox,
 ) -> Result<(), Halt>
-    requires ready { IsReady replica.old }
-    requires room { replica.old.saved.fields.sequence + 1 < 2 ^ 64 }
+    requires act { MayAct 1 replica.old }
     requires later { replica.old.view ≤ view }
-    ensures ready { OnOk result (IsReady replica.new) }
     ensures spent { OnOk result (replica.new.saved.fields.sequence ≤ replica.old.saved.fields.sequence + 1) }
     ensures made { OnOk result (view ≤ last_view → replica.new ≡ with_saved (entered view replica.old)) }
-    ensures cause { Caused (D.faults disk.old) (D.faults disk.new) result }
-    ensures step { Does (enter view) replica.old replica.new (D.told disk.old) (D.told disk.new) out.old out.new result }
+    ensures acts { Acts D.SectorDisk (enter view) replica.old replica.new disk.old disk.new out.old out.new result }
 {
     if LAST_VIEW < view {
         replica.rest();

@@ -1,5 +1,5 @@
 //! Acknowledgements are counted: prepare_oks.
-ghost use Rattle.std.specs.Prelude.{◌≡◌, ◌<◌, ◌≤◌, ◌+◌, ◌^◌, ◌&&◌, ◌==◌, nat_le, nat_lt, OnOk, true};
+ghost use Rattle.std.specs.Prelude.{◌≡◌, ◌<◌, ◌&&◌, ◌==◌, nat_le, nat_lt, true};
 ghost use Rattle.vr_base.specs.Bytes.{name_of};
 ghost use Rattle.vr_journal.specs.Ready.{IsReady};
 ghost use Rattle.vr_journal.specs.Waits.{EndsAtOnce, Waits, passes};
@@ -9,9 +9,9 @@ ghost use Rattle.vr_journal.specs.Replica.{head, leads};
 ghost use Rattle.vr_journal.specs.Rules.{acknowledged, on_prepare_ok};
 ghost use Rattle.vr_journal.specs.Steps.{◌⨾◌, change};
 ghost use Rattle.vr_journal.specs.Words.{advance};
-ghost use Rattle.vr_journal.specs.Does.{Caused, Does};
 ghost use Rattle.vr_normal.specs.Named.{count_rule};
 ghost use Rattle.vr_normal.specs.declared.counting.CountRule.TheVariants as CountRule;
+ghost use Rattle.vr_journal.specs.Acts.{Acts, MayAct};
 
 use std::alloc::Global;
 use vr_disk::SectorDisk;
@@ -64,13 +64,10 @@ fn count<D: SectorDisk>(
     ack: &PrepareOk,
     out: &mut Outbox,
 ) -> Result<(), Halt>
-    requires ready { IsReady replica.old }
+    requires act { MayAct 64 replica.old }
     requires rule { first_of (prepare_ok_table name_of ack.now replica.old) ≡ Counted }
-    requires room { replica.old.saved.fields.sequence + 64 < 2 ^ 64 }
-    ensures ready { OnOk result (IsReady replica.new) }
-    ensures cause { Caused (D.faults disk.old) (D.faults disk.new) result }
     ensures at_once { Waits (acknowledged ack.now replica.old) → EndsAtOnce disk.old disk.new result }
-    ensures step { Does (change (acknowledged ack.now) ⨾ advance) replica.old replica.new (D.told disk.old) (D.told disk.new) out.old out.new result }
+    ensures acts { Acts D.SectorDisk (change (acknowledged ack.now) ⨾ advance) replica.old replica.new disk.old disk.new out.old out.new result }
 {
     replica.add_acker(ack);
     advance(replica, alloc, disk, out)
@@ -86,13 +83,10 @@ pub fn handle_prepare_ok<D: SectorDisk>(
     ack: &PrepareOk,
     out: &mut Outbox,
 ) -> Result<(), Halt>
-    requires ready { IsReady replica.old }
-    requires room { replica.old.saved.fields.sequence + 64 < 2 ^ 64 }
-    ensures ready { OnOk result (IsReady replica.new) }
-    ensures cause { Caused (D.faults disk.old) (D.faults disk.new) result }
+    requires { MayAct 64 replica.old }
     ensures passed { passes (first_of (prepare_ok_table name_of ack.now replica.old)) ≡ true → EndsAtOnce disk.old disk.new result }
     ensures at_once { Waits (acknowledged ack.now replica.old) → EndsAtOnce disk.old disk.new result }
-    ensures step { Does (on_prepare_ok ack.now) replica.old replica.new (D.told disk.old) (D.told disk.new) out.old out.new result }
+    ensures acts { Acts D.SectorDisk (on_prepare_ok ack.now) replica.old replica.new disk.old disk.new out.old out.new result }
 {
     match decide_prepare_ok(replica, ack) {
         CountRule::Ignored => Ok(()),

@@ -1,5 +1,5 @@
 //! How far the log is committed is learned: commits.
-ghost use Rattle.std.specs.Prelude.{◌≡◌, ◌<◌, ◌≤◌, ◌+◌, ◌++◌, ◌^◌, nat_lt, OnOk};
+ghost use Rattle.std.specs.Prelude.{◌≡◌, ◌≤◌, ◌++◌, nat_lt, OnOk};
 ghost use Rattle.vr_journal.specs.Ready.{IsReady};
 ghost use Rattle.vr_journal.specs.Deciding.{commit_table, first_of};
 ghost use Rattle.vr_journal.specs.Outputs.{get_view, send_to};
@@ -7,10 +7,10 @@ ghost use Rattle.vr_journal.specs.Replica.{head, last_view};
 ghost use Rattle.vr_journal.specs.Rules.{on_commit};
 ghost use Rattle.vr_journal.specs.Steps.{◌⨾◌, change};
 ghost use Rattle.vr_journal.specs.Words.{learn, rested};
-ghost use Rattle.vr_journal.specs.Does.{Caused, Does};
 ghost use Rattle.vr_normal.specs.Messages.{IsCommitting};
 ghost use Rattle.vr_normal.specs.Named.{commit_rule};
 ghost use Rattle.vr_normal.specs.Words.{asks_behind};
+ghost use Rattle.vr_journal.specs.Acts.{Acts, MayAct};
 
 use std::alloc::{AllocError, Global};
 use vr_disk::SectorDisk;
@@ -80,8 +80,7 @@ fn ask_behind<D: SectorDisk>(
 ) -> Result<(), Halt>
     requires ready { IsReady replica.now }
     requires view { commit.now.view ≤ last_view }
-    ensures cause { Caused (D.faults _disk.old) (D.faults _disk.new) result }
-    ensures step { Does (asks_behind commit.now) replica.now replica.now (D.told _disk.old) (D.told _disk.new) out.old out.new result }
+    ensures { Acts D.SectorDisk (asks_behind commit.now) replica.now replica.now _disk.old _disk.new out.old out.new result }
 {
     if is_behind(replica, commit) {
         ask_view(replica, commit.view, commit.replica, out)?;
@@ -98,12 +97,9 @@ fn hear<D: SectorDisk>(
     commit: &Commit,
     out: &mut Outbox,
 ) -> Result<(), Halt>
-    requires ready { IsReady replica.old }
+    requires act { MayAct 64 replica.old }
     requires view { commit.now.view ≤ last_view }
-    requires room { replica.old.saved.fields.sequence + 64 < 2 ^ 64 }
-    ensures ready { OnOk result (IsReady replica.new) }
-    ensures cause { Caused (D.faults disk.old) (D.faults disk.new) result }
-    ensures step { Does (change rested ⨾ asks_behind commit.now ⨾ learn commit.now.commit) replica.old replica.new (D.told disk.old) (D.told disk.new) out.old out.new result }
+    ensures { Acts D.SectorDisk (change rested ⨾ asks_behind commit.now ⨾ learn commit.now.commit) replica.old replica.new disk.old disk.new out.old out.new result }
 {
     replica.rest();
     ask_behind(replica, disk, commit, out)?;
@@ -120,12 +116,9 @@ pub fn handle_commit<D: SectorDisk>(
     commit: &Commit,
     out: &mut Outbox,
 ) -> Result<(), Halt>
-    requires ready { IsReady replica.old }
+    requires act { MayAct 64 replica.old }
     requires message { IsCommitting commit.now }
-    requires room { replica.old.saved.fields.sequence + 64 < 2 ^ 64 }
-    ensures ready { OnOk result (IsReady replica.new) }
-    ensures cause { Caused (D.faults disk.old) (D.faults disk.new) result }
-    ensures step { Does (on_commit commit.now) replica.old replica.new (D.told disk.old) (D.told disk.new) out.old out.new result }
+    ensures { Acts D.SectorDisk (on_commit commit.now) replica.old replica.new disk.old disk.new out.old out.new result }
 {
     match decide_commit(replica, commit) {
         CommitRule::Ignored => Ok(()),

@@ -1,5 +1,5 @@
 //! A request becomes the next entry.
-ghost use Rattle.std.specs.Prelude.{◌≡◌, ◌<◌, ◌≤◌, ◌+◌, ◌^◌, IfOk, OnOk};
+ghost use Rattle.std.specs.Prelude.{◌≡◌, ◌<◌, ◌≤◌, ◌+◌, ◌^◌, IfOk};
 ghost use Rattle.vr_base.specs.Bytes.{name_of};
 ghost use Rattle.vr_header.specs.Names.{name_by};
 ghost use Rattle.vr_journal.specs.Ready.{IsReady, MayStore};
@@ -9,7 +9,7 @@ ghost use Rattle.vr_journal.specs.Rule.TheVariants.{Made};
 ghost use Rattle.vr_journal.specs.Replica.{head, head_header, last_view, version};
 ghost use Rattle.vr_journal.specs.Rules.{make, next_entry};
 ghost use Rattle.vr_journal.specs.Steps.{by};
-ghost use Rattle.vr_journal.specs.Does.{Caused, Does};
+ghost use Rattle.vr_journal.specs.Acts.{Acts, MaySend};
 
 use crate::entries::header_of;
 use std::alloc::{AllocError, Global};
@@ -71,15 +71,11 @@ fn make<D: SectorDisk>(
     entry: &Entry,
     out: &mut Outbox,
 ) -> Result<(), Halt>
-    requires ready { IsReady replica.old }
+    requires send { MaySend 64 replica.old }
     requires may { MayStore entry.now replica.old }
     requires taken { entry.now.header.version ≤ version replica.old }
     requires made { entry.now.header.view ≤ replica.old.view }
-    requires view { replica.old.view ≤ last_view }
-    requires room { replica.old.saved.fields.sequence + 64 < 2 ^ 64 }
-    ensures ready { OnOk result (IsReady replica.new) }
-    ensures cause { Caused (D.faults disk.old) (D.faults disk.new) result }
-    ensures step { Does (make entry.now) replica.old replica.new (D.told disk.old) (D.told disk.new) out.old out.new result }
+    ensures { Acts D.SectorDisk (make entry.now) replica.old replica.new disk.old disk.new out.old out.new result }
 {
     write(replica, disk, entry, out)?;
     replica.send_prepare(alloc, entry, out)?;
@@ -95,14 +91,10 @@ pub fn make_next<D: SectorDisk>(
     request: &Request,
     out: &mut Outbox,
 ) -> Result<(), Halt>
-    requires ready { IsReady replica.old }
-    requires view { replica.old.view ≤ last_view }
+    requires send { MaySend 64 replica.old }
     requires form { IsRequest request.now }
     requires rule { first_of (request_table request.now replica.old) ≡ Made }
-    requires room { replica.old.saved.fields.sequence + 64 < 2 ^ 64 }
-    ensures ready { OnOk result (IsReady replica.new) }
-    ensures cause { Caused (D.faults disk.old) (D.faults disk.new) result }
-    ensures step { Does (by (λ r. make (next_entry name_of request.now r))) replica.old replica.new (D.told disk.old) (D.told disk.new) out.old out.new result }
+    ensures { Acts D.SectorDisk (by (λ r. make (next_entry name_of request.now r))) replica.old replica.new disk.old disk.new out.old out.new result }
 {
     let entry = next_entry(replica, alloc, request)?;
     let _header = header_of(&entry);

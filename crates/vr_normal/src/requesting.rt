@@ -1,5 +1,5 @@
 //! Requests of clients.
-ghost use Rattle.std.specs.Prelude.{◌≡◌, ◌<◌, ◌≤◌, ◌+◌, ◌-◌, ◌++◌, ◌^◌, ◌||◌, not, nat_le, nat_lt, slice_index_or, IfOk, OnOk};
+ghost use Rattle.std.specs.Prelude.{◌≡◌, ◌≤◌, ◌-◌, ◌++◌, ◌||◌, not, nat_le, nat_lt, slice_index_or, IfOk, OnOk};
 ghost use Rattle.vr_base.specs.Bytes.{name_of};
 ghost use Rattle.vr_header.specs.declared.part.Part.TheVariants.{Nothing};
 ghost use Rattle.vr_journal.specs.Ready.{IsReady};
@@ -12,10 +12,10 @@ ghost use Rattle.vr_journal.specs.Rules.{asker_by, on_request};
 ghost use Rattle.vr_journal.specs.Words.{is_loaded};
 ghost use Rattle.vr_ckpt.specs.Asks.{is_fresh};
 ghost use Rattle.vr_ckpt.specs.Fitting.{AnswerFits};
-ghost use Rattle.vr_journal.specs.Does.{Caused, Does};
 ghost use Rattle.vr_normal.specs.Named.{request_rule};
 ghost use Rattle.vr_normal.specs.Requests.{Answers, HasNumber, open_rows, stored_replies};
 ghost use Rattle.vr_normal.specs.Words.{any_of, is_of};
+ghost use Rattle.vr_journal.specs.Acts.{Acts, MaySend};
 
 use crate::making::make_next;
 use std::alloc::{AllocError, Global};
@@ -222,15 +222,11 @@ fn obey_request<D: SectorDisk>(
     rule: RequestRule,
     out: &mut Outbox,
 ) -> Result<(), Halt>
-    requires ready { IsReady replica.old }
-    requires view { replica.old.view ≤ last_view }
+    requires send { MaySend 64 replica.old }
     requires form { IsRequest request.now }
     requires rule { first_of (request_table request.now replica.old) ≡ request_rule rule }
     requires answer { Answers rule request.now replica.old }
-    requires room { replica.old.saved.fields.sequence + 64 < 2 ^ 64 }
-    ensures ready { OnOk result (IsReady replica.new) }
-    ensures cause { Caused (D.faults disk.old) (D.faults disk.new) result }
-    ensures step { Does (on_request request.now) replica.old replica.new (D.told disk.old) (D.told disk.new) out.old out.new result }
+    ensures { Acts D.SectorDisk (on_request request.now) replica.old replica.new disk.old disk.new out.old out.new result }
 {
     match rule {
         RequestRule::Ignored => Ok(()),
@@ -266,12 +262,8 @@ pub fn handle_request<D: SectorDisk>(
     request: &Request,
     out: &mut Outbox,
 ) -> Result<(), Halt>
-    requires ready { IsReady replica.old }
-    requires view { replica.old.view ≤ last_view }
-    requires room { replica.old.saved.fields.sequence + 64 < 2 ^ 64 }
-    ensures ready { OnOk result (IsReady replica.new) }
-    ensures cause { Caused (D.faults disk.old) (D.faults disk.new) result }
-    ensures step { Does (on_request request.now) replica.old replica.new (D.told disk.old) (D.told disk.new) out.old out.new result }
+    requires { MaySend 64 replica.old }
+    ensures { Acts D.SectorDisk (on_request request.now) replica.old replica.new disk.old disk.new out.old out.new result }
 {
     let rule = decide_request(replica, request.fields())?;
     obey_request(replica, alloc, disk, request, rule, out)

@@ -1,5 +1,5 @@
 //! Entries of the primary are stored, and acknowledged: prepares.
-ghost use Rattle.std.specs.Prelude.{◌≡◌, ◌<◌, ◌≤◌, ◌+◌, ◌^◌, ◌&&◌, ◌==◌, nat_lt, OnOk, true};
+ghost use Rattle.std.specs.Prelude.{◌≡◌, ◌≤◌, ◌+◌, ◌&&◌, ◌==◌, nat_lt, true};
 ghost use Rattle.vr_base.specs.Bytes.{name_of};
 ghost use Rattle.vr_header.specs.Names.{name_by};
 ghost use Rattle.vr_journal.specs.Ready.{IsReady, MayStore};
@@ -10,9 +10,9 @@ ghost use Rattle.vr_journal.specs.Replica.{head, head_header, last_view};
 ghost use Rattle.vr_journal.specs.Rules.{acknowledge, ask_view, on_prepare};
 ghost use Rattle.vr_journal.specs.Steps.{◌⨾◌, change};
 ghost use Rattle.vr_journal.specs.Words.{accept, learn, rested, write};
-ghost use Rattle.vr_journal.specs.Does.{Caused, Does};
 ghost use Rattle.vr_normal.specs.Messages.{IsPreparing};
 ghost use Rattle.vr_normal.specs.Named.{prepare_rule};
+ghost use Rattle.vr_journal.specs.Acts.{Acts, MayAct, MaySend};
 
 use crate::entries::header_of;
 use crate::learning::ask_view;
@@ -117,11 +117,8 @@ fn hear<D: SectorDisk>(
     commit: u64,
     out: &mut Outbox,
 ) -> Result<(), Halt>
-    requires ready { IsReady replica.old }
-    requires room { replica.old.saved.fields.sequence + 64 < 2 ^ 64 }
-    ensures ready { OnOk result (IsReady replica.new) }
-    ensures cause { Caused (D.faults disk.old) (D.faults disk.new) result }
-    ensures step { Does (change rested ⨾ learn commit) replica.old replica.new (D.told disk.old) (D.told disk.new) out.old out.new result }
+    requires { MayAct 64 replica.old }
+    ensures { Acts D.SectorDisk (change rested ⨾ learn commit) replica.old replica.new disk.old disk.new out.old out.new result }
 {
     replica.rest();
     learn(replica, alloc, disk, commit, out)
@@ -136,13 +133,9 @@ fn store_known<D: SectorDisk>(
     prepare: &Prepare,
     out: &mut Outbox,
 ) -> Result<(), Halt>
-    requires ready { IsReady replica.old }
+    requires send { MaySend 64 replica.old }
     requires may { MayStore prepare.now.entry replica.old }
-    requires view { replica.old.view ≤ last_view }
-    requires room { replica.old.saved.fields.sequence + 64 < 2 ^ 64 }
-    ensures ready { OnOk result (IsReady replica.new) }
-    ensures cause { Caused (D.faults disk.old) (D.faults disk.new) result }
-    ensures step { Does (change rested ⨾ accept prepare.now.entry ⨾ acknowledge name_of prepare.now.entry.header ⨾ learn prepare.now.commit) replica.old replica.new (D.told disk.old) (D.told disk.new) out.old out.new result }
+    ensures { Acts D.SectorDisk (change rested ⨾ accept prepare.now.entry ⨾ acknowledge name_of prepare.now.entry.header ⨾ learn prepare.now.commit) replica.old replica.new disk.old disk.new out.old out.new result }
 {
     replica.rest();
     accept(replica, disk, &prepare.entry, out)?;
@@ -159,13 +152,9 @@ fn store_next<D: SectorDisk>(
     prepare: &Prepare,
     out: &mut Outbox,
 ) -> Result<(), Halt>
-    requires ready { IsReady replica.old }
+    requires send { MaySend 64 replica.old }
     requires may { MayStore prepare.now.entry replica.old }
-    requires view { replica.old.view ≤ last_view }
-    requires room { replica.old.saved.fields.sequence + 64 < 2 ^ 64 }
-    ensures ready { OnOk result (IsReady replica.new) }
-    ensures cause { Caused (D.faults disk.old) (D.faults disk.new) result }
-    ensures step { Does (change rested ⨾ write prepare.now.entry ⨾ acknowledge name_of prepare.now.entry.header ⨾ learn prepare.now.commit) replica.old replica.new (D.told disk.old) (D.told disk.new) out.old out.new result }
+    ensures { Acts D.SectorDisk (change rested ⨾ write prepare.now.entry ⨾ acknowledge name_of prepare.now.entry.header ⨾ learn prepare.now.commit) replica.old replica.new disk.old disk.new out.old out.new result }
 {
     replica.rest();
     write(replica, disk, &prepare.entry, out)?;
@@ -182,12 +171,9 @@ fn ask_ahead<D: SectorDisk>(
     prepare: &Prepare,
     out: &mut Outbox,
 ) -> Result<(), Halt>
-    requires ready { IsReady replica.old }
+    requires act { MayAct 64 replica.old }
     requires view { prepare.now.view ≤ last_view }
-    requires room { replica.old.saved.fields.sequence + 64 < 2 ^ 64 }
-    ensures ready { OnOk result (IsReady replica.new) }
-    ensures cause { Caused (D.faults disk.old) (D.faults disk.new) result }
-    ensures step { Does (change rested ⨾ ask_view prepare.now.view prepare.now.replica ⨾ learn prepare.now.commit) replica.old replica.new (D.told disk.old) (D.told disk.new) out.old out.new result }
+    ensures { Acts D.SectorDisk (change rested ⨾ ask_view prepare.now.view prepare.now.replica ⨾ learn prepare.now.commit) replica.old replica.new disk.old disk.new out.old out.new result }
 {
     replica.rest();
     ask_view(replica, prepare.view, prepare.replica, out)?;
@@ -204,14 +190,10 @@ pub fn handle_prepare<D: SectorDisk>(
     prepare: &Prepare,
     out: &mut Outbox,
 ) -> Result<(), Halt>
-    requires ready { IsReady replica.old }
-    requires view { replica.old.view ≤ last_view }
+    requires send { MaySend 64 replica.old }
     requires message { IsPreparing prepare.now }
-    requires room { replica.old.saved.fields.sequence + 64 < 2 ^ 64 }
-    ensures ready { OnOk result (IsReady replica.new) }
-    ensures cause { Caused (D.faults disk.old) (D.faults disk.new) result }
     ensures passed { passes (first_of (prepare_table name_of prepare.now replica.old)) ≡ true → EndsAtOnce disk.old disk.new result }
-    ensures step { Does (on_prepare prepare.now) replica.old replica.new (D.told disk.old) (D.told disk.new) out.old out.new result }
+    ensures acts { Acts D.SectorDisk (on_prepare prepare.now) replica.old replica.new disk.old disk.new out.old out.new result }
 {
     let _header = header_of(&prepare.entry);
     match decide_prepare(replica, prepare) {

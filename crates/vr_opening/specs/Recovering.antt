@@ -127,7 +127,7 @@ Recovered asked d d' o o' (Err (Lost verdicts)) = LosesValue None d d' verdicts
 Recovered asked d d' o o' (Err (OtherMember found)) = IsOther asked found d d'
 Recovered asked d d' o o' (Err (Halted halt)) = StopsAsked asked d d' o o' halt
 
--- the same for any member, in a file of this version: the replica is that of the value that opens
+-- a recovery of whatever member, in a file of this version: the replica is that of the value that opens
 abbrev pub RecoveredAny : ℕ → Option Disk → Option Disk → List Output → List Output → Result Replica Refusal → Type 0
 RecoveredAny version d d' o o' (Ok r) = BeginsWith (Some version) opening d d' o o' (Ok r)
 RecoveredAny version d d' o o' (Err (Lost verdicts)) = LosesValue (Some version) d d' verdicts

@@ -1,13 +1,14 @@
 //! What a replica does as it opens, once its Parts are found.
 ghost use Rattle.std.specs.Prelude.{◌≡◌, ◌<◌, ◌≤◌, ◌+◌, ◌++◌, ◌^◌, [], OnOk, nat_le, if◌then◌else◌};
 ghost use Rattle.vr_journal.specs.Opening.{announce, going_on, leave_view, recover_parts, resuming};
-ghost use Rattle.vr_journal.specs.Outputs.{start_line, send_to_all, start_view_change};
-ghost use Rattle.vr_journal.specs.Replica.{is_spent, is_started, leads, last_view};
+ghost use Rattle.vr_journal.specs.Outputs.{send_to_all, start_view_change};
+ghost use Rattle.vr_journal.specs.Replica.{last_view};
 ghost use Rattle.vr_journal.specs.Words.{apply, load, save};
 ghost use Rattle.vr_journal.specs.Steps.{◌⨾◌};
 ghost use Rattle.vr_journal.specs.Does.{Does, Caused};
 ghost use Rattle.vr_journal.specs.Ready.{IsReady, MayLoad};
 ghost use Rattle.vr_opening.specs.Finding.{IsOpeningOld};
+ghost use Rattle.vr_journal.specs.Acts.{Acts};
 
 use crate::opening::recover_parts;
 use std::alloc::{AllocError, Global};
@@ -80,9 +81,7 @@ fn announce<D: SectorDisk>(
     out: &mut Outbox,
 ) -> Result<(), Halt>
     requires ready { IsReady replica.old }
-    ensures ready { OnOk result (IsReady replica.new) }
-    ensures cause { Caused (D.faults _disk.old) (D.faults _disk.new) result }
-    ensures step { Does announce replica.old replica.new (D.told _disk.old) (D.told _disk.new) out.old out.new result }
+    ensures { Acts D.SectorDisk announce replica.old replica.new _disk.old _disk.new out.old out.new result }
 {
     if replica.is_started() {
         Ok(())
@@ -103,9 +102,7 @@ fn load_on<D: SectorDisk>(
 ) -> Result<(), Halt>
     requires opened { MayLoad replica.old }
     requires room { replica.old.saved.fields.sequence + 64 < 2 ^ 64 }
-    ensures ready { OnOk result (IsReady replica.new) }
-    ensures cause { Caused (D.faults disk.old) (D.faults disk.new) result }
-    ensures step { Does (load ⨾ apply ⨾ announce) replica.old replica.new (D.told disk.old) (D.told disk.new) out.old out.new result }
+    ensures { Acts D.SectorDisk (load ⨾ apply ⨾ announce) replica.old replica.new disk.old disk.new out.old out.new result }
 {
     load(replica, alloc, disk, out)?;
     apply(replica, alloc, disk, out)?;
@@ -122,16 +119,14 @@ fn go_on<D: SectorDisk>(
 ) -> Result<(), Halt>
     requires opened { MayLoad replica.old }
     requires room { replica.old.saved.fields.sequence + 65 < 2 ^ 64 }
-    ensures ready { OnOk result (IsReady replica.new) }
-    ensures cause { Caused (D.faults disk.old) (D.faults disk.new) result }
-    ensures step { Does going_on replica.old replica.new (D.told disk.old) (D.told disk.new) out.old out.new result }
+    ensures { Acts D.SectorDisk going_on replica.old replica.new disk.old disk.new out.old out.new result }
 {
     leave_view(replica, alloc, disk, out)?;
     replica.say_start(out)?;
     load_on(replica, alloc, disk, out)
 }
 
-// The same, unless sequence numbers are at their end: then nothing is written any more, and nothing sent.
+// Goes on with the opening, unless sequence numbers are at their end: then nothing is written any more, and nothing sent.
 #[tactic(auto, using(crate::proofs::Begins::resumed, crate::proofs::Begins::spent, crate::proofs::Begins::unspent_room, vr_journal::proofs::Loads::ready_opened, vr_journal::proofs::Stepping::wants))]
 fn resume<D: SectorDisk>(
     replica: &mut Replica,
@@ -140,9 +135,7 @@ fn resume<D: SectorDisk>(
     out: &mut Outbox,
 ) -> Result<(), Halt>
     requires opened { MayLoad replica.old }
-    ensures ready { OnOk result (IsReady replica.new) }
-    ensures cause { Caused (D.faults disk.old) (D.faults disk.new) result }
-    ensures step { Does resuming replica.old replica.new (D.told disk.old) (D.told disk.new) out.old out.new result }
+    ensures { Acts D.SectorDisk resuming replica.old replica.new disk.old disk.new out.old out.new result }
 {
     if replica.is_spent() {
         replica.say_start(out)?;
@@ -161,9 +154,7 @@ pub fn open_mended<D: SectorDisk>(
     out: &mut Outbox,
 ) -> Result<(), Halt>
     requires opening { IsOpeningOld 0 replica.old }
-    ensures ready { OnOk result (IsReady replica.new) }
-    ensures cause { Caused (D.faults disk.old) (D.faults disk.new) result }
-    ensures step { Does (recover_parts replica.old.saved ⨾ resuming) replica.old replica.new (D.told disk.old) (D.told disk.new) out.old out.new result }
+    ensures { Acts D.SectorDisk (recover_parts replica.old.saved ⨾ resuming) replica.old replica.new disk.old disk.new out.old out.new result }
 {
     recover_parts(replica, alloc, disk, out)?;
     resume(replica, alloc, disk, out)

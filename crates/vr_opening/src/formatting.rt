@@ -38,7 +38,7 @@ fn prepares_end(version: Version) -> u32
 
 // Writes zeros to them.
 #[tactic(auto, using(crate::proofs::Calls::zeros_begin, crate::proofs::Calls::zeros_go, crate::proofs::Calls::zeros_stop, crate::proofs::Calls::zeros_end))]
-fn write_zeros<D: SectorDisk>(disk: &mut D, version: Version) -> Result<(), DiskFailed>
+fn zero_prepares<D: SectorDisk>(disk: &mut D, version: Version) -> Result<(), DiskFailed>
     ensures runs { Runs (zero_prepares version) (D.told disk.old) (D.told disk.new) (is_ok result) }
     ensures cause { HasCause (D.faults disk.old) (D.faults disk.new) result }
 {
@@ -117,7 +117,7 @@ pub fn format<D: SectorDisk>(disk: &mut D, config: &Config, value: &Super) -> Re
     ensures cause { HasCause (D.faults disk.old) (D.faults disk.new) result }
 {
     let version = value.fields().version;
-    write_zeros(disk, version)?;
+    zero_prepares(disk, version)?;
     reserve_all(disk, version, config.cluster)?;
     disk.sync()?;
     vr_super::write_copies(disk, value)

@@ -10,6 +10,7 @@ ghost use Rattle.vr_journal.specs.Opening.{fresh};
 ghost use Rattle.vr_super.specs.Opens.{file_kind, good_copies, opened};
 ghost use Rattle.vr_opening.specs.Making.{Made};
 ghost use Rattle.vr_opening.specs.declared.new_member.FreshFault.TheVariants as FreshFault;
+ghost use Rattle.vr_journal.specs.Acts.{Untouched};
 
 use crate::formatting::format;
 use crate::new_value::first_value;
@@ -33,8 +34,7 @@ pub enum FreshFault {
 // Whether two good copies of a superblock agree.
 #[tactic(auto, using(crate::proofs::Makes::found_opened))]
 fn is_occupied<D: SectorDisk>(disk: &mut D) -> bool
-    ensures told { D.told disk.new ≡ D.told disk.old }
-    ensures faults { D.faults disk.new ≡ D.faults disk.old }
+    ensures untouched { Untouched D.SectorDisk disk.old disk.new }
     ensures value { IfSome (D.told disk.old) (λ d. result ≡ is_some (opened (good_copies d.face))) }
 {
     opens(disk).is_some()

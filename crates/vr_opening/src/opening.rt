@@ -68,7 +68,7 @@ fn is_old(replica: &Replica, header: &Header) -> bool
 }
 
 // How many headers the value has.
-fn names(replica: &Replica) -> usize
+fn header_count(replica: &Replica) -> usize
     ensures { result ≡ length replica.now.saved.headers }
 {
     replica.saved().headers().len()
@@ -92,7 +92,7 @@ fn op_at(replica: &Replica, i: u64) -> u64
     replica.saved().fields().checkpoint + 1 + i
 }
 
-// The same where the op is one of the checkpoint.
+// Finds what is known of the op of a header that the value names, where it is one of the checkpoint.
 #[tactic(auto, using(vr_journal::proofs::Stepping::does_quiet, crate::proofs::Olds::old_skipped))]
 fn recover_listed<D: SectorDisk>(
     replica: &mut Replica,
@@ -116,7 +116,7 @@ fn recover_listed<D: SectorDisk>(
     }
 }
 
-// The same for the header at a place.
+// Finds what is known of the op of the header at this place of the value's, where it is one of the checkpoint.
 #[tactic(auto, using(crate::proofs::Olds::one_header))]
 fn recover_at<D: SectorDisk>(
     replica: &mut Replica,
@@ -150,7 +150,7 @@ fn recover_olds<D: SectorDisk>(
     ensures cause { Caused (D.faults disk.old) (D.faults disk.new) result }
     ensures step { Does (each recover_old (old_headers replica.old.saved)) replica.old replica.new (D.told disk.old) (D.told disk.new) out.old out.new result }
 {
-    let count = names(replica);
+    let count = header_count(replica);
     for i in 0..count {
         recover_at(replica, alloc, disk, i, out)?;
     }
@@ -200,7 +200,7 @@ fn recover_window<D: SectorDisk>(
     Ok(())
 }
 
-// The same with a buffer of its own.
+// Finds what is known of the ops of the window, with a buffer of its own to read into.
 #[tactic(auto, using(vr_journal::proofs::Stepping::does_no_memory))]
 fn recover_ops<D: SectorDisk>(
     replica: &mut Replica,

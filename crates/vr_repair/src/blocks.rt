@@ -1,11 +1,12 @@
 //! Repair of blocks.
-ghost use Rattle.std.specs.Prelude.{◌≡◌, ◌<◌, ◌+◌, ◌^◌, OnOk, Some, find};
+ghost use Rattle.std.specs.Prelude.{◌≡◌, Some, find};
 ghost use Rattle.vr_journal.specs.Ready.{IsReady};
 ghost use Rattle.vr_repair.specs.Repairs.{is_block};
 ghost use Rattle.vr_journal.specs.Deciding.{is_wanted};
 ghost use Rattle.vr_journal.specs.Rules.{asked_block, block_at, give_read, mend_found, on_get_block, on_give_block, put_found};
 ghost use Rattle.vr_journal.specs.Steps.{reading};
 ghost use Rattle.vr_journal.specs.Does.{Caused, Does};
+ghost use Rattle.vr_journal.specs.Acts.{Acts, MayAct};
 
 use crate::deciding::{Repair, decide_get_block};
 use crate::finding::find_block;
@@ -74,12 +75,9 @@ fn take_block<D: SectorDisk>(
     name: Name,
     out: &mut Outbox,
 ) -> Result<(), Halt>
-    requires ready { IsReady replica.old }
+    requires act { MayAct 64 replica.old }
     requires found { find (is_wanted is_block give.now) replica.old.missing ≡ Some name }
-    requires room { replica.old.saved.fields.sequence + 64 < 2 ^ 64 }
-    ensures ready { OnOk result (IsReady replica.new) }
-    ensures cause { Caused (D.faults disk.old) (D.faults disk.new) result }
-    ensures step { Does (put_found give.now.block (Some name)) replica.old replica.new (D.told disk.old) (D.told disk.new) out.old out.new result }
+    ensures { Acts D.SectorDisk (put_found give.now.block (Some name)) replica.old replica.new disk.old disk.new out.old out.new result }
 {
     put_block(replica, alloc, disk, &name, give.block.as_slice(), out)?;
     apply(replica, alloc, disk, out)
@@ -96,9 +94,7 @@ fn mend_block<D: SectorDisk>(
 ) -> Result<(), Halt>
     requires ready { IsReady replica.old }
     requires found { find (is_wanted is_block give.now) replica.old.worn ≡ Some name }
-    ensures ready { OnOk result (IsReady replica.new) }
-    ensures cause { Caused (D.faults disk.old) (D.faults disk.new) result }
-    ensures step { Does (mend_found give.now.block (Some name)) replica.old replica.new (D.told disk.old) (D.told disk.new) _out.old _out.new result }
+    ensures { Acts D.SectorDisk (mend_found give.now.block (Some name)) replica.old replica.new disk.old disk.new _out.old _out.new result }
 {
     vr_journal::put_block(replica, disk, &name, give.block.as_slice())?;
     replica.drop_worn(&name);
@@ -116,11 +112,8 @@ pub fn handle_give_block<D: SectorDisk>(
     give: &GiveBlock,
     out: &mut Outbox,
 ) -> Result<(), Halt>
-    requires ready { IsReady replica.old }
-    requires room { replica.old.saved.fields.sequence + 64 < 2 ^ 64 }
-    ensures ready { OnOk result (IsReady replica.new) }
-    ensures cause { Caused (D.faults disk.old) (D.faults disk.new) result }
-    ensures step { Does (on_give_block give.now) replica.old replica.new (D.told disk.old) (D.told disk.new) out.old out.new result }
+    requires { MayAct 64 replica.old }
+    ensures { Acts D.SectorDisk (on_give_block give.now) replica.old replica.new disk.old disk.new out.old out.new result }
 {
     match decide_give_block(replica, give) {
         Repair::BlockTaken(name) => take_block(replica, alloc, disk, give, name, out),

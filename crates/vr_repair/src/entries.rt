@@ -1,12 +1,10 @@
 //! Repair of entries.
-ghost use Rattle.std.specs.Prelude.{◌≤◌, ◌<◌, ◌+◌, ◌^◌, OnOk};
 ghost use Rattle.vr_journal.specs.Ready.{IsReady, MayStore};
 ghost use Rattle.vr_repair.specs.Repairs.{gives};
-ghost use Rattle.vr_journal.specs.Replica.{last_view};
 ghost use Rattle.vr_journal.specs.Rules.{on_get_prepare, on_give_prepare};
 ghost use Rattle.vr_journal.specs.Steps.{◌⨾◌};
 ghost use Rattle.vr_journal.specs.Words.{apply, resend, with_entry_at, write};
-ghost use Rattle.vr_journal.specs.Does.{Caused, Does};
+ghost use Rattle.vr_journal.specs.Acts.{Acts, MaySend};
 
 use crate::deciding::{Repair, decide_get_prepare, decide_give_prepare};
 use crate::retelling::resend;
@@ -26,9 +24,7 @@ fn give_entry<D: SectorDisk>(
     out: &mut Outbox,
 ) -> Result<(), Halt>
     requires ready { IsReady replica.old }
-    ensures ready { OnOk result (IsReady replica.new) }
-    ensures cause { Caused (D.faults disk.old) (D.faults disk.new) result }
-    ensures step { Does (with_entry_at get.now.op (gives get.now.replica)) replica.old replica.new (D.told disk.old) (D.told disk.new) out.old out.new result }
+    ensures { Acts D.SectorDisk (with_entry_at get.now.op (gives get.now.replica)) replica.old replica.new disk.old disk.new out.old out.new result }
 {
     match read_entry(replica, alloc, disk, get.op)? {
         Some(entry) => replica.give_entry(get.replica, entry, out)?,
@@ -47,9 +43,7 @@ pub fn handle_get_prepare<D: SectorDisk>(
     out: &mut Outbox,
 ) -> Result<(), Halt>
     requires ready { IsReady replica.old }
-    ensures ready { OnOk result (IsReady replica.new) }
-    ensures cause { Caused (D.faults disk.old) (D.faults disk.new) result }
-    ensures step { Does (on_get_prepare get.now) replica.old replica.new (D.told disk.old) (D.told disk.new) out.old out.new result }
+    ensures { Acts D.SectorDisk (on_get_prepare get.now) replica.old replica.new disk.old disk.new out.old out.new result }
 {
     match decide_get_prepare(replica, get) {
         Repair::EntryGiven => give_entry(replica, alloc, disk, get, out),
@@ -66,13 +60,9 @@ fn take_entry<D: SectorDisk>(
     entry: &Entry,
     out: &mut Outbox,
 ) -> Result<(), Halt>
-    requires ready { IsReady replica.old }
+    requires send { MaySend 64 replica.old }
     requires may { MayStore entry.now replica.old }
-    requires view { replica.old.view ≤ last_view }
-    requires room { replica.old.saved.fields.sequence + 64 < 2 ^ 64 }
-    ensures ready { OnOk result (IsReady replica.new) }
-    ensures cause { Caused (D.faults disk.old) (D.faults disk.new) result }
-    ensures step { Does (write entry.now ⨾ resend entry.now ⨾ apply) replica.old replica.new (D.told disk.old) (D.told disk.new) out.old out.new result }
+    ensures { Acts D.SectorDisk (write entry.now ⨾ resend entry.now ⨾ apply) replica.old replica.new disk.old disk.new out.old out.new result }
 {
     write(replica, disk, entry, out)?;
     resend(replica, alloc, disk, entry, out)?;
@@ -89,12 +79,8 @@ pub fn handle_give_prepare<D: SectorDisk>(
     give: &GivePrepare,
     out: &mut Outbox,
 ) -> Result<(), Halt>
-    requires ready { IsReady replica.old }
-    requires view { replica.old.view ≤ last_view }
-    requires room { replica.old.saved.fields.sequence + 64 < 2 ^ 64 }
-    ensures ready { OnOk result (IsReady replica.new) }
-    ensures cause { Caused (D.faults disk.old) (D.faults disk.new) result }
-    ensures step { Does (on_give_prepare give.now) replica.old replica.new (D.told disk.old) (D.told disk.new) out.old out.new result }
+    requires { MaySend 64 replica.old }
+    ensures { Acts D.SectorDisk (on_give_prepare give.now) replica.old replica.new disk.old disk.new out.old out.new result }
 {
     match decide_give_prepare(replica, give) {
         Repair::EntryTaken => take_entry(replica, alloc, disk, &give.entry, out),

@@ -2,6 +2,7 @@
 ghost use Rattle.std.specs.Prelude.{ℕ, ◌≡◌, IfOk, IfSome, None, Some, length, if◌then◌else◌};
 ghost use Rattle.vr_journal.specs.Rules.{block_at};
 ghost use Rattle.vr_journal.specs.Does.{Finds};
+ghost use Rattle.vr_journal.specs.Acts.{Untouched};
 
 use std::alloc::{AllocError, Global};
 use vr_base::{ByteList, NoMemory, Seq};
@@ -20,8 +21,7 @@ fn list_of(alloc: Global, bytes: &[u8]) -> Result<ByteList, AllocError>
 #[tactic(auto, using(crate::proofs::BlockReadings::block_past, crate::proofs::BlockReadings::block_unread, crate::proofs::BlockReadings::block_as))]
 fn read_whole<D: SectorDisk>(disk: &mut D, name: &Name, to: &mut [u8]) -> bool
     requires { length to.old ≡ 4096 }
-    ensures told { D.told disk.new ≡ D.told disk.old }
-    ensures faults { D.faults disk.new ≡ D.faults disk.old }
+    ensures untouched { Untouched D.SectorDisk disk.old disk.new }
     ensures found { (v : ℕ) → Finds v (block_at name.now) (D.told disk.old) (D.told disk.new) (if result then Some to.new else None) }
     ensures size { length to.new ≡ 4096 }
 {
@@ -40,8 +40,7 @@ pub fn find_block<D: SectorDisk>(
     disk: &mut D,
     name: &Name,
 ) -> Result<Option<ByteList>, NoMemory>
-    ensures told { D.told disk.new ≡ D.told disk.old }
-    ensures faults { D.faults disk.new ≡ D.faults disk.old }
+    ensures untouched { Untouched D.SectorDisk disk.old disk.new }
     ensures found { IfOk result (λ block. (v : ℕ) → Finds v (block_at name.now) (D.told disk.old) (D.told disk.new) block) }
     ensures size { IfOk result (λ block. IfSome block (λ bytes. length bytes ≡ 4096)) }
 {

@@ -1,5 +1,5 @@
 //! What is missing is asked for, and put.
-ghost use Rattle.std.specs.Prelude.{◌≡◌, ◌≤◌, None, OnOk, [], is_some, true};
+ghost use Rattle.std.specs.Prelude.{◌≡◌, ◌≤◌, None, [], is_some, true};
 ghost use Rattle.vr_base.specs.Bytes.{name_of};
 ghost use Rattle.vr_ckpt.specs.Blocks.{named};
 ghost use Rattle.vr_header.specs.Made.{IsEntryHeader};
@@ -8,7 +8,7 @@ ghost use Rattle.vr_repair.specs.Repairs.{loads_whole};
 ghost use Rattle.vr_journal.specs.Outputs.{get_block, get_prepare};
 ghost use Rattle.vr_journal.specs.Rules.{put_block};
 ghost use Rattle.vr_journal.specs.Words.{ask, ask_for, ask_peer, least_absent};
-ghost use Rattle.vr_journal.specs.Does.{Caused, Does};
+ghost use Rattle.vr_journal.specs.Acts.{Acts, Keeps};
 
 use std::alloc::Global;
 use vr_ckpt::Name;
@@ -27,9 +27,7 @@ fn ask_block<D: SectorDisk>(
 ) -> Result<(), Halt>
     requires ready { IsReady replica.old }
     requires several { 2 ≤ replica.old.n }
-    ensures ready { OnOk result (IsReady replica.new) }
-    ensures cause { Caused (D.faults _disk.old) (D.faults _disk.new) result }
-    ensures step { Does (ask_peer (get_block name.now)) replica.old replica.new (D.told _disk.old) (D.told _disk.new) out.old out.new result }
+    ensures { Acts D.SectorDisk (ask_peer (get_block name.now)) replica.old replica.new _disk.old _disk.new out.old out.new result }
 {
     replica.ask_block(name, out)?;
     replica.turn_peer();
@@ -47,9 +45,7 @@ fn ask_entry<D: SectorDisk>(
     requires ready { IsReady replica.old }
     requires several { 2 ≤ replica.old.n }
     requires entry { IsEntryHeader header.now }
-    ensures ready { OnOk result (IsReady replica.new) }
-    ensures cause { Caused (D.faults _disk.old) (D.faults _disk.new) result }
-    ensures step { Does (ask_peer (get_prepare name_of header.now)) replica.old replica.new (D.told _disk.old) (D.told _disk.new) out.old out.new result }
+    ensures { Acts D.SectorDisk (ask_peer (get_prepare name_of header.now)) replica.old replica.new _disk.old _disk.new out.old out.new result }
 {
     replica.ask_entry(header, out)?;
     replica.turn_peer();
@@ -65,9 +61,7 @@ fn ask_worn<D: SectorDisk>(
 ) -> Result<(), Halt>
     requires ready { IsReady replica.old }
     requires several { 2 ≤ replica.old.n }
-    ensures ready { OnOk result (IsReady replica.new) }
-    ensures cause { Caused (D.faults disk.old) (D.faults disk.new) result }
-    ensures step { Does (ask_for [] None replica.old.worn) replica.old replica.new (D.told disk.old) (D.told disk.new) out.old out.new result }
+    ensures { Acts D.SectorDisk (ask_for [] None replica.old.worn) replica.old replica.new disk.old disk.new out.old out.new result }
 {
     match replica.worn().get(0) {
         Some(name) => ask_block(replica, disk, &name, out),
@@ -84,9 +78,7 @@ fn ask_absent<D: SectorDisk>(
 ) -> Result<(), Halt>
     requires ready { IsReady replica.old }
     requires several { 2 ≤ replica.old.n }
-    ensures ready { OnOk result (IsReady replica.new) }
-    ensures cause { Caused (D.faults disk.old) (D.faults disk.new) result }
-    ensures step { Does (ask_for [] (least_absent replica.old) replica.old.worn) replica.old replica.new (D.told disk.old) (D.told disk.new) out.old out.new result }
+    ensures { Acts D.SectorDisk (ask_for [] (least_absent replica.old) replica.old.worn) replica.old replica.new disk.old disk.new out.old out.new result }
 {
     match replica.least_absent() {
         Some(header) => ask_entry(replica, disk, &header, out),
@@ -99,9 +91,7 @@ fn ask_absent<D: SectorDisk>(
 #[tactic(auto, using(crate::proofs::Words::asked_block, crate::proofs::Words::asked_absent, crate::proofs::Words::none_asked, vr_journal::proofs::Repairs::ready_size))]
 pub fn ask<D: SectorDisk>(replica: &mut Replica, disk: &mut D, out: &mut Outbox) -> Result<(), Halt>
     requires ready { IsReady replica.old }
-    ensures ready { OnOk result (IsReady replica.new) }
-    ensures cause { Caused (D.faults disk.old) (D.faults disk.new) result }
-    ensures step { Does ask replica.old replica.new (D.told disk.old) (D.told disk.new) out.old out.new result }
+    ensures { Acts D.SectorDisk ask replica.old replica.new disk.old disk.new out.old out.new result }
 {
     if replica.is_alone() {
         return Ok(());
@@ -121,11 +111,8 @@ fn load_whole<D: SectorDisk>(
     out: &mut Outbox,
 ) -> Result<(), Halt>
     requires may { MayLoad replica.old }
-    ensures ready { OnOk result (IsReady replica.new) }
-    ensures view { OnOk result (replica.new.view ≡ replica.old.view) }
-    ensures saved { OnOk result (replica.new.saved ≡ replica.old.saved) }
-    ensures cause { Caused (D.faults disk.old) (D.faults disk.new) result }
-    ensures step { Does loads_whole replica.old replica.new (D.told disk.old) (D.told disk.new) out.old out.new result }
+    ensures keeps { Keeps replica.old replica.new result }
+    ensures acts { Acts D.SectorDisk loads_whole replica.old replica.new disk.old disk.new out.old out.new result }
 {
     if replica.is_loaded() {
         load(replica, alloc, disk, out)
@@ -146,11 +133,8 @@ pub fn put_block<D: SectorDisk>(
 ) -> Result<(), Halt>
     requires may { MayLoad replica.old }
     requires named { is_some (named name.now block.now) ≡ true }
-    ensures ready { OnOk result (IsReady replica.new) }
-    ensures view { OnOk result (replica.new.view ≡ replica.old.view) }
-    ensures saved { OnOk result (replica.new.saved ≡ replica.old.saved) }
-    ensures cause { Caused (D.faults disk.old) (D.faults disk.new) result }
-    ensures step { Does (put_block name.now block.now) replica.old replica.new (D.told disk.old) (D.told disk.new) out.old out.new result }
+    ensures keeps { Keeps replica.old replica.new result }
+    ensures acts { Acts D.SectorDisk (put_block name.now block.now) replica.old replica.new disk.old disk.new out.old out.new result }
 {
     vr_journal::put_block(replica, disk, name, block)?;
     replica.drop_missing(name);

@@ -5,7 +5,7 @@ ghost use Rattle.vr_journal.specs.Ready.{IsReady};
 ghost use Rattle.vr_journal.specs.Outputs.{prepare, prepare_ok, send_to_all, to_primary};
 ghost use Rattle.vr_journal.specs.Replica.{is_primary, is_started, last_view, version};
 ghost use Rattle.vr_journal.specs.Words.{resend};
-ghost use Rattle.vr_journal.specs.Does.{Caused, Does};
+ghost use Rattle.vr_journal.specs.Acts.{Acts};
 
 use std::alloc::{AllocError, Global};
 use vr_disk::SectorDisk;
@@ -49,8 +49,7 @@ pub fn resend<D: SectorDisk>(
     requires view { replica.now.view ≤ last_view }
     requires taken { entry.now.header.version ≤ version replica.now }
     requires made { entry.now.header.view ≤ replica.now.view }
-    ensures cause { Caused (D.faults _disk.old) (D.faults _disk.new) result }
-    ensures step { Does (resend entry.now) replica.now replica.now (D.told _disk.old) (D.told _disk.new) out.old out.new result }
+    ensures { Acts D.SectorDisk (resend entry.now) replica.now replica.now _disk.old _disk.new out.old out.new result }
 {
     if is_open(replica, entry) {
         tell(replica, alloc, entry, out)?;

@@ -1,9 +1,10 @@
 //! Entries are read.
-ghost use Rattle.std.specs.Prelude.{◌≡◌, IfOk, IfSome, OnErr, OnOk};
+ghost use Rattle.std.specs.Prelude.{◌≡◌, IfOk, IfSome, OnErr};
 ghost use Rattle.vr_header.specs.declared.part.Part.TheVariants.{Here};
 ghost use Rattle.vr_journal.specs.Ready.{IsReady};
 ghost use Rattle.vr_journal.specs.Replica.{part_at, version};
 ghost use Rattle.vr_replica.specs.Entries.{after_reading, entry_by};
+ghost use Rattle.vr_journal.specs.Acts.{Untouched};
 
 use std::alloc::Global;
 use vr_base::NoMemory;
@@ -13,7 +14,7 @@ use vr_journal::{Replica, find_entry};
 
 // Reads the entry of this header, which is stored; one that can't be read is lost.
 #[tactic(auto, using(crate::proofs::EntryReadings::found, vr_journal::proofs::Memory::readies))]
-fn read_stored<D: SectorDisk>(
+fn look_up_stored<D: SectorDisk>(
     replica: &mut Replica,
     alloc: Global,
     disk: &mut D,
@@ -22,8 +23,7 @@ fn read_stored<D: SectorDisk>(
     requires ready { IsReady replica.old }
     requires here { part_at replica.old header.now.op ≡ Here header.now }
     ensures ready { IsReady replica.new }
-    ensures told { D.told disk.new ≡ D.told disk.old }
-    ensures faults { D.faults disk.new ≡ D.faults disk.old }
+    ensures untouched { Untouched D.SectorDisk disk.old disk.new }
     ensures value { IfOk result (λ found. IfSome (D.told disk.old) (λ d. found ≡ entry_by (version replica.old) (Here header.now) d.face)) }
     ensures left { IfOk result (λ found. replica.new ≡ after_reading (Here header.now) found replica.old) }
     ensures kept { OnErr result (replica.new ≡ replica.old) }
@@ -41,7 +41,7 @@ fn read_stored<D: SectorDisk>(
 /// Reads the entry of an op where it is stored; one that can't be read is lost. `None`: there is none to be had. It changes nothing on
 /// the disk, and an `Err` changes nothing.
 #[tactic(auto, using(vr_journal::proofs::Memory::here_op))]
-pub fn read_entry<D: SectorDisk>(
+pub fn look_up<D: SectorDisk>(
     replica: &mut Replica,
     alloc: Global,
     disk: &mut D,
@@ -49,14 +49,13 @@ pub fn read_entry<D: SectorDisk>(
 ) -> Result<Option<Entry>, NoMemory>
     requires ready { IsReady replica.old }
     ensures ready { IsReady replica.new }
-    ensures told { D.told disk.new ≡ D.told disk.old }
-    ensures faults { D.faults disk.new ≡ D.faults disk.old }
+    ensures untouched { Untouched D.SectorDisk disk.old disk.new }
     ensures value { IfOk result (λ found. IfSome (D.told disk.old) (λ d. found ≡ entry_by (version replica.old) (part_at replica.old op) d.face)) }
     ensures left { IfOk result (λ found. replica.new ≡ after_reading (part_at replica.old op) found replica.old) }
     ensures kept { OnErr result (replica.new ≡ replica.old) }
 {
     match replica.part_at(op) {
-        Part::Here(header) => read_stored(replica, alloc, disk, &header),
+        Part::Here(header) => look_up_stored(replica, alloc, disk, &header),
         _ => Ok(None),
     }
 }

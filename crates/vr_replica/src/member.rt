@@ -12,8 +12,9 @@ ghost use Rattle.vr_journal.specs.Waits.{EndsAtOnce};
 ghost use Rattle.vr_replica.specs.AtOnce.{IsAtOnce};
 ghost use Rattle.vr_replica.specs.Entries.{after_reading, entry_by};
 ghost use Rattle.vr_replica.specs.Running.{memory_of};
+ghost use Rattle.vr_journal.specs.Acts.{Untouched};
 
-use crate::entries::read_entry;
+use crate::entries::look_up;
 use crate::reacting::react;
 use std::alloc::Global;
 use std::marker::Model;
@@ -230,12 +231,11 @@ impl Replica {
         requires running { self.old.running ≡ true }
         requires names { is_some (header_at self.old.memory op) ≡ true }
         ensures running { self.new.running ≡ true }
-        ensures told { D.told disk.new ≡ D.told disk.old }
-        ensures faults { D.faults disk.new ≡ D.faults disk.old }
+        ensures untouched { Untouched D.SectorDisk disk.old disk.new }
         ensures value { IfOk result (λ found. IfSome (D.told disk.old) (λ d. found ≡ entry_by (version self.old.memory) (part_at self.old.memory op) d.face)) }
         ensures left { IfOk result (λ found. self.new.memory ≡ after_reading (part_at self.old.memory op) found self.old.memory) }
         ensures kept { OnErr result (self.new ≡ self.old) }
     {
-        read_entry(&mut self.memory, alloc, disk, op)
+        look_up(&mut self.memory, alloc, disk, op)
     }
 }

@@ -1,11 +1,11 @@
 //! The step of a replica: the rule of each event.
-ghost use Rattle.std.specs.Prelude.{◌≡◌, ◌<◌, ◌≤◌, ◌+◌, ◌^◌, OnOk};
+ghost use Rattle.std.specs.Prelude.{◌≡◌};
 ghost use Rattle.vr_journal.specs.Ready.{IsReady};
 ghost use Rattle.vr_journal.specs.Waits.{EndsAtOnce};
 ghost use Rattle.vr_replica.specs.AtOnce.{IsAtOnce, IsLeft};
-ghost use Rattle.vr_journal.specs.Replica.{is_frozen, last_view};
+ghost use Rattle.vr_journal.specs.Replica.{is_frozen};
 ghost use Rattle.vr_journal.specs.Rules.{on_event, on_message, react};
-ghost use Rattle.vr_journal.specs.Does.{Caused, Does};
+ghost use Rattle.vr_journal.specs.Acts.{Acts, MaySend};
 
 use crate::ticking::handle_tick;
 use std::alloc::Global;
@@ -28,13 +28,9 @@ fn handle_message<D: SectorDisk>(
     message: &Message,
     out: &mut Outbox,
 ) -> Result<(), Halt>
-    requires ready { IsReady replica.old }
-    requires view { replica.old.view ≤ last_view }
-    requires room { replica.old.saved.fields.sequence + 66 < 2 ^ 64 }
-    ensures ready { OnOk result (IsReady replica.new) }
-    ensures cause { Caused (D.faults disk.old) (D.faults disk.new) result }
+    requires { MaySend 66 replica.old }
     ensures at_once { IsLeft replica.old message.now → EndsAtOnce disk.old disk.new result }
-    ensures step { Does (on_message message.now) replica.old replica.new (D.told disk.old) (D.told disk.new) out.old out.new result }
+    ensures acts { Acts D.SectorDisk (on_message message.now) replica.old replica.new disk.old disk.new out.old out.new result }
 {
     match message.frame() {
         Frame::Request(request) => handle_request(replica, alloc, disk, request, out),
@@ -65,13 +61,9 @@ fn handle<D: SectorDisk>(
     event: &Event,
     out: &mut Outbox,
 ) -> Result<(), Halt>
-    requires ready { IsReady replica.old }
-    requires view { replica.old.view ≤ last_view }
-    requires room { replica.old.saved.fields.sequence + 66 < 2 ^ 64 }
-    ensures ready { OnOk result (IsReady replica.new) }
-    ensures cause { Caused (D.faults disk.old) (D.faults disk.new) result }
+    requires { MaySend 66 replica.old }
     ensures at_once { IsAtOnce replica.old event.now → EndsAtOnce disk.old disk.new result }
-    ensures step { Does (on_event event.now) replica.old replica.new (D.told disk.old) (D.told disk.new) out.old out.new result }
+    ensures acts { Acts D.SectorDisk (on_event event.now) replica.old replica.new disk.old disk.new out.old out.new result }
 {
     match event {
         Event::Request(request) => handle_request(replica, alloc, disk, request, out),
@@ -97,10 +89,8 @@ pub fn react<D: SectorDisk>(
     out: &mut Outbox,
 ) -> Result<(), Halt>
     requires ready { IsReady replica.old }
-    ensures ready { OnOk result (IsReady replica.new) }
-    ensures cause { Caused (D.faults disk.old) (D.faults disk.new) result }
     ensures at_once { IsAtOnce replica.old event.now → EndsAtOnce disk.old disk.new result }
-    ensures step { Does (react event.now) replica.old replica.new (D.told disk.old) (D.told disk.new) out.old out.new result }
+    ensures acts { Acts D.SectorDisk (react event.now) replica.old replica.new disk.old disk.new out.old out.new result }
 {
     if is_frozen(replica) {
         Ok(())

@@ -1,14 +1,14 @@
 //! Time goes by.
-ghost use Rattle.std.specs.Prelude.{◌≡◌, ◌<◌, ◌≤◌, ◌+◌, ◌^◌, OnOk, nat_le, nat_lt};
+ghost use Rattle.std.specs.Prelude.{◌≡◌, ◌<◌, ◌≤◌, ◌+◌, nat_le, nat_lt};
 ghost use Rattle.vr_journal.specs.Ready.{IsReady};
 ghost use Rattle.vr_journal.specs.Deciding.{first_of, tick_table};
 ghost use Rattle.vr_journal.specs.Replica.{head, last_view};
 ghost use Rattle.vr_journal.specs.Rules.{backup_ticks, changing_ticks, on_tick, primary_ticks};
 ghost use Rattle.vr_journal.specs.Steps.{◌⨾◌};
 ghost use Rattle.vr_journal.specs.Words.{ask, enter, visit};
-ghost use Rattle.vr_journal.specs.Does.{Caused, Does};
 ghost use Rattle.vr_replica.specs.Ticks.{tells_all, tells_first, tick_rule};
 ghost use Rattle.vr_replica.specs.declared.ticking.TickRule.TheVariants as TickRule;
+ghost use Rattle.vr_journal.specs.Acts.{Acts, MaySend};
 
 use std::alloc::Global;
 use vr_disk::SectorDisk;
@@ -53,9 +53,7 @@ fn look_and_ask<D: SectorDisk>(
     out: &mut Outbox,
 ) -> Result<(), Halt>
     requires ready { IsReady replica.old }
-    ensures ready { OnOk result (IsReady replica.new) }
-    ensures cause { Caused (D.faults disk.old) (D.faults disk.new) result }
-    ensures step { Does (visit ⨾ ask) replica.old replica.new (D.told disk.old) (D.told disk.new) out.old out.new result }
+    ensures { Acts D.SectorDisk (visit ⨾ ask) replica.old replica.new disk.old disk.new out.old out.new result }
 {
     visit(replica, disk, out)?;
     ask(replica, disk, out)
@@ -82,9 +80,7 @@ fn tell_first<D: SectorDisk>(
 ) -> Result<(), Halt>
     requires ready { IsReady replica.old }
     requires view { replica.old.view ≤ last_view }
-    ensures ready { OnOk result (IsReady replica.new) }
-    ensures cause { Caused (D.faults disk.old) (D.faults disk.new) result }
-    ensures step { Does tells_first replica.old replica.new (D.told disk.old) (D.told disk.new) out.old out.new result }
+    ensures { Acts D.SectorDisk tells_first replica.old replica.new disk.old disk.new out.old out.new result }
 {
     if has_open(replica) {
         let op = replica.commit() + 1;
@@ -104,9 +100,7 @@ fn tick_primary<D: SectorDisk>(
 ) -> Result<(), Halt>
     requires ready { IsReady replica.old }
     requires view { replica.old.view ≤ last_view }
-    ensures ready { OnOk result (IsReady replica.new) }
-    ensures cause { Caused (D.faults disk.old) (D.faults disk.new) result }
-    ensures step { Does primary_ticks replica.old replica.new (D.told disk.old) (D.told disk.new) out.old out.new result }
+    ensures { Acts D.SectorDisk primary_ticks replica.old replica.new disk.old disk.new out.old out.new result }
 {
     replica.tell_commit(out)?;
     tell_first(replica, alloc, disk, out)?;
@@ -130,12 +124,8 @@ fn enter_next<D: SectorDisk>(
     disk: &mut D,
     out: &mut Outbox,
 ) -> Result<(), Halt>
-    requires ready { IsReady replica.old }
-    requires view { replica.old.view ≤ last_view }
-    requires room { replica.old.saved.fields.sequence + 1 < 2 ^ 64 }
-    ensures ready { OnOk result (IsReady replica.new) }
-    ensures cause { Caused (D.faults disk.old) (D.faults disk.new) result }
-    ensures step { Does (enter (replica.old.view + 1)) replica.old replica.new (D.told disk.old) (D.told disk.new) out.old out.new result }
+    requires { MaySend 1 replica.old }
+    ensures { Acts D.SectorDisk (enter (replica.old.view + 1)) replica.old replica.new disk.old disk.new out.old out.new result }
 {
     let view = replica.view() + 1;
     enter(replica, alloc, disk, view, out)
@@ -150,12 +140,8 @@ fn tick_backup<D: SectorDisk>(
     disk: &mut D,
     out: &mut Outbox,
 ) -> Result<(), Halt>
-    requires ready { IsReady replica.old }
-    requires view { replica.old.view ≤ last_view }
-    requires room { replica.old.saved.fields.sequence + 1 < 2 ^ 64 }
-    ensures ready { OnOk result (IsReady replica.new) }
-    ensures cause { Caused (D.faults disk.old) (D.faults disk.new) result }
-    ensures step { Does backup_ticks replica.old replica.new (D.told disk.old) (D.told disk.new) out.old out.new result }
+    requires { MaySend 1 replica.old }
+    ensures { Acts D.SectorDisk backup_ticks replica.old replica.new disk.old disk.new out.old out.new result }
 {
     // The tick that has come isn't counted yet: with it there are five.
     if is_idle_for(replica, 4) {
@@ -174,13 +160,9 @@ fn tell_all<D: SectorDisk>(
     disk: &mut D,
     out: &mut Outbox,
 ) -> Result<(), Halt>
-    requires ready { IsReady replica.old }
-    requires view { replica.old.view ≤ last_view }
+    requires send { MaySend 65 replica.old }
     requires changing { replica.old.log_view < replica.old.view }
-    requires room { replica.old.saved.fields.sequence + 65 < 2 ^ 64 }
-    ensures ready { OnOk result (IsReady replica.new) }
-    ensures cause { Caused (D.faults disk.old) (D.faults disk.new) result }
-    ensures step { Does tells_all replica.old replica.new (D.told disk.old) (D.told disk.new) out.old out.new result }
+    ensures { Acts D.SectorDisk tells_all replica.old replica.new disk.old disk.new out.old out.new result }
 {
     replica.tell_change(out)?;
     speak(replica, alloc, disk, out)?;
@@ -195,13 +177,9 @@ fn tick_changing<D: SectorDisk>(
     disk: &mut D,
     out: &mut Outbox,
 ) -> Result<(), Halt>
-    requires ready { IsReady replica.old }
-    requires view { replica.old.view ≤ last_view }
+    requires send { MaySend 65 replica.old }
     requires changing { replica.old.log_view < replica.old.view }
-    requires room { replica.old.saved.fields.sequence + 65 < 2 ^ 64 }
-    ensures ready { OnOk result (IsReady replica.new) }
-    ensures cause { Caused (D.faults disk.old) (D.faults disk.new) result }
-    ensures step { Does changing_ticks replica.old replica.new (D.told disk.old) (D.told disk.new) out.old out.new result }
+    ensures { Acts D.SectorDisk changing_ticks replica.old replica.new disk.old disk.new out.old out.new result }
 {
     // The tick that has come isn't counted yet: with it there are ten.
     if is_idle_for(replica, 9) {
@@ -220,12 +198,8 @@ pub fn handle_tick<D: SectorDisk>(
     disk: &mut D,
     out: &mut Outbox,
 ) -> Result<(), Halt>
-    requires ready { IsReady replica.old }
-    requires view { replica.old.view ≤ last_view }
-    requires room { replica.old.saved.fields.sequence + 65 < 2 ^ 64 }
-    ensures ready { OnOk result (IsReady replica.new) }
-    ensures cause { Caused (D.faults disk.old) (D.faults disk.new) result }
-    ensures step { Does on_tick replica.old replica.new (D.told disk.old) (D.told disk.new) out.old out.new result }
+    requires { MaySend 65 replica.old }
+    ensures { Acts D.SectorDisk on_tick replica.old replica.new disk.old disk.new out.old out.new result }
 {
     match decide_tick(replica) {
         TickRule::TickedPrimary => tick_primary(replica, alloc, disk, out),

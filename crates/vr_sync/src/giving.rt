@@ -4,7 +4,7 @@ ghost use Rattle.vr_journal.specs.Ready.{IsReady};
 ghost use Rattle.vr_journal.specs.Deciding.{first_of, get_sync_table, reaches_down};
 ghost use Rattle.vr_journal.specs.Replica.{last_view};
 ghost use Rattle.vr_journal.specs.Rules.{on_get_sync};
-ghost use Rattle.vr_journal.specs.Does.{Caused, Does};
+ghost use Rattle.vr_journal.specs.Acts.{Acts};
 ghost use Rattle.vr_sync.specs.Named.{sync_rule};
 ghost use Rattle.vr_sync.specs.declared.giving.SyncRule.{SyncRule};
 
@@ -51,8 +51,7 @@ pub fn handle_get_sync<D: SectorDisk>(
 ) -> Result<(), Halt>
     requires ready { IsReady replica.now }
     requires view { replica.now.view ≤ last_view }
-    ensures cause { Caused (D.faults _disk.old) (D.faults _disk.new) result }
-    ensures step { Does (on_get_sync get.now) replica.now replica.now (D.told _disk.old) (D.told _disk.new) out.old out.new result }
+    ensures { Acts D.SectorDisk (on_get_sync get.now) replica.now replica.now _disk.old _disk.new out.old out.new result }
 {
     match decide_get_sync(replica, get) {
         SyncRule::Ignored => {}

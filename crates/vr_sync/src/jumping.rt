@@ -1,5 +1,5 @@
 //! Checkpoints taken over: sync_views.
-ghost use Rattle.std.specs.Prelude.{◌≡◌, ◌<◌, ◌≤◌, ◌+◌, ◌^◌, OnOk};
+ghost use Rattle.std.specs.Prelude.{◌≡◌, ◌≤◌, ◌+◌, OnOk};
 ghost use Rattle.vr_base.specs.Bytes.{name_of};
 ghost use Rattle.vr_journal.specs.Ready.{IsReady};
 ghost use Rattle.vr_msg.specs.Spelling.{AreHeaders};
@@ -7,11 +7,11 @@ ghost use Rattle.vr_journal.specs.Deciding.{first_of, sync_view_table};
 ghost use Rattle.vr_journal.specs.Rules.{acknowledge_stored, on_sync_view};
 ghost use Rattle.vr_journal.specs.Steps.{◌⨾◌};
 ghost use Rattle.vr_journal.specs.Words.{apply, jump};
-ghost use Rattle.vr_journal.specs.Does.{Caused, Does};
 ghost use Rattle.vr_sync.specs.Jumps.{IsSyncing, MayJump};
 ghost use Rattle.vr_sync.specs.Named.{jump_rule};
 ghost use Rattle.vr_sync.specs.declared.jumping.JumpRule.{JumpRule};
 ghost use Rattle.vr_journal.specs.Telling.{each_to};
+ghost use Rattle.vr_journal.specs.Acts.{Acts, MayAct};
 
 use std::alloc::Global;
 use vr_disk::SectorDisk;
@@ -52,14 +52,11 @@ fn jump<D: SectorDisk>(
     sync: &SyncView,
     out: &mut Outbox,
 ) -> Result<(), Halt>
-    requires ready { IsReady replica.old }
+    requires act { MayAct 1 replica.old }
     requires may { MayJump sync.now replica.old }
-    requires room { replica.old.saved.fields.sequence + 1 < 2 ^ 64 }
-    ensures ready { OnOk result (IsReady replica.new) }
     ensures view { OnOk result (replica.new.view ≡ sync.now.view) }
     ensures spent { OnOk result (replica.new.saved.fields.sequence ≤ replica.old.saved.fields.sequence + 1) }
-    ensures cause { Caused (D.faults disk.old) (D.faults disk.new) result }
-    ensures step { Does (jump sync.now) replica.old replica.new (D.told disk.old) (D.told disk.new) out.old out.new result }
+    ensures acts { Acts D.SectorDisk (jump sync.now) replica.old replica.new disk.old disk.new out.old out.new result }
 {
     replica.jump(alloc, sync)?;
     save(replica, alloc, disk, out)
@@ -74,12 +71,9 @@ fn follow<D: SectorDisk>(
     sync: &SyncView,
     out: &mut Outbox,
 ) -> Result<(), Halt>
-    requires ready { IsReady replica.old }
+    requires act { MayAct 65 replica.old }
     requires may { MayJump sync.now replica.old }
-    requires room { replica.old.saved.fields.sequence + 65 < 2 ^ 64 }
-    ensures ready { OnOk result (IsReady replica.new) }
-    ensures cause { Caused (D.faults disk.old) (D.faults disk.new) result }
-    ensures step { Does (jump sync.now ⨾ each_to (acknowledge_stored name_of) sync.now.head ⨾ apply) replica.old replica.new (D.told disk.old) (D.told disk.new) out.old out.new result }
+    ensures { Acts D.SectorDisk (jump sync.now ⨾ each_to (acknowledge_stored name_of) sync.now.head ⨾ apply) replica.old replica.new disk.old disk.new out.old out.new result }
 {
     jump(replica, alloc, disk, sync, out)?;
     acknowledge_all(replica, sync.head, out)?;
@@ -96,12 +90,9 @@ pub fn handle_sync_view<D: SectorDisk>(
     sync: &SyncView,
     out: &mut Outbox,
 ) -> Result<(), Halt>
-    requires ready { IsReady replica.old }
+    requires act { MayAct 65 replica.old }
     requires message { IsSyncing sync.now }
-    requires room { replica.old.saved.fields.sequence + 65 < 2 ^ 64 }
-    ensures ready { OnOk result (IsReady replica.new) }
-    ensures cause { Caused (D.faults disk.old) (D.faults disk.new) result }
-    ensures step { Does (on_sync_view sync.now) replica.old replica.new (D.told disk.old) (D.told disk.new) out.old out.new result }
+    ensures { Acts D.SectorDisk (on_sync_view sync.now) replica.old replica.new disk.old disk.new out.old out.new result }
 {
     match decide_sync_view(replica, sync) {
         JumpRule::Ignored => Ok(()),

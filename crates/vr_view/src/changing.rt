@@ -1,14 +1,13 @@
 //! A replica has entered a view: start_view_changes.
-ghost use Rattle.std.specs.Prelude.{◌≡◌, ◌<◌, ◌≤◌, ◌+◌, ◌^◌, OnOk, true};
-ghost use Rattle.vr_journal.specs.Ready.{IsReady};
+ghost use Rattle.std.specs.Prelude.{◌≡◌, ◌<◌, ◌≤◌, true};
 ghost use Rattle.vr_journal.specs.Waits.{EndsAtOnce, passes};
 ghost use Rattle.vr_journal.specs.Deciding.{first_of, start_view_change_table};
 ghost use Rattle.vr_journal.specs.Replica.{last_view};
 ghost use Rattle.vr_journal.specs.Rules.{heard_of, on_start_view_change};
 ghost use Rattle.vr_journal.specs.Steps.{◌⨾◌, change};
 ghost use Rattle.vr_journal.specs.Words.{enter, speak};
-ghost use Rattle.vr_journal.specs.Does.{Caused, Does};
 ghost use Rattle.vr_view.specs.Named.{change_rule};
+ghost use Rattle.vr_journal.specs.Acts.{Acts, MayAct, MaySend};
 
 use crate::trying::speak;
 use std::alloc::Global;
@@ -61,13 +60,10 @@ fn enter_later<D: SectorDisk>(
     message: &StartViewChange,
     out: &mut Outbox,
 ) -> Result<(), Halt>
-    requires ready { IsReady replica.old }
+    requires act { MayAct 66 replica.old }
     requires later { replica.old.view < message.now.view }
     requires last { message.now.view ≤ last_view }
-    requires room { replica.old.saved.fields.sequence + 66 < 2 ^ 64 }
-    ensures ready { OnOk result (IsReady replica.new) }
-    ensures cause { Caused (D.faults disk.old) (D.faults disk.new) result }
-    ensures step { Does (enter message.now.view ⨾ change (heard_of message.now.replica) ⨾ speak) replica.old replica.new (D.told disk.old) (D.told disk.new) out.old out.new result }
+    ensures { Acts D.SectorDisk (enter message.now.view ⨾ change (heard_of message.now.replica) ⨾ speak) replica.old replica.new disk.old disk.new out.old out.new result }
 {
     enter(replica, alloc, disk, message.view, out)?;
     replica.hear(message.replica);
@@ -83,13 +79,9 @@ fn hear_one<D: SectorDisk>(
     sender: u8,
     out: &mut Outbox,
 ) -> Result<(), Halt>
-    requires ready { IsReady replica.old }
-    requires view { replica.old.view ≤ last_view }
+    requires send { MaySend 65 replica.old }
     requires changing { replica.old.log_view < replica.old.view }
-    requires room { replica.old.saved.fields.sequence + 65 < 2 ^ 64 }
-    ensures ready { OnOk result (IsReady replica.new) }
-    ensures cause { Caused (D.faults disk.old) (D.faults disk.new) result }
-    ensures step { Does (change (heard_of sender) ⨾ speak) replica.old replica.new (D.told disk.old) (D.told disk.new) out.old out.new result }
+    ensures { Acts D.SectorDisk (change (heard_of sender) ⨾ speak) replica.old replica.new disk.old disk.new out.old out.new result }
 {
     replica.hear(sender);
     speak(replica, alloc, disk, out)
@@ -106,14 +98,10 @@ pub fn handle_start_view_change<D: SectorDisk>(
     message: &StartViewChange,
     out: &mut Outbox,
 ) -> Result<(), Halt>
-    requires ready { IsReady replica.old }
-    requires view { replica.old.view ≤ last_view }
+    requires send { MaySend 66 replica.old }
     requires last { message.now.view ≤ last_view }
-    requires room { replica.old.saved.fields.sequence + 66 < 2 ^ 64 }
-    ensures ready { OnOk result (IsReady replica.new) }
-    ensures cause { Caused (D.faults disk.old) (D.faults disk.new) result }
     ensures passed { passes (first_of (start_view_change_table message.now replica.old)) ≡ true → EndsAtOnce disk.old disk.new result }
-    ensures step { Does (on_start_view_change message.now) replica.old replica.new (D.told disk.old) (D.told disk.new) out.old out.new result }
+    ensures acts { Acts D.SectorDisk (on_start_view_change message.now) replica.old replica.new disk.old disk.new out.old out.new result }
 {
     match decide_start_view_change(replica, message) {
         ChangeRule::Ignored => Ok(()),

@@ -1,5 +1,5 @@
 //! The log of a view that is started: start_views, and get_views that ask for one.
-ghost use Rattle.std.specs.Prelude.{◌≡◌, ◌<◌, ◌≤◌, ◌+◌, ◌^◌, ◌||◌, OnOk, nat_lt};
+ghost use Rattle.std.specs.Prelude.{◌≡◌, ◌<◌, ◌≤◌, ◌||◌, nat_lt};
 ghost use Rattle.vr_base.specs.Bytes.{name_of};
 ghost use Rattle.vr_journal.specs.Ready.{HasWindow, IsReady};
 ghost use Rattle.vr_msg.specs.Spelling.{AreHeaders};
@@ -8,12 +8,12 @@ ghost use Rattle.vr_journal.specs.Replica.{last_view, window_end};
 ghost use Rattle.vr_journal.specs.Rules.{acknowledge_stored, on_get_view, on_start_view};
 ghost use Rattle.vr_journal.specs.Steps.{◌⨾◌};
 ghost use Rattle.vr_journal.specs.Words.{apply, take};
-ghost use Rattle.vr_journal.specs.Does.{Caused, Does};
 ghost use Rattle.vr_view.specs.Logs.{MayTake};
 ghost use Rattle.vr_view.specs.Messages.{IsStarting};
 ghost use Rattle.vr_view.specs.Named.{start_rule, view_rule};
 ghost use Rattle.vr_journal.specs.Telling.{each_to};
 ghost use Rattle.vr_view.specs.declared.starting.StartRule.{StartRule};
+ghost use Rattle.vr_journal.specs.Acts.{Acts, MayAct};
 
 use crate::taking::{head_of, take};
 use std::alloc::Global;
@@ -108,12 +108,9 @@ fn follow<D: SectorDisk>(
     log: &Log,
     out: &mut Outbox,
 ) -> Result<(), Halt>
-    requires ready { IsReady replica.old }
+    requires act { MayAct 65 replica.old }
     requires may { MayTake log.now replica.old }
-    requires room { replica.old.saved.fields.sequence + 65 < 2 ^ 64 }
-    ensures ready { OnOk result (IsReady replica.new) }
-    ensures cause { Caused (D.faults disk.old) (D.faults disk.new) result }
-    ensures step { Does (take log.now ⨾ each_to (acknowledge_stored name_of) log.now.head ⨾ apply) replica.old replica.new (D.told disk.old) (D.told disk.new) out.old out.new result }
+    ensures { Acts D.SectorDisk (take log.now ⨾ each_to (acknowledge_stored name_of) log.now.head ⨾ apply) replica.old replica.new disk.old disk.new out.old out.new result }
 {
     take(replica, alloc, disk, log, out)?;
     acknowledge_all(replica, head_of(log), out)?;
@@ -131,12 +128,9 @@ pub fn handle_start_view<D: SectorDisk>(
     start: &StartView,
     out: &mut Outbox,
 ) -> Result<(), Halt>
-    requires ready { IsReady replica.old }
+    requires act { MayAct 65 replica.old }
     requires message { IsStarting start.now }
-    requires room { replica.old.saved.fields.sequence + 65 < 2 ^ 64 }
-    ensures ready { OnOk result (IsReady replica.new) }
-    ensures cause { Caused (D.faults disk.old) (D.faults disk.new) result }
-    ensures step { Does (on_start_view start.now) replica.old replica.new (D.told disk.old) (D.told disk.new) out.old out.new result }
+    ensures { Acts D.SectorDisk (on_start_view start.now) replica.old replica.new disk.old disk.new out.old out.new result }
 {
     match decide_start_view(replica, start) {
         StartRule::Ignored => Ok(()),
@@ -159,8 +153,7 @@ pub fn handle_get_view<D: SectorDisk>(
 ) -> Result<(), Halt>
     requires ready { IsReady replica.now }
     requires view { replica.now.view ≤ last_view }
-    ensures cause { Caused (D.faults _disk.old) (D.faults _disk.new) result }
-    ensures step { Does (on_get_view get.now) replica.now replica.now (D.told _disk.old) (D.told _disk.new) out.old out.new result }
+    ensures { Acts D.SectorDisk (on_get_view get.now) replica.now replica.now _disk.old _disk.new out.old out.new result }
 {
     match decide_get_view(replica, get) {
         ViewRule::Ignored => {}

@@ -1,6 +1,5 @@
 //! A replica states its log for a view: do_view_changes.
-ghost use Rattle.std.specs.Prelude.{◌≡◌, ◌<◌, ◌≤◌, ◌+◌, ◌^◌, ◌∷◌, [], IfOk, OnOk};
-ghost use Rattle.vr_journal.specs.Ready.{IsReady};
+ghost use Rattle.std.specs.Prelude.{◌≡◌, ◌<◌, ◌≤◌, ◌+◌, ◌∷◌, [], IfOk, OnOk};
 ghost use Rattle.vr_msg.specs.Spelling.{AreHeaders, known};
 ghost use Rattle.vr_journal.specs.Deciding.{do_view_change_table, first_of};
 ghost use Rattle.vr_journal.specs.Rule.TheVariants.{Stated};
@@ -8,10 +7,10 @@ ghost use Rattle.vr_journal.specs.Replica.{last_view};
 ghost use Rattle.vr_journal.specs.Rules.{on_do_view_change, with_statement};
 ghost use Rattle.vr_journal.specs.Steps.{◌⨾◌, change};
 ghost use Rattle.vr_journal.specs.Words.{try};
-ghost use Rattle.vr_journal.specs.Does.{Caused, Does};
 ghost use Rattle.vr_view.specs.Messages.{IsStating};
 ghost use Rattle.vr_view.specs.Named.{state_rule};
 ghost use Rattle.vr_view.specs.Entering.{entering};
+ghost use Rattle.vr_journal.specs.Acts.{Acts, MayAct, MaySend};
 
 use crate::trying::try_view;
 use std::alloc::{AllocError, Global};
@@ -53,7 +52,7 @@ pub fn decide_do_view_change(replica: &Replica, message: &DoViewChange) -> State
     }
 }
 
-// The same Part; its header has the values of the program.
+// A copy of a Part, whose header has the values of the program.
 #[tactic(auto, using(crate::proofs::Copies::valued))]
 fn copy_part(part: &Part) -> Part
     ensures same { result ≡ part.now }
@@ -68,7 +67,7 @@ fn copy_part(part: &Part) -> Part
     }
 }
 
-// The same Parts; their headers have the values of the program.
+// A copy of Parts, whose headers have the values of the program.
 #[tactic(auto, using(crate::proofs::Copies::copies))]
 fn copy_parts(alloc: Global, parts: &[Part]) -> Result<Seq<Part>, AllocError>
     ensures same { IfOk result (λ copy. copy ≡ parts.now) }
@@ -81,7 +80,7 @@ fn copy_parts(alloc: Global, parts: &[Part]) -> Result<Seq<Part>, AllocError>
     Ok(copy)
 }
 
-// The same statement; its headers have the values of the program.
+// A copy of a statement, whose headers have the values of the program.
 fn copy_statement(alloc: Global, statement: &Statement) -> Result<Statement, AllocError>
     ensures same { IfOk result (λ copy. copy ≡ statement.now) }
     ensures values { OnOk result (AreHeaders (known statement.now.body.parts)) }
@@ -106,17 +105,14 @@ fn enter_later<D: SectorDisk>(
     view: u32,
     out: &mut Outbox,
 ) -> Result<(), Halt>
-    requires ready { IsReady replica.old }
+    requires act { MayAct 1 replica.old }
     requires later { replica.old.view < view }
     requires last { view ≤ last_view }
-    requires room { replica.old.saved.fields.sequence + 1 < 2 ^ 64 }
-    ensures ready { OnOk result (IsReady replica.new) }
     ensures view { OnOk result (replica.new.view ≡ view) }
     ensures group { OnOk result (replica.new.cluster ≡ replica.old.cluster) }
     ensures size { OnOk result (replica.new.n ≡ replica.old.n) }
     ensures spent { OnOk result (replica.new.saved.fields.sequence ≤ replica.old.saved.fields.sequence + 1) }
-    ensures cause { Caused (D.faults disk.old) (D.faults disk.new) result }
-    ensures step { Does (entering view) replica.old replica.new (D.told disk.old) (D.told disk.new) out.old out.new result }
+    ensures acts { Acts D.SectorDisk (entering view) replica.old replica.new disk.old disk.new out.old out.new result }
 {
     match enter(replica, alloc, disk, view, out) {
         Ok(()) => Ok(()),
@@ -133,17 +129,14 @@ fn enter_up_to<D: SectorDisk>(
     view: u32,
     out: &mut Outbox,
 ) -> Result<(), Halt>
-    requires ready { IsReady replica.old }
+    requires act { MayAct 1 replica.old }
     requires later { replica.old.view ≤ view }
     requires last { view ≤ last_view }
-    requires room { replica.old.saved.fields.sequence + 1 < 2 ^ 64 }
-    ensures ready { OnOk result (IsReady replica.new) }
     ensures view { OnOk result (replica.new.view ≡ view) }
     ensures group { OnOk result (replica.new.cluster ≡ replica.old.cluster) }
     ensures size { OnOk result (replica.new.n ≡ replica.old.n) }
     ensures spent { OnOk result (replica.new.saved.fields.sequence ≤ replica.old.saved.fields.sequence + 1) }
-    ensures cause { Caused (D.faults disk.old) (D.faults disk.new) result }
-    ensures step { Does (entering view) replica.old replica.new (D.told disk.old) (D.told disk.new) out.old out.new result }
+    ensures acts { Acts D.SectorDisk (entering view) replica.old replica.new disk.old disk.new out.old out.new result }
 {
     if replica.view() < view {
         enter_later(replica, alloc, disk, view, out)
@@ -161,13 +154,10 @@ fn keep<D: SectorDisk>(
     message: &DoViewChange,
     out: &mut Outbox,
 ) -> Result<(), Halt>
-    requires ready { IsReady replica.old }
+    requires act { MayAct 66 replica.old }
     requires message { IsStating message.now }
     requires rule { first_of (do_view_change_table message.now replica.old) ≡ Stated }
-    requires room { replica.old.saved.fields.sequence + 66 < 2 ^ 64 }
-    ensures ready { OnOk result (IsReady replica.new) }
-    ensures cause { Caused (D.faults disk.old) (D.faults disk.new) result }
-    ensures step { Does (entering message.now.view ⨾ change (with_statement message.now.replica message.now.statement) ⨾ try) replica.old replica.new (D.told disk.old) (D.told disk.new) out.old out.new result }
+    ensures { Acts D.SectorDisk (entering message.now.view ⨾ change (with_statement message.now.replica message.now.statement) ⨾ try) replica.old replica.new disk.old disk.new out.old out.new result }
 {
     enter_up_to(replica, alloc, disk, message.view, out)?;
     let statement = copy_statement(alloc, &message.statement)?;
@@ -186,13 +176,9 @@ pub fn handle_do_view_change<D: SectorDisk>(
     message: &DoViewChange,
     out: &mut Outbox,
 ) -> Result<(), Halt>
-    requires ready { IsReady replica.old }
-    requires view { replica.old.view ≤ last_view }
+    requires send { MaySend 66 replica.old }
     requires message { IsStating message.now }
-    requires room { replica.old.saved.fields.sequence + 66 < 2 ^ 64 }
-    ensures ready { OnOk result (IsReady replica.new) }
-    ensures cause { Caused (D.faults disk.old) (D.faults disk.new) result }
-    ensures step { Does (on_do_view_change message.now) replica.old replica.new (D.told disk.old) (D.told disk.new) out.old out.new result }
+    ensures { Acts D.SectorDisk (on_do_view_change message.now) replica.old replica.new disk.old disk.new out.old out.new result }
 {
     match decide_do_view_change(replica, message) {
         StateRule::Ignored => Ok(()),

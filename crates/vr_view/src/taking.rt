@@ -1,9 +1,8 @@
 //! Take: the log of a view is taken over.
-ghost use Rattle.std.specs.Prelude.{◌≡◌, ◌<◌, ◌≤◌, ◌+◌, ◌^◌, OnOk};
+ghost use Rattle.std.specs.Prelude.{◌≡◌, ◌≤◌, ◌+◌, OnOk};
 ghost use Rattle.vr_journal.specs.Words.{take};
-ghost use Rattle.vr_journal.specs.Does.{Does, Caused};
-ghost use Rattle.vr_journal.specs.Ready.{IsReady};
 ghost use Rattle.vr_view.specs.Logs.{MayTake};
+ghost use Rattle.vr_journal.specs.Acts.{Acts, MayAct};
 
 use std::alloc::Global;
 use vr_disk::SectorDisk;
@@ -33,14 +32,11 @@ pub fn take<D: SectorDisk>(
     log: &Log,
     out: &mut Outbox,
 ) -> Result<(), Halt>
-    requires ready { IsReady replica.old }
+    requires act { MayAct 1 replica.old }
     requires may { MayTake log.now replica.old }
-    requires room { replica.old.saved.fields.sequence + 1 < 2 ^ 64 }
-    ensures ready { OnOk result (IsReady replica.new) }
     ensures view { OnOk result (replica.new.view ≡ log.now.view) }
     ensures spent { OnOk result (replica.new.saved.fields.sequence ≤ replica.old.saved.fields.sequence + 1) }
-    ensures cause { Caused (D.faults disk.old) (D.faults disk.new) result }
-    ensures step { Does (take log.now) replica.old replica.new (D.told disk.old) (D.told disk.new) out.old out.new result }
+    ensures acts { Acts D.SectorDisk (take log.now) replica.old replica.new disk.old disk.new out.old out.new result }
 {
     replica.take_over(log);
     save(replica, alloc, disk, out)

@@ -4,9 +4,9 @@ ghost use Rattle.vr_base.specs.Replicas.{size};
 ghost use Rattle.vr_journal.specs.Ready.{IsReady};
 ghost use Rattle.vr_journal.specs.Replica.{is_alone, is_primary, is_started, last_view, view_change};
 ghost use Rattle.vr_journal.specs.Words.{advance, apply, begin_view, choose_line, chosen_log, decided, log_end, obey_choice, prepare_again, speak, stated, try, try_log};
-ghost use Rattle.vr_journal.specs.Does.{Caused, Does};
 ghost use Rattle.vr_view.specs.Logs.{IsTaught, MayTake};
 ghost use Rattle.vr_journal.specs.Telling.{each_to};
+ghost use Rattle.vr_journal.specs.Acts.{Acts, MayAct, MaySend};
 
 use crate::taking::{commit_of, head_of, take};
 use std::alloc::{AllocError, Global};
@@ -75,10 +75,8 @@ fn prepare_all<D: SectorDisk>(
     requires ready { IsReady replica.old }
     requires view { replica.old.view ≤ last_view }
     requires number { log.now.head < 2 ^ 63 }
-    ensures ready { OnOk result (IsReady replica.new) }
     ensures saved { OnOk result (replica.new.saved ≡ replica.old.saved) }
-    ensures cause { Caused (D.faults disk.old) (D.faults disk.new) result }
-    ensures step { Does (each_to prepare_again log.now.head) replica.old replica.new (D.told disk.old) (D.told disk.new) out.old out.new result }
+    ensures acts { Acts D.SectorDisk (each_to prepare_again log.now.head) replica.old replica.new disk.old disk.new out.old out.new result }
 {
     let commit = replica.commit();
     let head = head_of(log);
@@ -115,11 +113,8 @@ fn apply_log<D: SectorDisk>(
     disk: &mut D,
     out: &mut Outbox,
 ) -> Result<(), Halt>
-    requires ready { IsReady replica.old }
-    requires room { replica.old.saved.fields.sequence + 64 < 2 ^ 64 }
-    ensures ready { OnOk result (IsReady replica.new) }
-    ensures cause { Caused (D.faults disk.old) (D.faults disk.new) result }
-    ensures step { Does (if is_alone replica.old then advance else apply) replica.old replica.new (D.told disk.old) (D.told disk.new) out.old out.new result }
+    requires { MayAct 64 replica.old }
+    ensures { Acts D.SectorDisk (if is_alone replica.old then advance else apply) replica.old replica.new disk.old disk.new out.old out.new result }
 {
     if replica.is_alone() {
         advance(replica, alloc, disk, out)
@@ -139,12 +134,9 @@ fn begin_view<D: SectorDisk>(
     log: &Log,
     out: &mut Outbox,
 ) -> Result<(), Halt>
-    requires ready { IsReady replica.old }
+    requires act { MayAct 65 replica.old }
     requires may { MayTake log.now replica.old }
-    requires room { replica.old.saved.fields.sequence + 65 < 2 ^ 64 }
-    ensures ready { OnOk result (IsReady replica.new) }
-    ensures cause { Caused (D.faults disk.old) (D.faults disk.new) result }
-    ensures step { Does (begin_view statements.now log.now) replica.old replica.new (D.told disk.old) (D.told disk.new) out.old out.new result }
+    ensures { Acts D.SectorDisk (begin_view statements.now log.now) replica.old replica.new disk.old disk.new out.old out.new result }
 {
     tell_choice(replica, alloc, statements, log, out)?;
     take(replica, alloc, disk, log, out)?;
@@ -163,12 +155,9 @@ fn try_log<D: SectorDisk>(
     log: &Log,
     out: &mut Outbox,
 ) -> Result<(), Halt>
-    requires ready { IsReady replica.old }
+    requires act { MayAct 65 replica.old }
     requires taught { IsTaught log.now replica.old }
-    requires room { replica.old.saved.fields.sequence + 65 < 2 ^ 64 }
-    ensures ready { OnOk result (IsReady replica.new) }
-    ensures cause { Caused (D.faults disk.old) (D.faults disk.new) result }
-    ensures step { Does (try_log statements.now log.now) replica.old replica.new (D.told disk.old) (D.told disk.new) out.old out.new result }
+    ensures { Acts D.SectorDisk (try_log statements.now log.now) replica.old replica.new disk.old disk.new out.old out.new result }
 {
     if replica.may_take(log) {
         begin_view(replica, alloc, disk, statements, log, out)
@@ -197,12 +186,8 @@ fn choose_log<D: SectorDisk>(
     disk: &mut D,
     out: &mut Outbox,
 ) -> Result<(), Halt>
-    requires ready { IsReady replica.old }
-    requires view { replica.old.view ≤ last_view }
-    requires room { replica.old.saved.fields.sequence + 65 < 2 ^ 64 }
-    ensures ready { OnOk result (IsReady replica.new) }
-    ensures cause { Caused (D.faults disk.old) (D.faults disk.new) result }
-    ensures step { Does (obey_choice (stated replica.old) (decided replica.old)) replica.old replica.new (D.told disk.old) (D.told disk.new) out.old out.new result }
+    requires { MaySend 65 replica.old }
+    ensures { Acts D.SectorDisk (obey_choice (stated replica.old) (decided replica.old)) replica.old replica.new disk.old disk.new out.old out.new result }
 {
     if are_too_few(replica) {
         return Ok(());
@@ -238,12 +223,8 @@ pub fn try_view<D: SectorDisk>(
     disk: &mut D,
     out: &mut Outbox,
 ) -> Result<(), Halt>
-    requires ready { IsReady replica.old }
-    requires view { replica.old.view ≤ last_view }
-    requires room { replica.old.saved.fields.sequence + 65 < 2 ^ 64 }
-    ensures ready { OnOk result (IsReady replica.new) }
-    ensures cause { Caused (D.faults disk.old) (D.faults disk.new) result }
-    ensures step { Does try replica.old replica.new (D.told disk.old) (D.told disk.new) out.old out.new result }
+    requires { MaySend 65 replica.old }
+    ensures { Acts D.SectorDisk try replica.old replica.new disk.old disk.new out.old out.new result }
 {
     if may_try(replica) {
         choose_log(replica, alloc, disk, out)
@@ -272,13 +253,9 @@ pub fn speak<D: SectorDisk>(
     disk: &mut D,
     out: &mut Outbox,
 ) -> Result<(), Halt>
-    requires ready { IsReady replica.old }
-    requires view { replica.old.view ≤ last_view }
+    requires send { MaySend 65 replica.old }
     requires changing { replica.old.log_view < replica.old.view }
-    requires room { replica.old.saved.fields.sequence + 65 < 2 ^ 64 }
-    ensures ready { OnOk result (IsReady replica.new) }
-    ensures cause { Caused (D.faults disk.old) (D.faults disk.new) result }
-    ensures step { Does speak replica.old replica.new (D.told disk.old) (D.told disk.new) out.old out.new result }
+    ensures { Acts D.SectorDisk speak replica.old replica.new disk.old disk.new out.old out.new result }
 {
     if !is_heard(replica) {
         return Ok(());

@@ -281,3 +281,7 @@ ready_worn name r q e h = rw e (record { sound = sound_alike r (with_worn name r
 pub ready_moved : (at : ℕ) (r q : Replica) → q ≡ with_cursor at r → IsReady r → IsReady q
 unfolding IsReady
 ready_moved at r q e h = rw e (record { sound = sound_alike r (with_cursor at r) refl h.sound; savable = savable_alike r (with_cursor at r) refl h.savable; idle = h.idle; fits = h.fits })
+
+-- a replica with one more worn block is ready, where the one before it had another name too
+pub ready_worn_after : (name : Name) (s r q : Replica) → q ≡ with_worn name s → s ≡ r → IsReady r → IsReady q
+ready_worn_after name s r q e i h = ready_worn name s q e (subst IsReady (sym i) h)

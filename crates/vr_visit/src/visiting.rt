@@ -1,5 +1,5 @@
 //! A visit of the disk: one place is looked at, and mended where the replica can.
-ghost use Rattle.std.specs.Prelude.{◌≡◌, ◌<◌, ◌%◌, ◌==◌, IfErr, IfOk, IfSome, OnOk, Some, is_ok};
+ghost use Rattle.std.specs.Prelude.{◌≡◌, ◌%◌, IfErr, IfOk, IfSome, Some, is_ok};
 ghost use Rattle.vr_base.specs.Causes.{HasCause};
 ghost use Rattle.vr_header.specs.declared.part.Part.TheVariants.{Here};
 ghost use Rattle.vr_journal.specs.Ready.{IsReady};
@@ -9,8 +9,9 @@ ghost use Rattle.vr_journal.specs.Replica.{part_at, version};
 ghost use Rattle.vr_journal.specs.Sectors.{sectors_by};
 ghost use Rattle.vr_journal.specs.Steps.{reading};
 ghost use Rattle.vr_journal.specs.Words.{entry_of, header_read, mend_header, op_of_slot, place_now, visit, visit_block, visit_place, visit_slot};
-ghost use Rattle.vr_journal.specs.Does.{Caused, Does, Performs, done};
+ghost use Rattle.vr_journal.specs.Does.{Performs, done};
 ghost use Rattle.vr_journal.specs.Halt.TheVariants as halt;
+ghost use Rattle.vr_journal.specs.Acts.{Acts, Untouched};
 
 use crate::found::Visit;
 use vr_ckpt::Name;
@@ -24,8 +25,7 @@ use vr_rings::read_header;
 
 // Whether the header sector of an entry's slot reads as its header.
 fn reads_as<D: SectorDisk>(disk: &mut D, header: &Header) -> bool
-    ensures told { D.told disk.new ≡ D.told disk.old }
-    ensures faults { D.faults disk.new ≡ D.faults disk.old }
+    ensures untouched { Untouched D.SectorDisk disk.old disk.new }
     ensures value { IfSome (D.told disk.old) (λ d. result ≡ reads_as header.now (header_in d.face (header.now.op % 64))) }
 {
     match read_header(disk, (header.op % 64) as u32) {
@@ -42,8 +42,8 @@ fn mend_header<D: SectorDisk>(
     header: &Header,
     _out: &mut Outbox,
 ) -> Result<Visit, Halt>
-    ensures cause { Caused (D.faults disk.old) (D.faults disk.new) result }
-    ensures step { Does (reading (header_read header.now.op) (mend_header header.now)) replica.now replica.now (D.told disk.old) (D.told disk.new) _out.old _out.new (done result) }
+    requires ready { IsReady replica.now }
+    ensures acts { Acts D.SectorDisk (reading (header_read header.now.op) (mend_header header.now)) replica.now replica.now disk.old disk.new _out.old _out.new (done result) }
     ensures fault { IfErr result (λ why. why ≡ halt.DiskFault) }
     ensures found { IfSome (D.told disk.old) (λ d. IfOk result (λ v. v ≡ good_or_mended header.now (header_in d.face (header.now.op % 64)))) }
 {
@@ -64,9 +64,7 @@ fn visit_stored<D: SectorDisk>(
 ) -> Result<Visit, Halt>
     requires ready { IsReady replica.old }
     requires here { part_at replica.old header.now.op ≡ Here header.now }
-    ensures ready { OnOk result (IsReady replica.new) }
-    ensures cause { Caused (D.faults disk.old) (D.faults disk.new) result }
-    ensures step { Does (visit_slot header.now.op) replica.old replica.new (D.told disk.old) (D.told disk.new) out.old out.new (done result) }
+    ensures acts { Acts D.SectorDisk (visit_slot header.now.op) replica.old replica.new disk.old disk.new out.old out.new (done result) }
     ensures fault { IfErr result (λ why. why ≡ halt.DiskFault) }
     ensures found { IfSome (D.told disk.old) (λ d. IfOk result (λ v. v ≡ stored_as header.now (entry_of header.now (sectors_by (version replica.old)) d.face) (header_in d.face (header.now.op % 64)))) }
 {
@@ -89,9 +87,7 @@ pub fn visit_slot<D: SectorDisk>(
     out: &mut Outbox,
 ) -> Result<Visit, Halt>
     requires ready { IsReady replica.old }
-    ensures ready { OnOk result (IsReady replica.new) }
-    ensures cause { Caused (D.faults disk.old) (D.faults disk.new) result }
-    ensures step { Does (visit_slot op) replica.old replica.new (D.told disk.old) (D.told disk.new) out.old out.new (done result) }
+    ensures acts { Acts D.SectorDisk (visit_slot op) replica.old replica.new disk.old disk.new out.old out.new (done result) }
     ensures fault { IfErr result (λ why. why ≡ halt.DiskFault) }
     ensures found { IfSome (D.told disk.old) (λ d. IfOk result (λ v. v ≡ found_at (version replica.old) (part_at replica.old op) d.face)) }
 {
@@ -112,7 +108,7 @@ fn mend_value<D: SectorDisk>(replica: &Replica, disk: &mut D) -> Result<(), Disk
 }
 
 // A block of the checkpoint is looked at.
-#[tactic(auto, using(crate::proofs::Visits::block_bad, crate::proofs::Visits::block_good, crate::proofs::Visits::ready_worn, vr_journal::proofs::Stepping::does_no_memory))]
+#[tactic(auto, using(crate::proofs::Visits::block_bad, crate::proofs::Visits::block_good, crate::proofs::Visits::ready_worn_after, vr_journal::proofs::Stepping::does_no_memory))]
 fn visit_block<D: SectorDisk>(
     replica: &mut Replica,
     disk: &mut D,
@@ -120,9 +116,7 @@ fn visit_block<D: SectorDisk>(
     _out: &mut Outbox,
 ) -> Result<(), Halt>
     requires ready { IsReady replica.old }
-    ensures ready { OnOk result (IsReady replica.new) }
-    ensures cause { Caused (D.faults disk.old) (D.faults disk.new) result }
-    ensures step { Does (visit_block (Some name.now)) replica.old replica.new (D.told disk.old) (D.told disk.new) _out.old _out.new result }
+    ensures { Acts D.SectorDisk (visit_block (Some name.now)) replica.old replica.new disk.old disk.new _out.old _out.new result }
 {
     if replica.is_worn(disk, name) {
         replica.add_worn(*name)?;
@@ -139,9 +133,7 @@ fn visit_place<D: SectorDisk>(
     out: &mut Outbox,
 ) -> Result<(), Halt>
     requires ready { IsReady replica.old }
-    ensures ready { OnOk result (IsReady replica.new) }
-    ensures cause { Caused (D.faults disk.old) (D.faults disk.new) result }
-    ensures step { Does (visit_place at) replica.old replica.new (D.told disk.old) (D.told disk.new) out.old out.new result }
+    ensures { Acts D.SectorDisk (visit_place at) replica.old replica.new disk.old disk.new out.old out.new result }
 {
     if at < 64 {
         let op = replica.op_of_slot(at);
@@ -167,9 +159,7 @@ pub fn visit<D: SectorDisk>(
     out: &mut Outbox,
 ) -> Result<(), Halt>
     requires ready { IsReady replica.old }
-    ensures ready { OnOk result (IsReady replica.new) }
-    ensures cause { Caused (D.faults disk.old) (D.faults disk.new) result }
-    ensures step { Does visit replica.old replica.new (D.told disk.old) (D.told disk.new) out.old out.new result }
+    ensures { Acts D.SectorDisk visit replica.old replica.new disk.old disk.new out.old out.new result }
 {
     if replica.is_loaded() {
         let at = replica.place_now();

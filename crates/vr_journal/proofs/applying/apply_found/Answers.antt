@@ -1,7 +1,13 @@
-use Rattle.std.proofs.Common.{◌∙◌, ap}
+use Rattle.std.proofs.Common.{rules, ◌∙◌, ap}
+use Rattle.vr_memory.proofs.Memory.{may_ready, readies}
 use Rattle.vr_memory.specs.Words.{lost}
 use Rattle.vr_step.proofs.Stepping.{found_lost}
 use Rattle.vr_journal.proofs.applying.apply_found.Goals as goal
 
-pub returns-in-None-clause-step : goal.returns-in-None-clause-step
-returns-in-None-clause-step g c = found_lost _ _ _ _ _ _ _ (rw c.in-None.is at c.in_ok-entry.ensures.found) (c.lose.ensures.lost ∙ ap (lost c.args.header.now) c.find_entry.ensures.left)
+pub returns-in-None-clause-acts : goal.returns-in-None-clause-acts
+returns-in-None-clause-acts g c =
+    record {
+      ready = search (rules, may_ready, readies);
+      cause = search rules;
+      step = found_lost _ _ _ _ _ _ _ (rw c.in-None.is at c.in_ok-entry.ensures.found) (c.lose.ensures.lost ∙ ap (lost c.args.header.now) c.find_entry.ensures.left);
+    }

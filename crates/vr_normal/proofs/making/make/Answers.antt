@@ -5,8 +5,12 @@ use Rattle.vr_journal.specs.Words.{write}
 use Rattle.vr_journal.proofs.Stepping.{does_no_memory, does_then}
 use Rattle.vr_normal.proofs.making.make.Goals as goal
 
-pub returns-in_err-send_prepare-clause-step : goal.returns-in_err-send_prepare-clause-step
+pub returns-in_err-send_prepare : goal.returns-in_err-send_prepare
 unfolding make
-returns-in_err-send_prepare-clause-step g c =
+returns-in_err-send_prepare g c =
     let is : c.from_residual-in_err-send_prepare.result ≡ Err NoMemory = search rules in
-    rw is (does_then (write c.args.entry.now) _ _ _ _ _ _ _ _ _ _ _ c.in_ok-write.ensures.step (does_no_memory _ _ _ _ _ _))
+    record {
+      ready = search rules;
+      cause = search rules;
+      step = rw is (does_then (write c.args.entry.now) _ _ _ _ _ _ _ _ _ _ _ c.in_ok-write.ensures.acts.step (does_no_memory _ _ _ _ _ _));
+    }

@@ -11,4 +11,4 @@ unfolding MayTake may_take
 take_over-requires-clause-chain g c = (and_parts _ _ (and_parts _ _ c.requires.may.may).1).1
 
 pub returns-clause-view : goal.returns-clause-view
-returns-clause-view g c = stays_ok _ _ _ _ c.save.ensures.view (view_taken _ _ _ c.take_over.ensures.taken)
+returns-clause-view g c = stays_ok _ _ _ _ c.save.ensures.spends.view (view_taken _ _ _ c.take_over.ensures.taken)

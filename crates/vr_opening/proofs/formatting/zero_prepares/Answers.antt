@@ -1,7 +1,7 @@
 use Rattle.std.proofs.Common.{◌∙◌, arith, refl}
 use Rattle.std.proofs.lemmas.Result.{err_from_is_err_and}
 use Rattle.vr_opening.proofs.Calls.{zeros_go, zeros_stop}
-use Rattle.vr_opening.proofs.formatting.write_zeros.Goals as goal
+use Rattle.vr_opening.proofs.formatting.zero_prepares.Goals as goal
 
 pub returns-in_err-write-clause-runs : goal.returns-in_err-write-clause-runs
 returns-in_err-write-clause-runs g c =

@@ -1,7 +1,7 @@
 use Rattle.std.proofs.Common.{◌≡◌}
 use Rattle.vr_journal.specs.Formatting.{zero_prepares}
 use Rattle.vr_opening.specs.Calls.{prepares_end, zero_call, calls_from, Making}
-use Rattle.vr_opening.proofs.formatting.write_zeros.Given as goal
+use Rattle.vr_opening.proofs.formatting.zero_prepares.Given as goal
 
 abbrev pub invariant-loop-i : goal.invariant-loop-i
 invariant-loop-i g l = record {
