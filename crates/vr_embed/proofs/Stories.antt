@@ -10,6 +10,7 @@ use Rattle.vr_header.specs.Text.{is_text}
 use Rattle.vr_header.specs.declared.operation.Operation.{Operation}
 use Rattle.vr_header.specs.declared.operation.Operation.TheVariants.{Get, Put, Register}
 use Rattle.vr_msg.specs.Asking.{IsRequest}
+use Rattle.vr_msg.specs.declared.output.Sent.{Sent}
 use Rattle.vr_msg.specs.declared.request.RequestFields.{RequestFields}
 use Rattle.vr_lying.specs.Lying.{hazards}
 use Rattle.vr_lying.specs.World.{Arrives, Asks, Fuses, Happening, Starts, fresh_world, happen}
@@ -22,7 +23,7 @@ use Rattle.law_6_one_log.proofs.Known.{one_log}
 use Rattle.law_6_one_log.proofs.Traces.{keeps}
 use Rattle.vr_embed.specs.Groups.{Goes, GoesOn, GoesOnBehind, ShowsWorld, letters, ticks, told_lines}
 use Rattle.vr_embed.specs.Members.{kind}
-use Rattle.vr_embed.specs.Story.{Ends, IsTold, asked, asks, color, green, is_due, passed, round, shape, story}
+use Rattle.vr_embed.specs.Story.{AreAll, Ends, IsAll, IsTold, asked, asks, color, green, is_due, passed, round, shape, story, to_cut, to_found, to_put, to_read, to_second, to_session, to_tick}
 use Rattle.vr_embed.specs.declared.clock.Clock.{Clock}
 use Rattle.vr_embed.specs.declared.group.Group.{Group}
 use Rattle.vr_embed.proofs.Worlds.{goes_then}
@@ -140,27 +141,27 @@ one_log_of xs h names =
 -- ---- parts of the story
 
 -- this happened, and letters were delivered, from this number on
-pub went_on : (xs : List Happening) (kept : ℕ) (old mid new : Group) → Goes xs old mid → Goes (letters kept new.link.next) mid new → kept ≤ new.link.next → new.link.next ≤ kept + 1000 → GoesOn xs kept old new
-went_on xs kept old mid new h k l m = record { goes = goes_then xs (letters kept new.link.next) old mid new h k; least = l; most = m }
+pub went_on : (xs : List Happening) (kept : ℕ) (old mid new : Group) → Goes xs old mid → Goes (letters kept new.link.next) mid new → kept ≤ new.link.next → new.link.next ≤ kept + 1000 → (new.link.next < kept + 1000 → length new.link.letters ≤ new.link.next) → GoesOn xs kept old new
+went_on xs kept old mid new h k l m z = record { goes = goes_then xs (letters kept new.link.next) old mid new h k; least = l; most = m; all = z }
 
 -- from where the link stood before and behind it
 pub went_on_ok : (xs : List Happening) (old mid new : Group) (result : Result (Unit {0}) NoMemory) → Goes xs old mid → mid.link.next ≡ old.link.next → OnOk result (Goes (letters mid.link.next new.link.next) mid new) → mid.link.next ≤ new.link.next → new.link.next ≤ mid.link.next + 1000
-    → OnOk result (GoesOn xs old.link.next old new)
-went_on_ok xs old mid new (Ok r) h e k l m = subst (λ n. GoesOn xs n old new) e (went_on xs mid.link.next old mid new h k l m)
-went_on_ok xs old mid new (Err r) h e k l m = tt
+    → OnOk result (new.link.next < mid.link.next + 1000 → length new.link.letters ≤ new.link.next) → OnOk result (GoesOn xs old.link.next old new)
+went_on_ok xs old mid new (Ok r) h e k l m z = subst (λ n. GoesOn xs n old new) e (went_on xs mid.link.next old mid new h k l m z)
+went_on_ok xs old mid new (Err r) h e k l m z = tt
 
 -- behind a letter that is lost
 pub went_behind_ok : (xs : List Happening) (old mid lost new : Group) (result : Result (Unit {0}) NoMemory) → Goes xs old mid → mid.link.next ≡ old.link.next → Goes [] mid lost → lost.link.next ≤ mid.link.next + 1 → OnOk result (Goes (letters lost.link.next new.link.next) lost new)
-    → lost.link.next ≤ new.link.next → new.link.next ≤ lost.link.next + 1000 → OnOk result (GoesOnBehind xs old new)
-went_behind_ok xs old mid lost new (Ok r) h e k l g m o =
-    record { kept = lost.link.next; lost = omega (arith, e, l); goes = went_on xs lost.link.next old mid new h (goes_then [] (letters lost.link.next new.link.next) mid lost new k g) m o }
-went_behind_ok xs old mid lost new (Err r) h e k l g m o = tt
+    → lost.link.next ≤ new.link.next → new.link.next ≤ lost.link.next + 1000 → OnOk result (new.link.next < lost.link.next + 1000 → length new.link.letters ≤ new.link.next) → OnOk result (GoesOnBehind xs old new)
+went_behind_ok xs old mid lost new (Ok r) h e k l g m o z =
+    record { kept = lost.link.next; lost = omega (arith, e, l); goes = went_on xs lost.link.next old mid new h (goes_then [] (letters lost.link.next new.link.next) mid lost new k g) m o z }
+went_behind_ok xs old mid lost new (Err r) h e k l g m o z = tt
 
 -- first this, whereby the link stands as it stood, and then that
 pub went_first_ok : (xs ys : List Happening) (old mid new : Group) (result : Result (Unit {0}) NoMemory) → Goes xs old mid → mid.link.next ≡ old.link.next → OnOk result (GoesOn ys mid.link.next mid new) → OnOk result (GoesOn (xs ++ ys) old.link.next old new)
 went_first_ok xs ys old mid new (Ok r) h e k =
     subst (λ n. GoesOn (xs ++ ys) n old new) e
-    (record { goes = subst (λ zs. Goes zs old new) (sym (append_assoc xs ys (letters mid.link.next new.link.next))) (goes_then xs (ys ++ letters mid.link.next new.link.next) old mid new h k.goes); least = k.least; most = k.most })
+    (record { goes = subst (λ zs. Goes zs old new) (sym (append_assoc xs ys (letters mid.link.next new.link.next))) (goes_then xs (ys ++ letters mid.link.next new.link.next) old mid new h k.goes); least = k.least; most = k.most; all = k.all })
 went_first_ok xs ys old mid new (Err r) h e k = tt
 
 -- the same, of another request that is the same
@@ -179,6 +180,10 @@ ticks_from a b c e h = subst (λ (g : Group). GoesOn ticks g.link.next g c) e h
 
 -- ---- the whole story
 
+-- none was left in the group, so none in its world
+all_at : (xs : List Happening) (from : ℕ) (a g : Group) → Goes xs a g → ShowsWorld a (fresh_world hazards kind 3) → (g.link.next < from + 1000 → length g.link.letters ≤ g.link.next) → IsAll xs from g.link.next
+all_at xs from a g h shows z l = subst (λ (s : List Sent). length s ≤ g.link.next) (h (fresh_world hazards kind 3) shows).world.sent (z l)
+
 pub whole : (a b c d e f g h i : Group) → ShowsWorld a (fresh_world hazards kind 3) → a.link.next ≡ 0 → a.text ≡ [] → GoesOn (asks 0 Register ∷ []) a.link.next a b → GoesOnBehind (asks 1 (Put color green) ∷ []) b c → GoesOn ticks c.link.next c d
     → GoesOn (Fuses 1 2 0 ∷ asks 2 (Put shape round) ∷ []) d.link.next d e → GoesOn (Starts 1 ∷ []) e.link.next e f → GoesOn ticks f.link.next f g → GoesOn (asks 3 (Get shape) ∷ []) g.link.next g h → GoesOn ticks h.link.next h i → IsTold i.text
 whole a b c d e f g h i shows first none session put tick cut found second read last =
@@ -192,11 +197,26 @@ whole a b c d e f g h i shows first none session put tick cut found second read 
     let four : Goes (Fuses 1 2 0 ∷ asks 2 (Put shape round) ∷ letters d.link.next e.link.next) d e = cut.goes in
     let five : Goes (Starts 1 ∷ letters e.link.next f.link.next) e f = found.goes in
     let seven : Goes (asks 3 (Get shape) ∷ letters g.link.next h.link.next) g h = read.goes in
-    let all : Goes (story ends) a i =
-    goes_then _ _ a h i (goes_then _ _ a g h (goes_then _ _ a f g (goes_then _ _ a e f (goes_then _ _ a d e (goes_then _ _ a c d (goes_then _ _ a b c one two) tick.goes) four) five) second.goes) seven) last.goes in
+    let to_c : Goes (to_put ends) a c = goes_then _ _ a b c one two in
+    let to_d : Goes (to_tick ends) a d = goes_then _ _ a c d to_c tick.goes in
+    let to_e : Goes (to_cut ends) a e = goes_then _ _ a d e to_d four in
+    let to_f : Goes (to_found ends) a f = goes_then _ _ a e f to_e five in
+    let to_g : Goes (to_second ends) a g = goes_then _ _ a f g to_f second.goes in
+    let to_h : Goes (to_read ends) a h = goes_then _ _ a g h to_g seven in
+    let all : Goes (story ends) a i = goes_then _ _ a h i to_h last.goes in
     let w = fresh_world hazards kind 3 in
     let told = (all w shows).text in
-    record { ends = ends; told = told ∙ ap (λ t. t ++ told_lines (happen hazards w (story ends)).outputs) none; one_log = one_log_of (story ends) (few_all ends short) }
+    let each : AreAll ends = record {
+      session = all_at (to_session ends) 0 a b one shows from.all;
+      put = all_at (to_put ends) kept a c to_c shows put.goes.all;
+      tick = all_at (to_tick ends) c.link.next a d to_d shows tick.all;
+      cut = all_at (to_cut ends) d.link.next a e to_e shows cut.all;
+      found = all_at (to_found ends) e.link.next a f to_f shows found.all;
+      second = all_at (to_second ends) f.link.next a g to_g shows second.all;
+      read = all_at (to_read ends) g.link.next a h to_h shows read.all;
+      last = all_at (story ends) h.link.next a i all shows last.all;
+    } in
+    record { ends = ends; all = each; told = told ∙ ap (λ t. t ++ told_lines (happen hazards w (story ends)).outputs) none; one_log = one_log_of (story ends) (few_all ends short) }
 
 -- ---- the clock of the story
 

@@ -1,5 +1,5 @@
 -- A group of the host's as a world, and what happens to it.
-use Rattle.std.specs.Prelude.{ℕ, ◌+◌, ◌-◌, ◌≡◌, ◌≤◌, ⊤, List, [], ◌∷◌, ◌++◌, map}
+use Rattle.std.specs.Prelude.{ℕ, ◌+◌, ◌-◌, ◌≡◌, ◌<◌, ◌≤◌, ⊤, List, [], ◌∷◌, ◌++◌, length, map}
 use Rattle.std.specs.List.{range_with_len}
 use Rattle.vr_lying.specs.Lying.{Lying, hazards}
 use Rattle.vr_lying.specs.World.{Acted, Arrives, Happened, Happening, Host, Ticks, World, at_member, happen}
@@ -56,11 +56,12 @@ letters from to = map Arrives (range_with_len from (to - from))
 abbrev pub ticks : List Happening
 ticks = Ticks 0 ∷ Ticks 1 ∷ Ticks 2 ∷ []
 
--- this happened, and then letters reached their members, from this number on, and those that were sent then: a thousand at the most
+-- this happened, and then letters reached their members, from this number on, and those that were sent then: all, or a thousand
 pub record GoesOn (xs : List Happening) (kept : ℕ) (old new : Group) : Type 0 where
   pub goes : Goes (xs ++ letters kept new.link.next) old new
   pub least : kept ≤ new.link.next
   pub most : new.link.next ≤ kept + 1000
+  pub all : new.link.next < kept + 1000 → length new.link.letters ≤ new.link.next
 
 -- the same behind a letter that is lost, if there is one
 pub record GoesOnBehind (xs : List Happening) (old new : Group) : Type 0 where

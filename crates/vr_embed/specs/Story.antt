@@ -1,5 +1,5 @@
 -- What happens to the host's group from its beginning to its end.
-use Rattle.std.specs.Prelude.{ℕ, ◌+◌, ◌-◌, ◌^◌, ◌≡◌, ◌≤◌, Bool, List, [], ◌∷◌, ◌++◌, if◌then◌else◌, min, nat_le}
+use Rattle.std.specs.Prelude.{ℕ, ◌+◌, ◌-◌, ◌^◌, ◌≡◌, ◌<◌, ◌≤◌, Bool, List, [], ◌∷◌, ◌++◌, if◌then◌else◌, length, min, nat_le}
 use Rattle.vr_header.specs.NoCollision.{NoCollision}
 use Rattle.vr_header.specs.declared.operation.Operation.{Operation}
 use Rattle.vr_header.specs.declared.operation.Operation.TheVariants.{Register, Put, Get}
@@ -62,19 +62,48 @@ pub record Ends : Type 0 where
 
 -- a session, a put of which a letter is lost, a tick; a put in the midst of which the second member's power fails, at the third call of its
 -- disk; that member is found again; a tick, a get, a tick
+abbrev pub to_session : Ends → List Happening
+to_session e = asks 0 Register ∷ letters 0 e.session
+
+abbrev pub to_put : Ends → List Happening
+to_put e = to_session e ++ (asks 1 (Put color green) ∷ letters e.kept e.put)
+
+abbrev pub to_tick : Ends → List Happening
+to_tick e = to_put e ++ (ticks ++ letters e.put e.tick)
+
+abbrev pub to_cut : Ends → List Happening
+to_cut e = to_tick e ++ (Fuses 1 2 0 ∷ asks 2 (Put shape round) ∷ letters e.tick e.cut)
+
+abbrev pub to_found : Ends → List Happening
+to_found e = to_cut e ++ (Starts 1 ∷ letters e.cut e.found)
+
+abbrev pub to_second : Ends → List Happening
+to_second e = to_found e ++ (ticks ++ letters e.found e.second)
+
+abbrev pub to_read : Ends → List Happening
+to_read e = to_second e ++ (asks 3 (Get shape) ∷ letters e.second e.read)
+
 abbrev pub story : Ends → List Happening
-story e =
-    (asks 0 Register ∷ letters 0 e.session)
-    ++ (asks 1 (Put color green) ∷ letters e.kept e.put)
-    ++ (ticks ++ letters e.put e.tick)
-    ++ (Fuses 1 2 0 ∷ asks 2 (Put shape round) ∷ letters e.tick e.cut)
-    ++ (Starts 1 ∷ letters e.cut e.found)
-    ++ (ticks ++ letters e.found e.second)
-    ++ (asks 3 (Get shape) ∷ letters e.second e.read)
-    ++ (ticks ++ letters e.read e.last)
+story e = to_read e ++ (ticks ++ letters e.read e.last)
+
+-- letters were delivered from one number up to another, and these happenings left none to deliver: or a thousand were
+abbrev pub IsAll : List Happening → ℕ → ℕ → Type 0
+IsAll xs from to = to < from + 1000 → length (happen hazards (fresh_world hazards kind 3) xs).world.sent ≤ to
+
+-- so each time
+pub record AreAll (e : Ends) : Type 0 where
+  pub session : IsAll (to_session e) 0 e.session
+  pub put : IsAll (to_put e) e.kept e.put
+  pub tick : IsAll (to_tick e) e.put e.tick
+  pub cut : IsAll (to_cut e) e.tick e.cut
+  pub found : IsAll (to_found e) e.cut e.found
+  pub second : IsAll (to_second e) e.found e.second
+  pub read : IsAll (to_read e) e.second e.read
+  pub last : IsAll (story e) e.read e.last
 
 -- The text is what a group of three members puts out to which just this happens. And it keeps one log, where names don't collide.
 pub record IsTold (text : List ℕ) : Type 0 where
   pub ends : Ends
+  pub all : AreAll ends
   pub told : text ≡ told_lines (happen hazards (fresh_world hazards kind 3) (story ends)).outputs
   pub one_log : NoCollision (IsHashed (fresh_world hazards kind 3) (story ends)) → KeepsOneLog kind 3 (happen hazards (fresh_world hazards kind 3) (story ends))

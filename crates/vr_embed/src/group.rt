@@ -1,5 +1,5 @@
 //! The members of a group, and the link between them.
-ghost use Rattle.std.specs.Prelude.{◌≡◌, ◌+◌, ◌≤◌, ◌∷◌, ◌++◌, [], IfOk, OnOk};
+ghost use Rattle.std.specs.Prelude.{◌≡◌, ◌+◌, ◌<◌, ◌≤◌, ◌∷◌, ◌++◌, [], IfOk, OnOk, false, length, true};
 ghost use Rattle.vr_lying.specs.Lying.{Lying, hazards};
 ghost use Rattle.vr_lying.specs.World.{Asks, Fuses, Starts, World, at_member, fresh_world, handles};
 ghost use Rattle.vr_msg.specs.declared.event.Event.TheVariants as event;
@@ -112,6 +112,8 @@ impl Group {
         ensures goes { OnOk result (Goes (letters self.old.link.next self.new.link.next) self.old self.new) }
         ensures least { self.old.link.next ≤ self.new.link.next }
         ensures most { self.new.link.next ≤ self.old.link.next + 1 }
+        ensures one { IfOk result (λ there. there ≡ true → self.new.link.next ≡ self.old.link.next + 1) }
+        ensures all { IfOk result (λ there. there ≡ false → length self.new.link.letters ≤ self.new.link.next) }
     {
         let taken = self.link.take(alloc)?;
         match taken {
@@ -129,6 +131,7 @@ impl Group {
         ensures goes { OnOk result (Goes (letters self.old.link.next self.new.link.next) self.old self.new) }
         ensures least { self.old.link.next ≤ self.new.link.next }
         ensures most { self.new.link.next ≤ self.old.link.next + most }
+        ensures all { OnOk result (self.new.link.next < self.old.link.next + most → length self.new.link.letters ≤ self.new.link.next) }
     {
         for _ in 0..most {
             if !self.deliver_one(alloc)? {

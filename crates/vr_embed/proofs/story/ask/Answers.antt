@@ -4,4 +4,4 @@ use Rattle.vr_embed.proofs.Stories.{went_on_ok}
 use Rattle.vr_embed.proofs.story.ask.Goals as goal
 
 pub returns : goal.returns
-returns c = went_on_ok (Asks 0 c.args.request ∷ []) c.args.group.now c.ask.new.self c.deliver.new.self c.deliver.result c.in_ok-ask.ensures.goes c.in_ok-ask.ensures.next c.deliver.ensures.goes c.deliver.ensures.least c.deliver.ensures.most
+returns c = went_on_ok (Asks 0 c.args.request ∷ []) c.args.group.now c.ask.new.self c.deliver.new.self c.deliver.result c.in_ok-ask.ensures.goes c.in_ok-ask.ensures.next c.deliver.ensures.goes c.deliver.ensures.least c.deliver.ensures.most c.deliver.ensures.all
