@@ -21,7 +21,7 @@ class Asking(NamedTuple):
     addresses: List[str]
 
     def command(self, version: int) -> List[str]:
-        number = str(random.SystemRandom().randrange(1, 2 ** 64))
+        number = str(random.SystemRandom().randrange(1, 2 ** 64 - 1))
         return [self.program, "client", str(self.cluster), number, TURNS] + self.addresses + (["--v2"] if version == 2 else [])
 
 

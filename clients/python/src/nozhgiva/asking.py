@@ -84,7 +84,7 @@ def is_answer(request: Request, reply: Reply) -> bool:
 
 def _probe(request: Request) -> bytes:
     """A request in the other version that begins no session and changes nothing: a get, by a client that never registered."""
-    client = 1 + secrets.randbelow(2**64 - 1)
+    client = 1 + secrets.randbelow(2**64 - 2)  # the last number is that of the operators' status
     return Request(request.cluster, client, 1, Get("?"), OTHER_VERSION[request.version]).encode()
 
 

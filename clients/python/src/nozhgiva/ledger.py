@@ -71,7 +71,7 @@ class GroupWords:
 
     def client_number(self, client: Optional[int]) -> int:
         """The number that was given, or one that is drawn."""
-        number = 1 + secrets.randbelow(NUMBERS - 1) if client is None else client
+        number = 1 + secrets.randbelow(NUMBERS - 2) if client is None else client
         _check_number("client", number, 1)
         return number
 
