@@ -24,6 +24,7 @@ import time
 from pathlib import Path
 
 if sys.argv[1:] in (["-h"], ["--help"]):
+    signal.signal(signal.SIGPIPE, signal.SIG_DFL)
     print(__doc__)
     sys.exit(0)
 

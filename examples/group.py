@@ -2,6 +2,7 @@
 import os
 import pathlib
 import shutil
+import signal
 import subprocess
 import sys
 import tempfile
@@ -12,6 +13,7 @@ TOP = pathlib.Path(__file__).resolve().parent.parent
 TURNS = "1000000000"
 
 if sys.argv[1:] in (["-h"], ["--help"]):
+    signal.signal(signal.SIGPIPE, signal.SIG_DFL)
     print(sys.modules["__main__"].__doc__)
     sys.exit(0)
 
