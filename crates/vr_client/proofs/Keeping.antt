@@ -4,6 +4,7 @@ use Rattle.vr_base.specs.declared.sum.Sum.{Sum}
 use Rattle.vr_client.specs.Asking.{AskCause, Keeps, ask_in, requests}
 use Rattle.vr_client.specs.Heeding.{fault_of}
 use Rattle.vr_client.specs.declared.answer.AskFault.{AskFault}
+use Rattle.vr_client.specs.declared.answer.AskFault.TheVariants as fault
 use Rattle.vr_client.specs.declared.client.ClientCore.{ClientCore}
 use Rattle.vr_mail.specs.Letters.{ReceiveCause}
 use Rattle.vr_mail.specs.declared.receiving.ReceiveFault.{ReceiveFault}
@@ -32,6 +33,12 @@ same_ask c d name turns k = rw (k.version, k.cluster, k.n, k.bytes) refl
 pub cause_heard : {S T : Type 0} (before now : ℕ) (f : ReceiveFault) → ReceiveCause {T = S} before now (Err f) → AskCause {T = T} before now (Err (fault_of f))
 cause_heard before now received.Link c = record { later = c.later; counted = c.failed refl }
 cause_heard before now received.NoMemory c = record { later = c.later; counted = c.wanted refl }
+
+-- a fault has one cause, whatever the answer would have been
+pub cause_failed : {S T : Type 0} (before now : ℕ) (f : AskFault) → AskCause {T = S} before now (Err f) → AskCause {T = T} before now (Err f)
+cause_failed before now fault.NoAnswer c = record { later = c.later; counted = c.counted }
+cause_failed before now fault.Link c = record { later = c.later; counted = c.counted }
+cause_failed before now fault.NoMemory c = record { later = c.later; counted = c.counted }
 
 -- a later call's causes, from the beginning on
 pub cause_later : {T : Type 0} (before mid now : ℕ) (r : Result T AskFault) → mid ≡ before → AskCause mid now r → AskCause before now r

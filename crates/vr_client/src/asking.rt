@@ -1,15 +1,9 @@
 //! An ask, turn by turn.
-ghost use Rattle.std.specs.Prelude.{◌≡◌, ◌<◌, ◌+◌, ◌^◌, ◌↔◌, ◌⊎◌, [], ◌∷◌, Option, IfOk, IfErr, OnOk, MatchOption};
-ghost use Rattle.vr_client.specs.Asking.{AskCause, Fails, Hears, IsAsked, IsSilent, IsUnasked, Keeps, Turned, ask_in, ask_of, go_on_port, go_on_to, moved, moved_to, request_in, requests};
+ghost use Rattle.std.specs.Prelude.{◌≡◌, ◌<◌, [], ◌∷◌, OnOk, MatchOption};
+ghost use Rattle.vr_client.specs.Acts.{Asks, HearsOnce, MayAsk, Reaches, TakesTurn, Waits, Writes};
+ghost use Rattle.vr_client.specs.Asking.{IsSilent, go_on_port, go_on_to, moved, moved_to};
 ghost use Rattle.vr_client.specs.Heeding.{MovesWithin};
 ghost use Rattle.vr_client.specs.declared.answer.Heed.TheVariants as did;
-ghost use Rattle.vr_edge.specs.Datagrams.{Arrival};
-ghost use Rattle.vr_edge.specs.Sending.{datagram_at};
-ghost use Rattle.vr_header.specs.Bodies.{IsOperation};
-ghost use Rattle.vr_header.specs.Names.{header_name, request_header};
-ghost use Rattle.vr_header.specs.declared.operation.Operation.TheVariants.{Register};
-ghost use Rattle.vr_mail.specs.Sends.{Sends};
-ghost use Rattle.vr_mail.specs.declared.receiving.Letter.{Letter};
 ghost use Rattle.vr_msg.specs.Asking.{IsRequest};
 ghost use Rattle.vr_msg.specs.Spelling.{spelling};
 ghost use Rattle.vr_msg.specs.declared.frame.Frame.TheVariants as frame;
@@ -39,15 +33,8 @@ fn spell(fields: RequestFields, bytes: &mut Vec<u8>) -> Result<(), AllocError>
 impl ClientCore {
     /// Makes the next request, and returns its name.
     fn write_request(&mut self, operation: &Operation) -> Result<Sum, AllocError>
-        requires number { self.old.number < 2 ^ 32 }
-        requires first { (operation.now ≡ Register) ↔ (self.old.number ≡ 0) }
-        requires fits { IsOperation self.old.version operation.now }
-        ensures version { self.new.version ≡ self.old.version }
-        ensures group { (self.new.cluster ≡ self.old.cluster) × (self.new.n ≡ self.old.n) }
-        ensures client { (self.new.id ≡ self.old.id) × (self.new.port ≡ self.old.port) }
-        ensures number { self.new.number ≡ self.old.number + 1 }
-        ensures bytes { OnOk result (self.new.bytes.items ≡ spelling (frame.Request (request_in self.old operation.now))) }
-        ensures name { IfOk result (λ name. name ≡ header_name (request_header self.old.version self.old.cluster self.old.id self.old.number operation.now)) }
+        requires { MayAsk self.old operation.now }
+        ensures { Writes operation.now self.old self.new result }
     {
         let number = self.number as u32;
         self.number += 1;
@@ -66,12 +53,7 @@ impl ClientCore {
     #[tactic(auto, using(std::proofs::lemmas::Grind::common_steps, crate::proofs::Keeping::keeps_same, crate::proofs::Keeping::keeps_later, crate::proofs::Keeping::no_requests, vr_mail::proofs::Sent::sends_nil))]
     fn ask_at<L: Link>(&mut self, link: &mut L, port: u32)
         requires { port < self.old.n }
-        ensures core { Keeps self.old self.new }
-        ensures port { self.new.port ≡ port }
-        ensures sent { Sends (datagram_at port self.old.bytes.items ∷ []) (L.sent link.old) (L.sent link.new) }
-        ensures received { L.received link.new ≡ L.received link.old }
-        ensures faults { L.faults link.new ≡ L.faults link.old }
-        ensures attached { L.attached link.new ≡ L.attached link.old }
+        ensures { Reaches L.Link (port ∷ []) port self.old self.new link.old link.new }
     {
         self.port = port;
         send_bytes(link, port, self.bytes.as_slice());
@@ -80,14 +62,7 @@ impl ClientCore {
     /// One receive, and what it makes of that.
     #[tactic(auto, using(std::proofs::lemmas::Grind::common_steps, crate::proofs::Keeping::keeps_same, crate::proofs::Keeping::keeps_later, crate::proofs::Keeping::cause_heard, crate::proofs::Keeping::no_requests, vr_mail::proofs::Sent::sends_nil))]
     fn hear<L: Link>(&mut self, link: &mut L, name: &Sum) -> Result<Heed, AskFault>
-        ensures core { Keeps self.old self.new }
-        ensures stays { self.new.port ≡ self.old.port }
-        ensures heard { IfOk result (Hears self.old.version self.old.cluster self.old.n name.now (L.received link.old) (L.received link.new)) }
-        ensures port { IfOk result (MovesWithin self.old.n) }
-        ensures failed { IfErr result (Fails self.old.version self.old.cluster (L.received link.old) (L.received link.new)) }
-        ensures cause { AskCause (L.faults link.old) (L.faults link.new) result }
-        ensures sent { L.sent link.new ≡ L.sent link.old }
-        ensures attached { L.attached link.new ≡ L.attached link.old }
+        ensures { HearsOnce L.Link name.now self.old self.new link.old link.new result }
     {
         let letter = receive_letter(self.alloc, link, self.version, self.cluster, &mut self.to)?;
         Ok(heed_letter(self.n, name, letter))
@@ -97,13 +72,8 @@ impl ClientCore {
     #[tactic(auto, using(std::proofs::lemmas::Grind::common_steps, crate::proofs::Keeping::keeps_same, crate::proofs::Keeping::keeps_later, crate::proofs::Keeping::no_requests, vr_mail::proofs::Sent::sends_nil))]
     fn follow<L: Link>(&mut self, link: &mut L, heard: Heed) -> Option<Answer>
         requires { MovesWithin self.old.n heard }
-        ensures core { Keeps self.old self.new }
-        ensures port { self.new.port ≡ moved heard self.old.port }
-        ensures sent { Sends (requests self.old.bytes.items (moved_to heard)) (L.sent link.old) (L.sent link.new) }
+        ensures reaches { Reaches L.Link (moved_to heard) (moved heard self.old.port) self.old self.new link.old link.new }
         ensures answer { MatchOption result (IsSilent heard) (λ answer. heard ≡ did.Answered answer) }
-        ensures received { L.received link.new ≡ L.received link.old }
-        ensures faults { L.faults link.new ≡ L.faults link.old }
-        ensures attached { L.attached link.new ≡ L.attached link.old }
     {
         match heard {
             Heed::Ignored => None,
@@ -119,12 +89,7 @@ impl ClientCore {
     #[tactic(auto, using(std::proofs::lemmas::Grind::common_steps, crate::proofs::Keeping::keeps_same, crate::proofs::Keeping::keeps_later, crate::proofs::Keeping::no_requests, vr_mail::proofs::Sent::sends_nil))]
     fn go_on<L: Link>(&mut self, link: &mut L, turns: u64, done: u64)
         requires { done < turns }
-        ensures core { Keeps self.old self.new }
-        ensures port { self.new.port ≡ go_on_port self.old.n turns done self.old.port }
-        ensures sent { Sends (requests self.old.bytes.items (go_on_to self.old.n turns done self.old.port)) (L.sent link.old) (L.sent link.new) }
-        ensures received { L.received link.new ≡ L.received link.old }
-        ensures faults { L.faults link.new ≡ L.faults link.old }
-        ensures attached { L.attached link.new ≡ L.attached link.old }
+        ensures { Reaches L.Link (go_on_to self.old.n turns done self.old.port) (go_on_port self.old.n turns done self.old.port) self.old self.new link.old link.new }
     {
         if (done + 1) % PATIENCE == 0 && done + 1 < turns {
             self.ask_at(link, (self.port + 1) % u32::from(self.n));
@@ -141,12 +106,7 @@ impl ClientCore {
         done: u64,
     ) -> Result<Option<Answer>, AskFault>
         requires { done < turns }
-        ensures core { Keeps self.old self.new }
-        ensures turned { IfOk result (Turned (ask_in self.old name.now turns) done self.old.port self.new.port (L.sent link.old) (L.sent link.new) (L.received link.old) (L.received link.new)) }
-        ensures failed { IfErr result (Fails self.old.version self.old.cluster (L.received link.old) (L.received link.new)) }
-        ensures stays { IfErr result (λ _. (self.new.port ≡ self.old.port) × (L.sent link.new ≡ L.sent link.old)) }
-        ensures cause { AskCause (L.faults link.old) (L.faults link.new) result }
-        ensures attached { L.attached link.new ≡ L.attached link.old }
+        ensures { TakesTurn L.Link name.now turns done self.old self.new link.old link.new result }
     {
         let heard = self.hear(link, name)?;
         if let Some(answer) = self.follow(link, heard) {
@@ -159,10 +119,7 @@ impl ClientCore {
     /// Asks, and waits so many turns.
     #[tactic(auto, using(std::proofs::lemmas::Grind::common_steps, crate::proofs::Keeping::keeps_later, crate::proofs::Keeping::cause_later, crate::proofs::Waits::waited_all))]
     fn wait<L: Link>(&mut self, link: &mut L, name: &Sum, turns: u64) -> Result<Answer, AskFault>
-        ensures core { Keeps self.old self.new }
-        ensures run { IsAsked (ask_in self.old name.now turns) self.old.port self.new.port (L.sent link.old) (L.sent link.new) (L.received link.old) (L.received link.new) result }
-        ensures cause { AskCause (L.faults link.old) (L.faults link.new) result }
-        ensures attached { L.attached link.new ≡ L.attached link.old }
+        ensures { Waits L.Link name.now turns self.old self.new link.old link.new result }
     {
         self.ask_at(link, self.port);
         for done in 0..turns {
@@ -181,16 +138,8 @@ impl ClientCore {
         operation: &Operation,
         turns: u64,
     ) -> Result<Answer, AskFault>
-        requires number { self.old.number < 2 ^ 32 }
-        requires first { (operation.now ≡ Register) ↔ (self.old.number ≡ 0) }
-        requires fits { IsOperation self.old.version operation.now }
-        ensures run { IsAsked (ask_of self.old.n (request_in self.old operation.now) turns) self.old.port self.new.port (L.sent link.old) (L.sent link.new) (L.received link.old) (L.received link.new) result ⊎ IsUnasked self.old.port self.new.port (L.sent link.old) (L.sent link.new) (L.received link.old) (L.received link.new) result }
-        ensures number { self.new.number ≡ self.old.number + 1 }
-        ensures version { self.new.version ≡ self.old.version }
-        ensures group { (self.new.cluster ≡ self.old.cluster) × (self.new.n ≡ self.old.n) }
-        ensures id { self.new.id ≡ self.old.id }
-        ensures cause { AskCause (L.faults link.old) (L.faults link.new) result }
-        ensures attached { L.attached link.new ≡ L.attached link.old }
+        requires { MayAsk self.old operation.now }
+        ensures { Asks L.Link operation.now turns self.old self.new link.old link.new result }
     {
         let name = self.write_request(operation)?;
         self.wait(link, &name, turns)

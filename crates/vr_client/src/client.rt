@@ -1,8 +1,7 @@
 //! A client between two asks.
-ghost use Rattle.std.specs.Prelude.{◌≡◌, ◌≢◌, ◌≤◌, ◌<◌, ◌+◌, ◌^◌, ◌↔◌, ◌⊎◌, IfOk, true, vec_capacity};
+ghost use Rattle.std.specs.Prelude.{◌≡◌, ◌≢◌, ◌≤◌, ◌<◌, IfOk, true, vec_capacity};
 ghost use Rattle.vr_base.specs.Groups.{is_size};
 ghost use Rattle.vr_edge.specs.declared.link.TheConstants.{RECEIVE_ROOM};
-ghost use Rattle.vr_header.specs.declared.operation.Operation.TheVariants.{Register};
 
 use std::alloc::Global;
 use vr_base::{NoMemory, Version};
@@ -30,6 +29,8 @@ pub struct ClientCore {
 }
 
 impl ClientCore {
+    ghost use Rattle.vr_client.specs.Acts.{IsNew};
+
     /// The client `id` of a group of `n` whose files are of this version: it asks in frames of that version, the member with port 0
     /// first, and its next request is its first.
     #[tactic(auto, using(std::proofs::lemmas::Grind::common_steps, crate::proofs::Sizes::asks_one))]
@@ -42,11 +43,7 @@ impl ClientCore {
     ) -> Result<ClientCore, NoMemory>
         requires id { id ≢ 0 }
         requires size { is_size version n ≡ true }
-        ensures group { IfOk result (λ c. (c.cluster ≡ cluster) × (c.n ≡ n)) }
-        ensures version { IfOk result (λ c. c.version ≡ version) }
-        ensures id { IfOk result (λ c. c.id ≡ id) }
-        ensures port { IfOk result (λ c. c.port ≡ 0) }
-        ensures number { IfOk result (λ c. c.number ≡ 0) }
+        ensures { IfOk result (IsNew version cluster id n) }
     {
         Ok(ClientCore {
             alloc,

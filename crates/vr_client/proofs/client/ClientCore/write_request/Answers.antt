@@ -1,4 +1,4 @@
-use Rattle.std.proofs.Common.{◌≡◌, ◌∙◌, ap}
+use Rattle.std.proofs.Common.{◌≡◌, ◌∙◌, ap, rules}
 use Rattle.vr_header.specs.declared.operation.Operation.{Operation}
 use Rattle.vr_msg.specs.Spelling.{spelling}
 use Rattle.vr_msg.specs.declared.frame.Frame.TheVariants as frame
@@ -12,8 +12,15 @@ sum_at-requires c =
     c.as_slice.ensures.value ∙ (c.in_ok-spell.ensures ∙ ap (λ (o : Operation). spelling (frame.Request (request_in c.args.self.now o))) c.in_ok-try_clone.ensures) in
     long_enough (frame.Request (request_in c.args.self.now c.args.operation.now)) c.as_slice.result.now b
 
-pub returns-clause-name : goal.returns-clause-name
-returns-clause-name c =
+pub returns : goal.returns
+returns c =
     let b : c.as_slice.result.now ≡ spelling (frame.Request (request_in c.args.self.now c.args.operation.now)) =
     c.as_slice.ensures.value ∙ (c.in_ok-spell.ensures ∙ ap (λ (o : Operation). spelling (frame.Request (request_in c.args.self.now o))) c.in_ok-try_clone.ensures) in
-    name_in_front (frame.Request (request_in c.args.self.now c.args.operation.now)) c.as_slice.result.now c.sum_at.result b c.sum_at.ensures
+    record {
+      version = search rules;
+      group = search rules;
+      client = search rules;
+      number = search rules;
+      bytes = search rules;
+      name = name_in_front (frame.Request (request_in c.args.self.now c.args.operation.now)) c.as_slice.result.now c.sum_at.result b c.sum_at.ensures;
+    }
