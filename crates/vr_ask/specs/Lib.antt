@@ -1,3 +1,4 @@
+pub mod Acts
 pub mod Asking
 pub mod Run
 pub mod Text

@@ -1,6 +1,7 @@
 -- What a client reads and writes.
-use Rattle.std.specs.Prelude.{ℕ, List, ◌++◌, if◌then◌else◌, Option, Some, None, option_and_then, codes}
-use Rattle.vr_base.specs.Versions.{by_version}
+use Rattle.std.specs.Prelude.{ℕ, ◌+◌, List, ◌++◌, if◌then◌else◌, Option, Some, None, option_and_then, codes}
+use Rattle.vr_ask.specs.declared.lines.TheConstants.{PUT_KEY}
+use Rattle.vr_base.specs.Versions.{value_limit}
 use Rattle.vr_client.specs.declared.answer.Answer.{Answer}
 use Rattle.vr_client.specs.declared.answer.Answer.TheVariants.{Outcome, Old, Gap, Evicted}
 use Rattle.vr_header.specs.declared.operation.Operation.{Operation}
@@ -9,9 +10,9 @@ use Rattle.vr_lines.specs.Operations.{operation_words}
 use Rattle.vr_text.specs.Text.{outcome_text}
 use Rattle.vr_lines.specs.Words.{words_of}
 
--- the most bytes of a line of a version: `put KEY VALUE` with a key of 64 bytes and as long a value as there is, of 1,024 bytes or of 3,000
+-- the most bytes of a line of a version: `put KEY VALUE` with a key of 64 bytes and as long a value as there is
 abbrev pub longest : ℕ → ℕ
-longest version = by_version version 1093 3069
+longest version = PUT_KEY + value_limit version
 
 -- a client registers by itself
 abbrev pub unless_register : Operation → Option Operation

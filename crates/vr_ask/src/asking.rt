@@ -1,8 +1,8 @@
 //! One ask, whose answer is written.
-ghost use Rattle.std.specs.Prelude.{◌≡◌, ◌≤◌, ◌<◌, ◌+◌, ◌^◌, ◌↔◌};
-ghost use Rattle.vr_ask.specs.Asking.{CountsLinks, CountsWrites, Exchanges, KeepsSession, PutsAnswer, WritesAnswer, client_of, faults, stand, status_of};
-ghost use Rattle.vr_header.specs.Bodies.{IsOperation};
-ghost use Rattle.vr_header.specs.declared.operation.Operation.TheVariants.{Register};
+ghost use Rattle.std.specs.Prelude.{◌≡◌};
+ghost use Rattle.vr_ask.specs.Acts.{Exchanged, PutsLine, WritesLine};
+ghost use Rattle.vr_ask.specs.Asking.{KeepsSession, status_of};
+ghost use Rattle.vr_client.specs.Acts.{MayAsk};
 
 use crate::text::answer_text;
 use std::alloc::Global;
@@ -25,8 +25,7 @@ fn status_of(fault: AskFault) -> Status
 /// Writes the line of an answer.
 #[tactic(auto, using(crate::proofs::Answers::front_none))]
 fn write_answer<K: Sink>(alloc: Global, sink: &mut K, answer: &Answer) -> Result<(), Status>
-    ensures written { WritesAnswer answer.now (K.taken sink.old) (K.taken sink.new) (K.faults sink.old) (K.faults sink.new) result }
-    ensures counts { CountsWrites (K.faults sink.old) (K.faults sink.new) result }
+    ensures { WritesLine K.Sink answer.now sink.old sink.new result }
 {
     let Ok(text) = answer_text(alloc, answer) else {
         return Err(Status::NoMemory);
@@ -50,8 +49,7 @@ fn keep_session(answer: &Answer) -> Result<(), Status>
 /// Writes an answer; an `Err` is how the client ends.
 #[tactic(auto, using(crate::proofs::Answers::put_kept, crate::proofs::Answers::put_unwritten, crate::proofs::Answers::kept_counts))]
 fn put_answer<K: Sink>(alloc: Global, sink: &mut K, answer: &Answer) -> Result<(), Status>
-    ensures put { PutsAnswer answer.now (K.taken sink.old) (K.taken sink.new) (K.faults sink.old) (K.faults sink.new) result }
-    ensures counts { CountsWrites (K.faults sink.old) (K.faults sink.new) result }
+    ensures { PutsLine K.Sink answer.now sink.old sink.new result }
 {
     match write_answer(alloc, sink, answer) {
         Ok(()) => keep_session(answer),
@@ -69,19 +67,8 @@ pub fn exchange<K: Sink, L: Link>(
     operation: &Operation,
     turns: u64,
 ) -> Result<(), Status>
-    requires number { core.old.number < 2 ^ 32 }
-    requires first { (operation.now ≡ Register) ↔ (core.old.number ≡ 0) }
-    requires fits { IsOperation core.old.version operation.now }
-    ensures exchanged { Exchanges (client_of core.old turns) core.old.number operation.now
-        (stand core.old (L.sent link.old) (L.received link.old) (K.taken sink.old))
-        (stand core.new (L.sent link.new) (L.received link.new) (K.taken sink.new))
-        (faults (L.faults link.old) (K.faults sink.old)) (faults (L.faults link.new) (K.faults sink.new)) result }
-    ensures number { core.new.number ≡ core.old.number + 1 }
-    ensures client { client_of core.new turns ≡ client_of core.old turns }
-    ensures link { L.faults link.old ≤ L.faults link.new }
-    ensures links { CountsLinks (L.faults link.old) (L.faults link.new) result }
-    ensures sink { CountsWrites (K.faults sink.old) (K.faults sink.new) result }
-    ensures attached { L.attached link.new ≡ L.attached link.old }
+    requires { MayAsk core.old operation.now }
+    ensures { Exchanged K.Sink L.Link operation.now turns core.old core.new link.old link.new sink.old sink.new result }
 {
     match core.ask(link, operation, turns) {
         Ok(answer) => put_answer(alloc, sink, &answer),

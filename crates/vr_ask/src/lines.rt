@@ -1,9 +1,8 @@
 //! The lines of a source, asked one after the other.
-ghost use Rattle.std.specs.Prelude.{◌≡◌, ◌≤◌, ◌<◌, ◌+◌, OnOk};
-ghost use Rattle.vr_ask.specs.Asking.{CountsLinks, CountsWrites, client_of, faults, stand};
-ghost use Rattle.vr_ask.specs.Run.{CountsLine, EndsLines, Hears, Judges, Takes, reading};
+ghost use Rattle.std.specs.Prelude.{◌≡◌, ◌≤◌, ◌<◌};
+ghost use Rattle.vr_ask.specs.Acts.{AsksLines, HearsLine, TakesLine};
+ghost use Rattle.vr_ask.specs.Run.{Judges};
 ghost use Rattle.vr_ask.specs.Text.{longest};
-ghost use Rattle.vr_status.specs.Counts.{links_after, reads_after, writes_after};
 
 use crate::asking::exchange;
 use crate::text::read_line;
@@ -18,12 +17,15 @@ use vr_status::Status;
 /// The most lines of a source.
 const LIMIT: u32 = 1_000_000;
 
+/// The most bytes of a line in front of a value: `put KEY ` with a key of 64 bytes.
+const PUT_KEY: usize = 69;
+
 /// The most bytes of a line of this version.
 fn line_limit(version: Version) -> usize
     ensures value { result ≡ longest version }
-    ensures most { result ≤ 3069 }
+    ensures most { result ≤ longest 2 }
 {
-    if version.get() == 2 { 3069 } else { 1093 }
+    PUT_KEY + version.value_limit()
 }
 
 /// The operation of this version that the line with this number is.
@@ -46,8 +48,7 @@ fn next_operation<S: Source>(
     number: u32,
     version: Version,
 ) -> Result<Operation, Status>
-    ensures heard { Hears version number (reading lines.old (S.left source.old)) (reading lines.new (S.left source.new)) result }
-    ensures counts { CountsLine (S.faults source.old) (S.faults source.new) result }
+    ensures { HearsLine S.Source version number lines.old lines.new source.old source.new result }
 {
     match lines.read(source, line_limit(version)) {
         Ok(Found::Line) => judge(alloc, number, lines.line(), version),
@@ -71,17 +72,7 @@ fn take_line<S: Source, K: Sink, L: Link>(
 ) -> Result<(), Status>
     requires first { 0 < number }
     requires number { core.old.number ≡ number }
-    ensures taken { Takes (client_of core.old turns) number
-        (reading lines.old (S.left source.old)) (stand core.old (L.sent link.old) (L.received link.old) (K.taken sink.old))
-        (reading lines.new (S.left source.new)) (stand core.new (L.sent link.new) (L.received link.new) (K.taken sink.new))
-        (faults (L.faults link.old) (K.faults sink.old)) (faults (L.faults link.new) (K.faults sink.new)) result }
-    ensures number { OnOk result (core.new.number ≡ number + 1) }
-    ensures client { OnOk result (client_of core.new turns ≡ client_of core.old turns) }
-    ensures counts { CountsLine (S.faults source.old) (S.faults source.new) result }
-    ensures link { L.faults link.old ≤ L.faults link.new }
-    ensures links { CountsLinks (L.faults link.old) (L.faults link.new) result }
-    ensures sink { CountsWrites (K.faults sink.old) (K.faults sink.new) result }
-    ensures attached { L.attached link.new ≡ L.attached link.old }
+    ensures { TakesLine S.Source K.Sink L.Link number turns core.old core.new lines.old lines.new source.old source.new link.old link.new sink.old sink.new result }
 {
     match next_operation(alloc, lines, source, number, core.version()) {
         Ok(operation) => exchange(alloc, core, link, sink, &operation, turns),
@@ -101,15 +92,7 @@ pub fn ask_lines<S: Source, K: Sink, L: Link>(
     turns: u64,
 ) -> Status
     requires { core.old.number ≡ 1 }
-    ensures ends { EndsLines (client_of core.old turns)
-        (reading lines.old (S.left source.old)) (stand core.old (L.sent link.old) (L.received link.old) (K.taken sink.old))
-        (reading lines.new (S.left source.new)) (stand core.new (L.sent link.new) (L.received link.new) (K.taken sink.new))
-        (faults (L.faults link.old) (K.faults sink.old)) (faults (L.faults link.new) (K.faults sink.new)) result }
-    ensures counts { S.faults source.new ≡ reads_after result (S.faults source.old) }
-    ensures link { L.faults link.old ≤ L.faults link.new }
-    ensures links { L.faults link.new ≡ links_after result (L.faults link.old) }
-    ensures sink { K.faults sink.new ≡ writes_after result (K.faults sink.old) }
-    ensures attached { L.attached link.new ≡ L.attached link.old }
+    ensures { AsksLines S.Source K.Sink L.Link turns core.old core.new lines.old lines.new source.old source.new link.old link.new sink.old sink.new result }
 {
     for done in 0..LIMIT {
         if let Err(status) = take_line(alloc, core, lines, source, link, sink, done + 1, turns) {

@@ -1,7 +1,7 @@
-use Rattle.std.proofs.Common.{◌+◌, ◌≡◌, ◌∙◌, Err, ap, refl, sym, subst, arith, inl}
+use Rattle.std.proofs.Common.{◌+◌, ◌≡◌, ◌∙◌, Err, ap, refl, rules, sym, subst, arith, inl}
 use Rattle.vr_ask.specs.Asking.{client_of, faults, stand}
 use Rattle.vr_ask.specs.Run.{EndsLines, Hears, IsExchanged, StopsAt, Takes, reading}
-use Rattle.vr_ask.proofs.Exchanges.{ends_at, midst_more, one_too_many, stops_later}
+use Rattle.vr_ask.proofs.Exchanges.{ends_at, heard_links, heard_writes, midst_more, one_too_many, stops_later}
 use Rattle.vr_ask.proofs.lines.ask_lines.Goals.{in-Err-next_operation, in-Ok}
 use Rattle.vr_ask.proofs.lines.ask_lines.Goals as goal
 
@@ -25,8 +25,8 @@ loop-done-preserved g c =
       sink = e.sink ∙ i.sink;
     }
 
-pub returns-in-Err-clause-ends : goal.returns-in-Err-clause-ends
-returns-in-Err-clause-ends g c =
+pub returns-in-Err : goal.returns-in-Err
+returns-in-Err g c =
     let i = c.loop-done.invariant in
     let client = client_of c.args.core.now c.args.turns in
     let number = c.loop-done.done + 1 in
@@ -41,11 +41,14 @@ returns-in-Err-clause-ends g c =
     let status = c.in-Err.status in
     let taken : Takes client number before stood after stands m n (Err status) =
     subst (λ x. Takes x number before stood after stands m n (Err status)) i.client c.in-Err.ensures.taken in
-    ends_at client c.loop-done.done number (reading c.args.lines.now (g.S.Source.left c.args.source.now)) began before stood after stands b n status refl
-    (omega (arith, c.loop-done-test.true)) i.midst (stops_later client number before stood after stands b m n status i.link i.sink taken)
+    record {
+      ends = ends_at client c.loop-done.done number (reading c.args.lines.now (g.S.Source.left c.args.source.now)) began before stood after stands b n status refl
+          (omega (arith, c.loop-done-test.true)) i.midst (stops_later client number before stood after stands b m n status i.link i.sink taken);
+      counted = search rules;
+    }
 
-pub returns-clause-ends : goal.returns-clause-ends
-returns-clause-ends g c =
+pub returns : goal.returns
+returns g c =
     let i = c.loop-done.invariant in
     let client = client_of c.args.core.now c.args.turns in
     let first = reading c.args.lines.now (g.S.Source.left c.args.source.now) in
@@ -59,11 +62,14 @@ returns-clause-ends g c =
     let heard : Hears client.version 1000001 before after c.next_operation.result =
     subst (λ v. Hears v 1000001 before after c.next_operation.result) version c.next_operation.ensures.heard in
     let at : 1000001 ≡ c.loop-done.done + 1 = omega (arith, c.loop-done-test.false, c.loop-done.auto.done-end) in
-    elim c.match-next_operation.branch [
-      | in-Ok w ↦ absurd (one_too_many client.version before after w.in-Ok.field-0 (subst (λ x. Hears client.version 1000001 before after x) w.in-Ok.is heard))
-      | in-Err-next_operation w ↦
-          let status = w.in-Err-next_operation.status in
-          let stops : StopsAt client.version 1000001 before after status = subst (λ x. Hears client.version 1000001 before after x) w.in-Err-next_operation.is heard in
-          subst (λ x. EndsLines client first began after stood b n x) (sym w.result-is)
-          (ends_at client c.loop-done.done 1000001 first began before stood after stood b n status at (omega (arith, at)) i.midst (inl (refl, stops)))
-    ]
+    record {
+      ends = elim c.match-next_operation.branch [
+        | in-Ok w ↦ absurd (one_too_many client.version before after w.in-Ok.field-0 (subst (λ x. Hears client.version 1000001 before after x) w.in-Ok.is heard))
+        | in-Err-next_operation w ↦
+            let status = w.in-Err-next_operation.status in
+            let stops : StopsAt client.version 1000001 before after status = subst (λ x. Hears client.version 1000001 before after x) w.in-Err-next_operation.is heard in
+            subst (λ x. EndsLines client first began after stood b n x) (sym w.result-is)
+            (ends_at client c.loop-done.done 1000001 first began before stood after stood b n status at (omega (arith, at)) i.midst (inl (refl, stops)))
+      ];
+      counted = search (rules, heard_writes, heard_links);
+    }

@@ -1,12 +1,12 @@
-use Rattle.std.proofs.Common.{Ok, subst}
+use Rattle.std.proofs.Common.{Ok, rules, subst}
 use Rattle.vr_ask.specs.Asking.{Exchanges, client_of, faults, stand}
 use Rattle.vr_ask.specs.Run.{EndsLines, reading}
 use Rattle.vr_header.specs.declared.operation.Operation.TheVariants.{Register}
 use Rattle.vr_ask.proofs.Runs.{registered}
 use Rattle.vr_ask.proofs.running.ask_all.Goals as goal
 
-pub returns-in-Ok-clause-ends : goal.returns-in-Ok-clause-ends
-returns-in-Ok-clause-ends g c =
+pub returns-in-Ok : goal.returns-in-Ok
+returns-in-Ok g c =
     let who = client_of c.args.core.now c.args.turns in
     let first = faults (g.L.Link.faults c.args.link.now) (g.K.Sink.faults c.args.sink.now) in
     let mid = faults (g.L.Link.faults c.exchange.new.link) (g.K.Sink.faults c.exchange.new.sink) in
@@ -19,4 +19,7 @@ returns-in-Ok-clause-ends g c =
     let begun : Exchanges who 0 Register s s'' first mid (Ok tt) = subst (λ n. Exchanges who n Register s s'' first mid (Ok tt)) c.requires c.in-Ok.ensures.exchanged in
     let lines : EndsLines who r s'' r' s' mid last c.ask_lines.result =
     subst (λ x. EndsLines x r s'' r' s' mid last c.ask_lines.result) c.exchange.ensures.client c.ask_lines.ensures.ends in
-    registered who r s s'' r' s' first mid last c.ask_lines.result begun c.in-Ok.ensures.links c.in-Ok.ensures.sink lines
+    record {
+      ends = registered who r s s'' r' s' first mid last c.ask_lines.result begun c.in-Ok.ensures.links c.in-Ok.ensures.sink lines;
+      counted = search rules;
+    }
