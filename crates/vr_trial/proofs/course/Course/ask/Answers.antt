@@ -1,4 +1,5 @@
+use Rattle.std.proofs.Common.{rules}
 use Rattle.vr_trial.proofs.course.Course.ask.Goals as goal
 
-pub exchange-requires-clause-fits : goal.exchange-requires-clause-fits
-exchange-requires-clause-fits g c = c.in-Ok.ensures.fits c.args.self.now.core.version
+pub exchange-requires : goal.exchange-requires
+exchange-requires g c = record { number = search rules; first = search rules; fits = c.in-Ok.ensures.fits c.args.self.now.core.version }
