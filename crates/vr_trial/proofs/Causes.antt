@@ -17,7 +17,7 @@ use Rattle.vr_status.proofs.Counting.{links_kept}
 use Rattle.vr_status.specs.Counts.{links_after}
 use Rattle.vr_status.specs.declared.status.Status.{Status}
 use Rattle.vr_status.specs.declared.status.Status.TheVariants as status
-use Rattle.vr_trial.specs.Run.{AsksNothing, BreaksOff, CantCall, Counts, Does, Ends, Fails, FailsIn, Faults, IsCut, Members, Outside, Place, Starts, Stops, TrialEnds, faults, of_client, running_at, start_call, started, stopped, stops_of}
+use Rattle.vr_trial.specs.Run.{AsksNothing, BreaksOff, CantCall, Counts, Does, Ends, Fails, FailsIn, Faults, IsCut, Members, Outside, Place, Starts, Stops, faults, of_client, running_at, start_call, started, stopped, stops_of}
 use Rattle.vr_trial.specs.Script.{number_of}
 use Rattle.vr_trial.specs.Told.{Trial, operation_of, start_words}
 use Rattle.vr_trial.specs.declared.step.Step.{Step}
@@ -212,10 +212,3 @@ ended_link t steps p o b n s e is = ends_link t steps p o b n (subst (λ x. Ends
 pub ended_spawn : (t : Trial) (steps : List Step) (p : Place) (o : Outside) (b n : Faults) (s : Status)
     → Ends t steps p o b n s → s ≡ status.SpawnFault → Rose b.counts.spawn n.counts.spawn
 ended_spawn t steps p o b n s e is = ends_spawn t steps p o b n (subst (λ x. Ends t steps p o b n x) is e)
-
-spawn_at : (t : Trial) (o o' : Outside) (b n : Faults) → TrialEnds t o o' b n status.SpawnFault → Rose b.counts.spawn n.counts.spawn
-spawn_at t o o' b n (inl x) = absurd (cc x.0)
-spawn_at t o o' b n (inr x) = ends_spawn t _ _ o' b n x
-
-pub trial_spawn : (t : Trial) (o o' : Outside) (b n : Faults) (s : Status) → TrialEnds t o o' b n s → s ≡ status.SpawnFault → Rose b.counts.spawn n.counts.spawn
-trial_spawn t o o' b n s e is = spawn_at t o o' b n (subst (λ x. TrialEnds t o o' b n x) is e)

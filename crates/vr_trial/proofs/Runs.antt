@@ -46,12 +46,20 @@ pub went_through : (t : Trial) (steps : List Step) (p last : Place) (b n : Fault
     → Ends t steps p (tells last last.members.calls) b n Done
 went_through t steps p last b n spared does = inl (record { done = refl; spared = spared; last = last; does = does; ends = refl })
 
-pub broke_off : (t : Trial) (steps : List Step) (p last : Place) (calls : Option (List SpawnCall)) (b : Faults) (link write mid spawn : ℕ) (s : Status)
-    → mid ≤ spawn → FailsIn t steps p last b (faults link write mid) s
-    → StopsAll last.members.running (spawns last.members.calls (spawns_after s b.counts.spawn)) (spawns calls spawn)
+pub broke_off : (t : Trial) (steps : List Step) (p last : Place) (running : List (Option ℕ)) (calls : Option (List SpawnCall)) (b : Faults) (link write mid spawn : ℕ) (s : Status)
+    → running ≡ last.members.running → mid ≡ spawns_after s b.counts.spawn → mid ≤ spawn → FailsIn t steps p last b (faults link write mid) s
+    → StopsAll running (spawns last.members.calls mid) (spawns calls spawn)
     → Ends t steps p (tells last calls) b (faults link write spawn) s
-broke_off t steps p last calls b link write mid spawn s h fails stops =
-    inr (record { last = last; fails = fails_in_later t steps p last b link write mid spawn s h fails; calls = calls; stops = stops; ends = refl })
+broke_off t steps p last running calls b link write mid spawn s same e h fails stops =
+    let stopped : StopsAll last.members.running (spawns last.members.calls mid) (spawns calls spawn) =
+    subst (λ r. StopsAll r (spawns last.members.calls mid) (spawns calls spawn)) same stops in
+    inr (record {
+      last = last;
+      fails = fails_in_later t steps p last b link write mid spawn s h fails;
+      calls = calls;
+      stops = subst (λ k. StopsAll last.members.running (spawns last.members.calls k) (spawns calls spawn)) e stopped;
+      ends = refl;
+    })
 
 pub ends_short : (t : Trial) (o o' : Outside) (b n : Faults) → o' ≡ o → n ≡ b → TrialEnds t o o' b n NoMemory
 ends_short t o o' b n same spared = inl (refl, same, spared)

@@ -1,8 +1,7 @@
-//! A trial on its way.
-ghost use Rattle.std.specs.Prelude.{◌≡◌, ◌≤◌, IfOk, None, replicate, slice_set, vec_len};
-ghost use Rattle.vr_ask.specs.Asking.{client_of};
+//! A trial on its way: its client, and the members that run.
+ghost use Rattle.std.specs.Prelude.{◌≡◌, ◌≤◌, IfOk, slice_set, vec_len};
+ghost use Rattle.vr_trial.specs.Parts.{IsFirst};
 ghost use Rattle.vr_trial.specs.Run.{running_at};
-ghost use Rattle.vr_trial.specs.Told.{trial_of};
 
 use crate::plan::Plan;
 use std::alloc::Global;
@@ -30,10 +29,7 @@ impl Course {
     pub fn new(alloc: Global, plan: &Plan) -> Result<Course, NoMemory>
         requires least { 2 ≤ vec_len plan.now.peers }
         requires most { vec_len plan.now.peers ≤ 6 }
-        ensures client { IfOk result (λ c. client_of c.core plan.now.turns ≡ (trial_of plan.now).client) }
-        ensures port { IfOk result (λ c. c.core.port ≡ 0) }
-        ensures number { IfOk result (λ c. c.core.number ≡ 0) }
-        ensures running { IfOk result (λ c. c.running ≡ replicate (vec_len plan.now.peers) None) }
+        ensures { IfOk result (IsFirst plan.now) }
     {
         let n = plan.peers.len();
         let mut running = Vec::new(alloc);

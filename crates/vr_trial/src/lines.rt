@@ -1,11 +1,9 @@
-//! The lines that say what became of a member, and what the client asks.
-ghost use Rattle.std.specs.Prelude.{◌≡◌, ℕ, IfErr, IfOk, IsTrue, OnOk, string_bytes};
-ghost use Rattle.std.specs.Io.KnownBytes.{Appends};
-ghost use Rattle.vr_ask.specs.Asking.{CountsWrites};
+//! The lines `started R` and `stopped R`, and the operations that the client asks, with their keys and values.
+ghost use Rattle.std.specs.Prelude.{◌≡◌, ℕ, IfOk, IsTrue, string_bytes};
 ghost use Rattle.vr_base.specs.Versions.{value_limit};
 ghost use Rattle.vr_header.specs.Bodies.{IsOperation};
 ghost use Rattle.vr_header.specs.Text.{is_text};
-ghost use Rattle.vr_trial.specs.Run.{IsCut};
+ghost use Rattle.vr_trial.specs.Parts.{WritesLine};
 ghost use Rattle.vr_trial.specs.Told.{key, member_line, operation_of, value};
 
 use crate::step::Question;
@@ -30,9 +28,7 @@ pub fn write_line<K: Sink>(
     what: &str,
     member: u8,
 ) -> Result<(), Status>
-    ensures written { OnOk result (Appends (K.taken sink.old) (K.taken sink.new) (member_line what.now member)) }
-    ensures cut { IfErr result (IsCut (member_line what.now member) (K.taken sink.old) (K.taken sink.new) (K.faults sink.old) (K.faults sink.new)) }
-    ensures counts { CountsWrites (K.faults sink.old) (K.faults sink.new) result }
+    ensures { WritesLine K.Sink (member_line what.now member) sink.old sink.new result }
 {
     let Ok(line) = member_line(alloc, what, member) else {
         return Err(Status::NoMemory);

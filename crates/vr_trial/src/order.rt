@@ -1,4 +1,4 @@
-//! The steps of a trial, in order.
+//! Which steps a trial takes, in order: starts, asks with a stop and a restart among them, stops.
 ghost use Rattle.std.specs.Prelude.{◌≡◌, ◌≤◌, IfOk};
 ghost use Rattle.vr_trial.specs.Script.{script};
 

@@ -1,4 +1,4 @@
-//! What a trial is of.
+//! Which group is tried, and how long an ask waits.
 
 /// What a trial is of.
 #[derive(Debug, Drop)]

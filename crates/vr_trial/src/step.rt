@@ -1,4 +1,4 @@
-//! The steps of a trial.
+//! What a step of a trial is: a member's start or stop, the client's link, or what it asks.
 
 /// What the client asks.
 #[derive(Clone, Copy, Debug, PartialEq, Eq)]
