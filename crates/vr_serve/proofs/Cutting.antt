@@ -69,6 +69,14 @@ pub cut_behind : {S : Type 0} (does : Doing S) (halts : Halting S) (a b : At S) 
     → Cut does halts a xs next end
 cut_behind does halts a b xs next end p c = subst (λ l. Cut does halts a l next end) (append_nil xs) (cut_after does halts a b xs [] next end p c)
 
+pub on_ok : {T E : Type 0} (r : Result T E) (P : Type 0) → P → OnOk r P
+on_ok (Ok t) P p = p
+on_ok (Err e) P p = tt
+
+pub on_ok_then : {T E : Type 0} (r : Result T E) (X P : Type 0) → (X → P) → OnOk r X → OnOk r P
+on_ok_then (Ok t) X P f x = f x
+on_ok_then (Err e) X P f x = tt
+
 pub on_ok_all : {T E : Type 0} (r : Result T E) (X Y Z P : Type 0) → (X → Y → Z → P) → OnOk r X → OnOk r Y → OnOk r Z → OnOk r P
 on_ok_all (Ok t) X Y Z P f x y z = f x y z
 on_ok_all (Err e) X Y Z P f x y z = tt

@@ -12,7 +12,7 @@ use Rattle.vr_msg.specs.declared.event.Event.TheVariants.{Tick}
 use Rattle.vr_msg.specs.declared.output.Output.{Output}
 use Rattle.vr_serve.specs.Events.{AreTurns, Gives, Turn, arrival_in, arrivals, due, events_of, happened, last_after, last_of, letters, next_in, numbers_in, whole_in}
 use Rattle.vr_serve.specs.Outputs.{numbers_after}
-use Rattle.vr_serve.specs.Runs.{At, Cut, Doing, End, Halting, IsCutInTurn, IsServed, IsTurnCut, Passed, PutsFirst, at, begun_at}
+use Rattle.vr_serve.specs.Runs.{AreTurnsCut, At, Cut, Doing, End, Halting, HaveTurns, IsCutInTurn, IsServed, IsTurnCut, Passed, PutsFirst, at, begun_at}
 use Rattle.vr_serve.specs.declared.clients.Client.{Client}
 use Rattle.vr_serve.specs.declared.serving.TheConstants.{TICK}
 use Rattle.vr_serve.proofs.Cutting.{cut_after}
@@ -53,37 +53,17 @@ pub both : {T E : Type 0} (r : Result T E) (P : T → Type 0) (X : Type 0) (Q : 
 both (Ok t) P X Q f p x = f t p x
 both (Err e) P X Q f p x = tt
 
--- so many turns are done, and the run stands at b
-pub record Serving {S : Type 0} (does : Doing S) (version cluster count last : ℕ) (first : List Output) (member : S) (disk : Option Disk)
-    (left left' : Option (List ℕ)) (got got' : Option (List Arrival)) (t : Option (List ℕ)) (u : Option (List (Option Datagram))) (b : At S) : Type 0 where
-  pub begins : ℕ
-  pub turns : List Turn
-  pub counted : length turns ≡ count
-  pub ticked : last ≡ last_of begins turns
-  pub clock : Gives left (begins ∷ map (λ x. x.now) turns) left'
-  pub received : Grows got got' (arrivals turns)
-  pub brought : AreTurns version cluster turns
-  pub taken : Option (List ℕ)
-  pub sent : Option (List (Option Datagram))
-  pub puts : PutsFirst first t taken u sent
-  pub passed : Passed does (begun_at member disk first taken sent) b (happened begins turns)
-
-pub serving_begins : {S : Type 0} (does : Doing S) (version cluster last : ℕ) (first : List Output) (member : S) (disk : Option Disk)
-    (left left' : Option (List ℕ)) (got got' : Option (List Arrival)) (t t' : Option (List ℕ)) (u u' : Option (List (Option Datagram)))
-    (number : ℕ) (clients : List Client) → PutsFirst first t t' u u' → number ≡ numbers_after 0 first → clients ≡ [] → GivesNext left left' last
-    → got' ≡ got → Serving does version cluster 0 last first member disk left left' got got' t u (at member disk number clients t' u')
-serving_begins does version cluster last first member disk left left' got got' t t' u u' number clients puts numbered none next same = record {
-  begins = last;
+-- no turn
+pub turns_none : {S : Type 0} (does : Doing S) (version cluster tick : ℕ) (a : At S) (left : Option (List ℕ)) (got : Option (List Arrival))
+    → HaveTurns does version cluster 0 tick tick a a left left got got
+turns_none does version cluster tick a left got = record {
   turns = [];
   counted = refl;
   ticked = refl;
-  clock = (left', next, refl);
-  received = rw same (grows_nil got);
+  clock = refl;
+  received = grows_nil got;
   brought = tt;
-  taken = t';
-  sent = u';
-  puts = puts;
-  passed = passed_none does (begun_at member disk first t' u') number clients numbered none;
+  passed = passed_none does a a.number a.clients refl refl;
 }
 
 brought_turn : (version cluster : ℕ) (turns : List Turn) (turn : Turn) → AreTurns version cluster turns → Brings version cluster turn.arrival turn.letter
@@ -92,65 +72,84 @@ brought_turn version cluster turns turn b new =
     rw (map_append (λ (x : Turn). x.arrival) turns (turn ∷ []), map_append (λ (x : Turn). x.letter) turns (turn ∷ []))
     (brought_more version cluster (arrivals turns) (letters turns) turn.arrival turn.letter b new)
 
-pub serving_more : {S : Type 0} (does : Doing S) (version cluster count last after : ℕ) (first : List Output) (member : S) (disk : Option Disk)
-    (left left' left'' : Option (List ℕ)) (got got' got'' : Option (List Arrival)) (t : Option (List ℕ)) (u : Option (List (Option Datagram)))
-    (b c : At S) (turn : Turn) → Serving does version cluster count last first member disk left left' got got' t u b
+-- one more
+pub turns_more : {S : Type 0} (does : Doing S) (version cluster count tick last after : ℕ) (left left' left'' : Option (List ℕ)) (got got' got'' : Option (List Arrival))
+    (a b c : At S) (turn : Turn) → HaveTurns does version cluster count tick last a b left left' got got'
     → after ≡ last_after last turn.now → Grows got' got'' (turn.arrival ∷ []) → Brings version cluster turn.arrival turn.letter
     → GivesNext left' left'' turn.now → Passed does b c (events_of last turn)
-    → Serving does version cluster (count + 1) after first member disk left left'' got got'' t u c
-serving_more does version cluster count last after first member disk left left' left'' got got' got'' t u b c turn s is more new next passed = record {
-  begins = s.begins;
+    → HaveTurns does version cluster (count + 1) tick after a c left left'' got got''
+turns_more does version cluster count tick last after left left' left'' got got' got'' a b c turn s is more new next passed = record {
   turns = s.turns ++ turn ∷ [];
   counted = length_more s.turns turn ∙ ap (λ n. n + 1) s.counted;
-  ticked = is ∙ (ap (λ n. last_after n turn.now) s.ticked ∙ sym (last_more s.begins s.turns turn));
-  clock = rw (map_append (λ (x : Turn). x.now) s.turns (turn ∷ [])) (gives_then left left' left'' (s.begins ∷ map (λ x. x.now) s.turns) (turn.now ∷ []) s.clock (left'', next, refl));
+  ticked = is ∙ (ap (λ n. last_after n turn.now) s.ticked ∙ sym (last_more tick s.turns turn));
+  clock = rw (map_append (λ (x : Turn). x.now) s.turns (turn ∷ [])) (gives_then left left' left'' (map (λ x. x.now) s.turns) (turn.now ∷ []) s.clock (left'', next, refl));
   received = rw (map_append (λ (x : Turn). x.arrival) s.turns (turn ∷ [])) (grows_trans got got' got'' (arrivals s.turns) (turn.arrival ∷ []) s.received more);
   brought = brought_turn version cluster s.turns turn s.brought new;
-  taken = s.taken;
-  sent = s.sent;
-  puts = s.puts;
-  passed = rw (happened_more s.begins s.turns turn) (passed_trans does (begun_at member disk first s.taken s.sent) b c (happened s.begins s.turns)
-      (events_of (last_of s.begins s.turns) turn) s.passed (rw (sym s.ticked) passed));
-}
-
-pub served : {S : Type 0} (does : Doing S) (version cluster count last : ℕ) (first : List Output) (member member' : S) (disk disk' : Option Disk)
-    (left left' : Option (List ℕ)) (got got' : Option (List Arrival)) (t t' : Option (List ℕ)) (u u' : Option (List (Option Datagram)))
-    (number : ℕ) (clients : List Client)
-    → Serving does version cluster count last first member disk left left' got got' t u (at member' disk' number clients t' u')
-    → IsServed does version cluster count first member member' disk disk' left left' got got' t t' u u'
-served does version cluster count last first member member' disk disk' left left' got got' t t' u u' number clients s = record {
-  begins = s.begins;
-  turns = s.turns;
-  counted = s.counted;
-  clock = s.clock;
-  received = s.received;
-  brought = s.brought;
-  taken = s.taken;
-  sent = s.sent;
-  puts = s.puts;
-  number = number;
-  clients = clients;
-  passed = s.passed;
+  passed = rw (happened_more tick s.turns turn) (passed_trans does a b c (happened tick s.turns)
+      (events_of (last_of tick s.turns) turn) s.passed (rw (sym s.ticked) passed));
 }
 
 -- an early end in the turn behind these
-pub serving_cut : {S : Type 0} (does : Doing S) (halts : Halting S) (version cluster count tick limit : ℕ) (first : List Output) (member : S) (disk : Option Disk)
-    (left left' left'' : Option (List ℕ)) (got got' got'' : Option (List Arrival)) (t : Option (List ℕ)) (u : Option (List (Option Datagram)))
-    (b : At S) (end : End) → Serving does version cluster count tick first member disk left left' got got' t u b → count < limit
-    → IsTurnCut does halts version cluster tick b left' left'' got' got'' end
-    → IsCutInTurn does halts version cluster limit first member disk left left'' got got'' t u end
-serving_cut does halts version cluster count tick limit first member disk left left' left'' got got' got'' t u b end s lt c = record {
-  begins = s.begins;
+pub turns_cut : {S : Type 0} (does : Doing S) (halts : Halting S) (version cluster count limit tick last : ℕ) (left left' left'' : Option (List ℕ))
+    (got got' got'' : Option (List Arrival)) (a b : At S) (end : End) → HaveTurns does version cluster count tick last a b left left' got got' → count < limit
+    → IsTurnCut does halts version cluster last b left' left'' got' got'' end
+    → AreTurnsCut does halts version cluster limit tick a left left'' got got'' end
+turns_cut does halts version cluster count limit tick last left left' left'' got got' got'' a b end s lt c = record {
   turns = s.turns;
   last = c.last;
   counted = omega (arith, s.counted, lt);
-  clock = gives_then left left' left'' (s.begins ∷ map (λ x. x.now) s.turns) (numbers_in c.last) s.clock c.clock;
+  clock = gives_then left left' left'' (map (λ x. x.now) s.turns) (numbers_in c.last) s.clock c.clock;
   received = grows_trans got got' got'' (arrivals s.turns) (arrival_in c.last ∷ []) s.received c.received;
   brought = s.brought;
   begun = c.begun;
-  taken = s.taken;
-  sent = s.sent;
-  puts = s.puts;
-  cut = subst (λ n. Cut does halts (begun_at member disk first s.taken s.sent) (happened s.begins s.turns ++ whole_in c.last) (next_in n c.last) end) s.ticked
-      (cut_after does halts (begun_at member disk first s.taken s.sent) b (happened s.begins s.turns) (whole_in c.last) (next_in tick c.last) end s.passed c.cut);
+  cut = subst (λ n. Cut does halts a (happened tick s.turns ++ whole_in c.last) (next_in n c.last) end) s.ticked
+      (cut_after does halts a b (happened tick s.turns) (whole_in c.last) (next_in last c.last) end s.passed c.cut);
+}
+
+-- where a run stands behind the first outputs
+begins_at : {S : Type 0} (member : S) (disk : Option Disk) (number : ℕ) (clients : List Client) (first : List Output) (t : Option (List ℕ)) (u : Option (List (Option Datagram)))
+    → number ≡ numbers_after 0 first → clients ≡ [] → at member disk number clients t u ≡ begun_at member disk first t u
+begins_at member disk number clients first t u same none = rw (same, none) refl
+
+-- a whole run
+pub served : {S : Type 0} (does : Doing S) (version cluster count begins after number : ℕ) (clients : List Client) (first : List Output) (member : S) (disk : Option Disk)
+    (left mid left' : Option (List ℕ)) (got got' : Option (List Arrival)) (t taken : Option (List ℕ)) (u sent : Option (List (Option Datagram))) (b : At S)
+    → PutsFirst first t taken u sent → number ≡ numbers_after 0 first → clients ≡ [] → GivesNext left mid begins
+    → HaveTurns does version cluster count begins after (at member disk number clients taken sent) b mid left' got got'
+    → IsServed does version cluster count first member b.member disk b.disk left left' got got' t b.taken u b.sent
+served does version cluster count begins after number clients first member disk left mid left' got got' t taken u sent b puts same none next s = record {
+  begins = begins;
+  turns = s.turns;
+  counted = s.counted;
+  clock = (mid, next, s.clock);
+  received = s.received;
+  brought = s.brought;
+  taken = taken;
+  sent = sent;
+  puts = puts;
+  number = b.number;
+  clients = b.clients;
+  passed = subst (λ a. Passed does a b (happened begins s.turns)) (begins_at member disk number clients first taken sent same none) s.passed;
+}
+
+-- one that was cut off
+pub served_cut : {S : Type 0} (does : Doing S) (halts : Halting S) (version cluster count begins number : ℕ) (clients : List Client) (first : List Output) (member : S)
+    (disk : Option Disk) (left mid left' : Option (List ℕ)) (got got' : Option (List Arrival)) (t taken : Option (List ℕ)) (u sent : Option (List (Option Datagram)))
+    (end : End) → PutsFirst first t taken u sent → number ≡ numbers_after 0 first → clients ≡ [] → GivesNext left mid begins
+    → AreTurnsCut does halts version cluster count begins (at member disk number clients taken sent) mid left' got got' end
+    → IsCutInTurn does halts version cluster count first member disk left left' got got' t u end
+served_cut does halts version cluster count begins number clients first member disk left mid left' got got' t taken u sent end puts same none next c = record {
+  begins = begins;
+  turns = c.turns;
+  last = c.last;
+  counted = c.counted;
+  clock = (mid, next, c.clock);
+  received = c.received;
+  brought = c.brought;
+  begun = c.begun;
+  taken = taken;
+  sent = sent;
+  puts = puts;
+  cut = subst (λ a. Cut does halts a (happened begins c.turns ++ whole_in c.last) (next_in (last_of begins c.turns) c.last) end)
+      (begins_at member disk number clients first taken sent same none) c.cut;
 }

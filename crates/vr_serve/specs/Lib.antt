@@ -4,3 +4,5 @@ pub mod Laws
 pub mod Outgoing
 pub mod Outputs
 pub mod Runs
+pub mod Sending
+pub mod Serving

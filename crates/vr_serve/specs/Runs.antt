@@ -165,6 +165,29 @@ pub record IsTurnCut {S : Type 0} (does : Doing S) (halts : Halting S) (version 
   pub begun : Begins version cluster last
   pub cut : Cut does halts a (whole_in last) (next_in tick last) end
 
+-- so many turns happened wholly from a to b, where the last tick was then, and the last tick after them is `after`
+pub record HaveTurns {S : Type 0} (does : Doing S) (version cluster count tick after : ℕ) (a b : At S) (left left' : Option (List ℕ))
+    (got got' : Option (List Arrival)) : Type 0 where
+  pub turns : List Turn
+  pub counted : length turns ≡ count
+  pub ticked : after ≡ last_of tick turns
+  pub clock : Gives left (map (λ x. x.now) turns) left'
+  pub received : Grows got got' (arrivals turns)
+  pub brought : AreTurns version cluster turns
+  pub passed : Passed does a b (happened tick turns)
+
+-- fewer than so many turns happened wholly from a on, and the one behind them was cut off
+pub record AreTurnsCut {S : Type 0} (does : Doing S) (halts : Halting S) (version cluster count tick : ℕ) (a : At S) (left left' : Option (List ℕ))
+    (got got' : Option (List Arrival)) (end : End) : Type 0 where
+  pub turns : List Turn
+  pub last : LastTurn
+  pub counted : length turns < count
+  pub clock : Gives left (map (λ x. x.now) turns ++ numbers_in last) left'
+  pub received : Grows got got' (arrivals turns ++ arrival_in last ∷ [])
+  pub brought : AreTurns version cluster turns
+  pub begun : Begins version cluster last
+  pub cut : Cut does halts a (happened tick turns ++ whole_in last) (next_in (last_of tick turns) last) end
+
 -- a run that was cut off in a turn: all turns before it happened wholly, and the clock gave a number for each of them, and one more where it was asked in the last one
 pub record IsCutInTurn {S : Type 0} (does : Doing S) (halts : Halting S) (version cluster count : ℕ) (first : List Output) (member : S) (disk : Option Disk)
     (left left' : Option (List ℕ)) (got got' : Option (List Arrival)) (t : Option (List ℕ)) (u : Option (List (Option Datagram))) (end : End) : Type 0 where

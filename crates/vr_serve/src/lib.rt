@@ -5,6 +5,7 @@ mod clients;
 mod handling;
 mod laws;
 mod member;
+mod objects;
 mod output;
 mod post;
 mod serving;

@@ -1,11 +1,10 @@
 //! What an event puts out: its text, and the datagrams behind it.
-ghost use Rattle.std.specs.Prelude.{◌≡◌, ◌++◌, ◌∷◌, [], Some, true, IfOk, IfSome, OnOk, OnErr};
+ghost use Rattle.std.specs.Prelude.{◌≡◌, ◌++◌, ◌∷◌, [], Some, true, IfOk, IfSome, OnOk};
 ghost use Rattle.vr_edge.specs.Sending.{datagram_at};
-ghost use Rattle.vr_mail.specs.Sends.{Sends};
 ghost use Rattle.vr_msg.specs.Spelling.{spelling};
 ghost use Rattle.vr_serve.specs.Outgoing.{datagram_of};
 ghost use Rattle.vr_serve.specs.Outputs.{datagram_for, datagrams_for, number_after, numbers_after, reply_for, text_from};
-ghost use Rattle.vr_serve.specs.Runs.{SendsFront};
+ghost use Rattle.vr_serve.specs.Sending.{SendsInOrder, SendsOrNone};
 
 use crate::clients::{Client, port_of};
 use std::alloc::AllocError;
@@ -97,11 +96,7 @@ fn send_again<L: Link>(
 ) -> Result<(), AllocError>
     requires { IfSome last.now (λ m. bytes.old.items ≡ spelling m) }
     ensures bytes { OnOk result (bytes.new.items ≡ spelling out.now.message) }
-    ensures sent { OnOk result (Sends (datagram_at out.now.port (spelling out.now.message) ∷ []) (L.sent link.old) (L.sent link.new)) }
-    ensures unsent { OnErr result (L.sent link.new ≡ L.sent link.old) }
-    ensures received { L.received link.new ≡ L.received link.old }
-    ensures faults { L.faults link.new ≡ L.faults link.old }
-    ensures attached { L.attached link.new ≡ L.attached link.old }
+    ensures sends { SendsOrNone L.Link (datagram_at out.now.port (spelling out.now.message) ∷ []) link.old link.new result }
 {
     if is_last(last, &out.message) {
         send_bytes(link, out.port, bytes.as_slice());
@@ -120,11 +115,7 @@ fn send_output<L: Link>(
 ) -> Result<Option<Message>, AllocError>
     requires { IfSome last.now (λ m. bytes.old.items ≡ spelling m) }
     ensures last { IfOk result (λ last. IfSome last (λ m. bytes.new.items ≡ spelling m)) }
-    ensures sent { OnOk result (Sends (datagram_for clients.now output) (L.sent link.old) (L.sent link.new)) }
-    ensures unsent { OnErr result (L.sent link.new ≡ L.sent link.old) }
-    ensures received { L.received link.new ≡ L.received link.old }
-    ensures faults { L.faults link.new ≡ L.faults link.old }
-    ensures attached { L.attached link.new ≡ L.attached link.old }
+    ensures sends { SendsOrNone L.Link (datagram_for clients.now output) link.old link.new result }
 {
     let Some(out) = address(clients, output) else {
         return Ok(None);
@@ -145,11 +136,7 @@ pub fn send_outputs<L: Link>(
     outputs: Outbox,
     bytes: &mut Vec<u8>,
 ) -> Result<(), AllocError>
-    ensures sent { OnOk result (Sends (datagrams_for clients.now outputs) (L.sent link.old) (L.sent link.new)) }
-    ensures front { OnErr result (SendsFront (datagrams_for clients.now outputs) (L.sent link.old) (L.sent link.new)) }
-    ensures received { L.received link.new ≡ L.received link.old }
-    ensures faults { L.faults link.new ≡ L.faults link.old }
-    ensures attached { L.attached link.new ≡ L.attached link.old }
+    ensures { SendsInOrder L.Link (datagrams_for clients.now outputs) link.old link.new result }
 {
     let mut last = None;
     for output in outputs.into_vec() {

@@ -1,11 +1,6 @@
 //! What the loop keeps of a run, and how it puts outputs out.
-ghost use Rattle.std.specs.Prelude.{◌≡◌, ◌≢◌, ◌≤◌, [], IfOk, OnOk, OnErr, vec_capacity};
-ghost use Rattle.std.specs.Io.KnownBytes.{Appends};
+ghost use Rattle.std.specs.Prelude.{◌≡◌, ◌≤◌, [], IfOk, vec_capacity};
 ghost use Rattle.vr_edge.specs.declared.link.TheConstants.{RECEIVE_ROOM};
-ghost use Rattle.vr_mail.specs.Sends.{Sends};
-ghost use Rattle.vr_serve.specs.Causes.{HasCauses, counts};
-ghost use Rattle.vr_serve.specs.Outputs.{datagrams_for, numbers_after, text_from};
-ghost use Rattle.vr_serve.specs.Runs.{PutsFront};
 
 use crate::Stop;
 use crate::clients::Client;
@@ -30,6 +25,8 @@ pub struct Post {
 }
 
 impl Post {
+    ghost use Rattle.vr_serve.specs.Sending.{PutsOut};
+
     /// No message was sent and no client heard.
     pub fn new(alloc: Global) -> Result<Post, AllocError>
         ensures number { IfOk result (λ p. p.number ≡ 0) }
@@ -52,16 +49,7 @@ impl Post {
         link: &mut L,
         outputs: Outbox,
     ) -> Result<(), Stop>
-        ensures taken { OnOk result (Appends (K.taken sink.old) (K.taken sink.new) (text_from self.old.number outputs)) }
-        ensures sent { OnOk result (Sends (datagrams_for self.old.clients.items outputs) (L.sent link.old) (L.sent link.new)) }
-        ensures number { OnOk result (self.new.number ≡ numbers_after self.old.number outputs) }
-        ensures clients { self.new.clients ≡ self.old.clients }
-        ensures front { OnErr result (PutsFront (text_from self.old.number outputs) (datagrams_for self.old.clients.items outputs) (K.taken sink.old) (K.taken sink.new) (L.sent link.old) (L.sent link.new)) }
-        ensures unlinked { result ≢ Err Stop.Link }
-        ensures causes { HasCauses (counts 0 (K.faults sink.old) (L.faults link.old)) (counts 0 (K.faults sink.new) (L.faults link.new)) result }
-        ensures received { L.received link.new ≡ L.received link.old }
-        ensures faults { L.faults link.new ≡ L.faults link.old }
-        ensures attached { L.attached link.new ≡ L.attached link.old }
+        ensures { PutsOut K.Sink L.Link self.old self.new sink.old sink.new link.old link.new outputs result }
     {
         self.text.clear();
         put_text(&mut self.number, outputs.as_slice(), &mut self.text)?;
