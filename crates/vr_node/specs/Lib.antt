@@ -1,3 +1,4 @@
+pub mod Ending
 pub mod Moving
 pub mod Opening
 pub mod Running

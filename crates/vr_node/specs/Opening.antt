@@ -1,9 +1,11 @@
 -- A member is made, or found again, on its disk.
-use Rattle.std.specs.Prelude.{◌≡◌, ◌≤◌, List, [], Option, Some, None, Result, Ok, Err}
+use Rattle.std.specs.Prelude.{◌≡◌, ◌≤◌, List, [], Option, Some, None, Result, Ok, Err, IfOk, true}
 use Rattle.vr_base.specs.Groups.{least_members}
 use Rattle.vr_base.specs.declared.kind.Kind.{Kind}
 use Rattle.vr_base.specs.declared.table.Config.{Config}
+use Rattle.vr_disk.specs.Counts.{CountsFault}
 use Rattle.vr_disk.specs.DiskState.{Disk}
+use Rattle.vr_disk.specs.declared.disk.SectorDisk as of_disk
 use Rattle.vr_msg.specs.declared.output.Output.{Output}
 use Rattle.vr_replica.specs.Making.{Made}
 use Rattle.vr_replica.specs.Recovering.{Recovered}
@@ -46,3 +48,9 @@ OpensNone None c d d' status = FindsNone c d d' status
 abbrev pub Opening : Option Kind → Config → Option Disk → Option Disk → List Output → Result Running Status → Type 0
 Opening fresh c d d' first (Ok r) = Opens fresh c d d' first r.memory
 Opening fresh c d d' first (Err status) = OpensNone fresh c d d' status
+
+-- a member was opened and runs, or there is none; a fault of the disk is told: no other end leaves one
+pub record OpensMember {D : Type 0} (d : of_disk.Ghosts D) (fresh : Option Kind) (c : Config) (disk disk' : D) (first : List Output) (result : Result Running Status) : Type 0 where
+  pub running : IfOk result (λ r. r.running ≡ true)
+  pub cause : CountsFault DiskFault (d.faults disk) (d.faults disk') result
+  pub opened : Opening fresh c (d.told disk) (d.told disk') first result

@@ -1,8 +1,7 @@
 //! A member is made, or found again, on its disk.
-ghost use Rattle.std.specs.Prelude.{◌≡◌, ◌<◌, [], IfOk, IfSome, None, Some, true};
+ghost use Rattle.std.specs.Prelude.{◌≡◌, ◌<◌, [], IfSome, None, Some, true};
 ghost use Rattle.vr_base.specs.Groups.{is_size};
-ghost use Rattle.vr_disk.specs.Counts.{CountsFault};
-ghost use Rattle.vr_node.specs.Opening.{Opening};
+ghost use Rattle.vr_node.specs.Opening.{OpensMember};
 
 use std::alloc::Global;
 use vr_base::{Config, Kind};
@@ -20,9 +19,7 @@ fn make_member<D: SectorDisk>(
 ) -> Result<Replica, Status>
     requires size { is_size kind.version config.now.n ≡ true }
     requires member { config.now.replica < config.now.n }
-    ensures running { IfOk result (λ r. r.running ≡ true) }
-    ensures cause { CountsFault Status.DiskFault (D.faults disk.old) (D.faults disk.new) result }
-    ensures opened { Opening (Some kind) config.now (D.told disk.old) (D.told disk.new) [] result }
+    ensures { OpensMember D.SectorDisk (Some kind) config.now disk.old disk.new [] result }
 {
     match Replica::fresh(alloc, disk, config, kind) {
         Ok(replica) => Ok(replica),
@@ -40,9 +37,7 @@ fn find_member<D: SectorDisk>(
     config: &Config,
     first: &mut Outbox,
 ) -> Result<Replica, Status>
-    ensures running { IfOk result (λ r. r.running ≡ true) }
-    ensures cause { CountsFault Status.DiskFault (D.faults disk.old) (D.faults disk.new) result }
-    ensures opened { Opening None config.now (D.told disk.old) (D.told disk.new) first.new result }
+    ensures { OpensMember D.SectorDisk None config.now disk.old disk.new first.new result }
 {
     match Replica::recover(alloc, disk, config, first) {
         Ok(replica) => Ok(replica),
@@ -65,9 +60,7 @@ pub fn open_member<D: SectorDisk>(
     requires size { IfSome fresh (λ kind. is_size kind.version config.now.n ≡ true) }
     requires member { config.now.replica < config.now.n }
     requires empty { first.old ≡ [] }
-    ensures running { IfOk result (λ r. r.running ≡ true) }
-    ensures cause { CountsFault Status.DiskFault (D.faults disk.old) (D.faults disk.new) result }
-    ensures opened { Opening fresh config.now (D.told disk.old) (D.told disk.new) first.new result }
+    ensures { OpensMember D.SectorDisk fresh config.now disk.old disk.new first.new result }
 {
     match fresh {
         Some(kind) => make_member(alloc, disk, config, kind),
