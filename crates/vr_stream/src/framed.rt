@@ -65,6 +65,7 @@ impl<T: Streams> Framed<T> {
         ensures written { T.written self.new.streams ≡ T.written self.old.streams }
         ensures polled { T.polled self.new.streams ≡ T.polled self.old.streams }
         ensures attached { (T.attaches self.new.streams ≡ T.attaches self.old.streams) × (self.new.is_over ≡ self.old.is_over) }
+        ensures most { self.new.peers ≡ self.old.peers }
         ensures faults { (self.new.faults ≡ self.old.faults) × (self.new.send_faults ≡ self.old.send_faults) }
     {
         let _ = self.streams.close(port);
@@ -80,6 +81,7 @@ impl<T: Streams> Framed<T> {
         ensures written { T.written self.new.streams ≡ T.written self.old.streams }
         ensures polled { T.polled self.new.streams ≡ T.polled self.old.streams }
         ensures attached { (T.attaches self.new.streams ≡ T.attaches self.old.streams) × (self.new.is_over ≡ self.old.is_over) }
+        ensures most { self.new.peers ≡ self.old.peers }
         ensures faults { (self.new.faults ≡ self.old.faults) × (self.new.send_faults ≡ self.old.send_faults) }
         ensures room { vec_capacity to.old ≤ vec_capacity to.new }
     {
@@ -103,6 +105,7 @@ impl<T: Streams> Framed<T> {
         ensures written { T.written self.new.streams ≡ T.written self.old.streams }
         ensures polled { T.polled self.new.streams ≡ T.polled self.old.streams }
         ensures attached { (T.attaches self.new.streams ≡ T.attaches self.old.streams) × (self.new.is_over ≡ self.old.is_over) }
+        ensures most { self.new.peers ≡ self.old.peers }
         ensures faults { (self.new.faults ≡ self.old.faults) × (self.new.send_faults ≡ self.old.send_faults) }
         ensures room { vec_capacity to.old ≤ vec_capacity to.new }
     {
@@ -126,6 +129,7 @@ impl<T: Streams> Framed<T> {
         ensures written { T.written self.new.streams ≡ T.written self.old.streams }
         ensures polled { T.polled self.new.streams ≡ T.polled self.old.streams }
         ensures attached { (T.attaches self.new.streams ≡ T.attaches self.old.streams) × (self.new.is_over ≡ self.old.is_over) }
+        ensures most { self.new.peers ≡ self.old.peers }
         ensures faults { (self.new.faults ≡ self.old.faults) × (self.new.send_faults ≡ self.old.send_faults) }
         ensures room { vec_capacity to.old ≤ vec_capacity to.new }
     {
@@ -145,6 +149,7 @@ impl<T: Streams> Framed<T> {
         ensures cause { HasCause self.old.faults self.new.faults result }
         ensures asked { IsAttach self.old.peers (vec_len peers.now) own.now (texts_of peers.now.items) self.old.is_over self.new.is_over (T.attaches self.old.streams) (T.attaches self.new.streams) result }
         ensures written { T.written self.new.streams ≡ T.written self.old.streams }
+        ensures most { self.new.peers ≡ self.old.peers }
         ensures others { self.new.send_faults ≡ self.old.send_faults }
         ensures few { OnOk result (vec_len peers.now ≤ self.old.peers) }
         ensures reached { OnOk result (T.attached self.new.streams ≡ vec_len peers.now) }
@@ -175,6 +180,7 @@ impl<T: Streams> Framed<T> {
         ensures sends { Sends to bytes.now (framing self.old.framer) (T.calls self.old.streams) (T.written self.old.streams) (framing self.new.framer) (T.calls self.new.streams) (T.written self.new.streams) }
         ensures polled { T.polled self.new.streams ≡ T.polled self.old.streams }
         ensures attached { (T.attaches self.new.streams ≡ T.attaches self.old.streams) × (self.new.is_over ≡ self.old.is_over) }
+        ensures most { self.new.peers ≡ self.old.peers }
         ensures others { self.new.faults ≡ self.old.faults }
     {
         match self.streams.write(to, bytes) {
@@ -194,6 +200,7 @@ impl<T: Streams> Framed<T> {
         ensures written { T.written self.new.streams ≡ T.written self.old.streams }
         ensures room { RECEIVE_ROOM ≤ vec_capacity to.new }
         ensures attached { (T.attaches self.new.streams ≡ T.attaches self.old.streams) × (self.new.is_over ≡ self.old.is_over) }
+        ensures most { self.new.peers ≡ self.old.peers }
         ensures others { self.new.send_faults ≡ self.old.send_faults }
         ensures heard { IsReceived (framing self.old.framer) (T.calls self.old.streams) (T.polled self.old.streams) (framing self.new.framer) (T.calls self.new.streams) (T.polled self.new.streams) to.new.items result }
     {

@@ -88,6 +88,7 @@ impl<T: Streams> Link for StreamLink<T> {
         ensures sent { ⟦<StreamLink<T> as Link>⟧.sent self.new ≡ ⟦<StreamLink<T> as Link>⟧.sent self.old }
         ensures received { ⟦<StreamLink<T> as Link>⟧.received self.new ≡ ⟦<StreamLink<T> as Link>⟧.received self.old }
         ensures others { self.new.framed.send_faults ≡ self.old.framed.send_faults }
+        ensures made { (self.new.framed.peers ≡ self.old.framed.peers) × (self.new.is_told ≡ self.old.is_told) }
         ensures asked { IsAttach self.old.framed.peers (vec_len peers.now) own.now (texts_of peers.now.items) self.old.framed.is_over self.new.framed.is_over (T.attaches self.old.framed.streams) (T.attaches self.new.framed.streams) result }
         ensures few { OnOk result (vec_len peers.now ≤ self.old.framed.peers) }
         ensures reached { OnOk result (T.attached self.new.framed.streams ≡ vec_len peers.now) }
@@ -105,6 +106,7 @@ impl<T: Streams> Link for StreamLink<T> {
         ensures sent { Grows (⟦<StreamLink<T> as Link>⟧.sent self.old) (⟦<StreamLink<T> as Link>⟧.sent self.new) (sent_by to bytes.now result ∷ []) }
         ensures received { ⟦<StreamLink<T> as Link>⟧.received self.new ≡ ⟦<StreamLink<T> as Link>⟧.received self.old }
         ensures others { self.new.framed.faults ≡ self.old.framed.faults }
+        ensures made { (self.new.framed.peers ≡ self.old.framed.peers) × (self.new.is_told ≡ self.old.is_told) }
         ensures sends { Sends to bytes.now (framing self.old.framed.framer) (T.calls self.old.framed.streams) (T.written self.old.framed.streams) (framing self.new.framed.framer) (T.calls self.new.framed.streams) (T.written self.new.framed.streams) }
         ensures polled { T.polled self.new.framed.streams ≡ T.polled self.old.framed.streams }
     {
@@ -122,6 +124,7 @@ impl<T: Streams> Link for StreamLink<T> {
         ensures others { self.new.framed.send_faults ≡ self.old.framed.send_faults }
         // one that told its receives tells them still, where its streams do
         ensures told { self.new.is_told ≡ self.old.is_told }
+        ensures most { self.new.framed.peers ≡ self.old.framed.peers }
         ensures heard { IsReceived (framing self.old.framed.framer) (T.calls self.old.framed.streams) (T.polled self.old.framed.streams) (framing self.new.framed.framer) (T.calls self.new.framed.streams) (T.polled self.new.framed.streams) to.new.items result }
     {
         self.framed.receive(to)
