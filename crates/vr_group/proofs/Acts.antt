@@ -5,9 +5,11 @@ use Rattle.std.specs.List.{range_with_len}
 use Rattle.std.specs.Option.{option_map_or}
 use Rattle.std.proofs.lemmas.List.FromFn.{map-range_with_len_more}
 use Rattle.std.proofs.lemmas.List.{append-nil}
+use Rattle.std.proofs.Math.Nat.{mod-lt}
 use Rattle.std.proofs.lemmas.Option.{slice_get_past, slice_get-get_or}
 use Rattle.vr_base.specs.declared.kind.Kind.{Kind}
 use Rattle.vr_base.specs.declared.memory.NoMemory.{NoMemory}
+use Rattle.vr_msg.specs.declared.event.Event.{Event}
 use Rattle.vr_msg.specs.declared.event.Event.TheVariants as event
 use Rattle.vr_msg.specs.declared.output.Output.{Output}
 use Rattle.vr_msg.specs.declared.output.Sent.{Sent}
@@ -80,11 +82,6 @@ pub happened_as : (w : World Lying) (index : ℕ) (act : Act) (ms : List (Host L
 happened_as w index act ms sent out before now h e k = rw (e, k) (happened w index act ms out before h)
 
 -- nothing was put out
-pub happened_quietly : (w : World Lying) (index : ℕ) (act : Act) (ms : List (Host Lying)) (before : Outputs) → HaveActed act w.members ms index []
-    → HasHappened (at_member w index act) w (record { n = w.n; members = ms; sent = w.sent }) before before
-unfolding messages numbered
-happened_quietly w index act ms before h = happened_as w index act ms w.sent [] before before h (sym (append-nil w.sent)) (sym (outputs_none before))
-
 pub nothing_happened : (w : World Lying) (before : Outputs) → HasHappened (nothing w) w w before before
 unfolding numbered
 nothing_happened w before = record { world = refl; outputs = sym (outputs_none before) }
@@ -111,12 +108,19 @@ pub hosts_more : (kind : Kind) (n k : ℕ) (hs : List (Host Lying)) (h : Host Ly
     → hs ++ h ∷ [] ≡ map (fresh_host hazards kind n) (range_with_len 0 (k + 1))
 hosts_more kind n k hs h e f = rw (e, f) (sym (map-range_with_len_more (fresh_host hazards kind n) 0 k k (omega arith)))
 
--- the message that is there
-pub letter_is : (w : World Lying) (at : ℕ) (s : Sent) (o : Option Sent) → o ≡ Some s → o ≡ slice_get w.sent at → slice_get w.sent at ≡ Some s
-letter_is w at s o e f = sym f ∙ e
-
-pub delivered_to : (w : World Lying) (at : ℕ) (s : Sent) (ms : List (Host Lying)) (sent : List Sent) (out : List Output) (before now : Outputs) → slice_get w.sent at ≡ Some s
+delivered_to : (w : World Lying) (at : ℕ) (s : Sent) (ms : List (Host Lying)) (sent : List Sent) (out : List Output) (before now : Outputs) → slice_get w.sent at ≡ Some s
     → HaveActed (handles hazards (event.Deliver s.message)) w.members ms s.to out → sent ≡ w.sent ++ messages out → now ≡ with_outputs before (numbered (length w.sent) out)
     → HasHappened (delivered hazards w (slice_get w.sent at)) w (record { n = w.n; members = ms; sent = sent }) before now
 delivered_to w at s ms sent out before now there h i j =
     delivered_there w (record { n = w.n; members = ms; sent = sent }) at s before now there (happened_as w s.to (handles hazards (event.Deliver s.message)) ms sent out before now h i j)
+
+-- the message of a number, counted from the front again past the last
+pub letter_delivered : (w : World Lying) (number count to : ℕ) (e : Event) (s : Sent) (ms : List (Host Lying)) (sent : List Sent) (out : List Output) (before now : Outputs) → count ≡ length w.sent → 0 < count → s ≡ get_or w.sent (number % count) s → to ≡ s.to → e ≡ event.Deliver s.message
+    → HaveActed (handles hazards e) w.members ms to out → sent ≡ w.sent ++ messages out → now ≡ with_outputs before (numbered (length w.sent) out)
+    → HasHappened (happens hazards w (Arrives number)) w (record { n = w.n; members = ms; sent = sent }) before now
+letter_delivered w number count to e s ms sent out before now size some is there told h i j =
+    let less = mod-lt number some in
+    let within : number % count < length w.sent = omega (arith, size, less) in
+    let found : slice_get w.sent (number % length w.sent) ≡ Some s = ap (λ k. slice_get w.sent (number % k)) (sym size) ∙ (slice_get-get_or w.sent (number % count) s within ∙ ap Some (sym is)) in
+    let acted : HaveActed (handles hazards (event.Deliver s.message)) w.members ms s.to out = subst (λ (e : Event). HaveActed (handles hazards e) w.members ms s.to out) told (subst (λ at. HaveActed (handles hazards e) w.members ms at out) there h) in
+    delivered_to w (number % length w.sent) s ms sent out before now found acted i j

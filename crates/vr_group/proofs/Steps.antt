@@ -8,9 +8,11 @@ use Rattle.vr_base.specs.declared.memory.NoMemory.{NoMemory as WantsMemory}
 use Rattle.vr_base.specs.declared.table.Config.{Config}
 use Rattle.vr_disk.specs.DiskState.{Call, Disk, Face, Fate, Front, runs}
 use Rattle.vr_msg.specs.declared.event.Event.{Event}
+use Rattle.vr_msg.specs.declared.event.Event.TheVariants as event
 use Rattle.vr_msg.specs.declared.output.Output.{Output}
 use Rattle.vr_msg.specs.declared.output.Output.TheVariants as output
 use Rattle.vr_msg.specs.declared.output.Sent.{Sent}
+use Rattle.vr_msg.specs.declared.request.RequestFields.{RequestFields}
 use Rattle.vr_replica.specs.Making.{Made}
 use Rattle.vr_replica.specs.Recovering.{RecoveredAny, opens_as}
 use Rattle.vr_replica.proofs.Opens.{opens_in}
@@ -29,7 +31,7 @@ use Rattle.vr_replica.specs.Replica.{Replica, version}
 use Rattle.vr_replica.specs.Rules.{react}
 use Rattle.vr_replica.specs.Sectors.{sectors_by}
 use Rattle.vr_replica.specs.Steps.{Step, Word}
-use Rattle.vr_lying.specs.World.{Acted, Host, acts, fresh_host, fresh_world, handles, starts, stays}
+use Rattle.vr_lying.specs.World.{Acted, Host, acts, asks, fresh_host, fresh_world, handles, in_version, starts, stays}
 use Rattle.vr_lying.specs.Told.{IsTold, burnt, host_on, lying_in, next_held}
 use Rattle.vr_lying.specs.Disks.{calm, told_by}
 use Rattle.vr_lying.specs.declared.disk.HostDisk.{HostDisk}
@@ -142,6 +144,11 @@ front_told n cs d e t h =
 
 pub host_went : (n : ℕ) (index : ℕ) (event : Event) (r q : Running) (d e : Disk) (o : List Output) → IsHostBy n (Some r) d → Does (react event) r.memory q.memory (Some d) (Some e) [] o (Ok tt) → HasActed (handles hazards event index (host_by n (Some r) d)) (host_by n (Some q) e) o
 host_went n index event r q d e o t h = (step_goes n index event r.memory q.memory d e o t.told t.version h).0
+
+-- a request is handled in the version of the file, which is the replica's
+pub asked_on : (n : ℕ) (index : ℕ) (q : RequestFields) (r : Option Running) (d : Disk) → IsHostBy n r d → handles hazards (event.Request (in_version n q)) index (host_by n r d) ≡ asks hazards q index (host_by n r d)
+asked_on n index q None d h = refl
+asked_on n index q (Some r) d h = ap (λ k. acts hazards index (host_by n (Some r) d) (react (event.Request (in_version k q)) hazards.setting r.memory (lying_in n d))) (sym h.version)
 
 pub host_runs : (n : ℕ) (event : Event) (r q : Running) (d e : Disk) (o : List Output) → IsHostBy n (Some r) d → Does (react event) r.memory q.memory (Some d) (Some e) [] o (Ok tt) → q.running ≡ true → IsHostBy n (Some q) e
 host_runs n event r q d e o t h k = record { running = k; version = h.same refl ∙ t.version; told = (step_goes n 0 event r.memory q.memory d e o t.told t.version h).1 }

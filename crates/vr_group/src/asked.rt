@@ -1,5 +1,5 @@
 //! What clients ask.
-ghost use Rattle.std.specs.Prelude.{◌≡◌, ◌<◌, ◌^◌, IfOk, OnOk, max};
+ghost use Rattle.std.specs.Prelude.{◌≡◌, ◌<◌, ◌^◌, IfOk, max};
 ghost use Rattle.vr_lying.specs.World.{in_version};
 ghost use Rattle.vr_msg.specs.declared.event.Event.TheVariants as event;
 ghost use Rattle.vr_replica.specs.Fit.{IsAsked};
@@ -8,20 +8,19 @@ use std::alloc::{AllocError, Global};
 use vr_base::Version;
 use vr_msg::{Event, Request, RequestFields};
 
-/// A request that says the same. It can be asked.
-pub fn copied(alloc: Global, request: &Request) -> Result<Request, AllocError>
-    ensures same { IfOk result (λ q. q ≡ request.now) }
-    ensures asked { OnOk result (IsAsked request.now) }
-    ensures cluster { OnOk result (request.now.cluster < 2 ^ 64) }
+/// What a request says. It can be asked.
+pub fn what_is_asked(request: &Request) -> &RequestFields
+    ensures same { result.now ≡ request.now }
+    ensures asked { IsAsked request.now }
+    ensures cluster { request.now.cluster < 2 ^ 64 }
 {
     let fields = request.fields();
-    Ok(Request::new(RequestFields {
-        version: fields.version,
-        cluster: fields.cluster,
-        client: fields.client,
-        request: fields.request,
-        operation: fields.operation.try_clone(alloc)?,
-    }))
+    // Each is in the range of its type, since it was read.
+    let _version = fields.version.get();
+    let _cluster = fields.cluster;
+    let _client = fields.client;
+    let _request = fields.request;
+    fields
 }
 
 // The later one of two versions.
@@ -33,16 +32,15 @@ fn later(one: Version, other: Version) -> Version
 
 /// The event that a request is to a replica on a file of this version: it is made in that version, where it isn't of a later one.
 #[tactic(auto, using(crate::proofs::Asks::later_fits))]
-pub fn asked(version: Version, request: Request) -> Event
-    requires { IsAsked request }
-    ensures { result ≡ event.Request (in_version version request) }
+pub fn asked(alloc: Global, version: Version, request: &RequestFields) -> Result<Event, AllocError>
+    requires { IsAsked request.now }
+    ensures { IfOk result (λ e. e ≡ event.Request (in_version version request.now)) }
 {
-    let fields = request.into_fields();
-    Event::Request(Request::new(RequestFields {
-        version: later(fields.version, version),
-        cluster: fields.cluster,
-        client: fields.client,
-        request: fields.request,
-        operation: fields.operation,
-    }))
+    Ok(Event::Request(Request::new(RequestFields {
+        version: later(request.version, version),
+        cluster: request.cluster,
+        client: request.client,
+        request: request.request,
+        operation: request.operation.try_clone(alloc)?,
+    })))
 }

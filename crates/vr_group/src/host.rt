@@ -1,27 +1,27 @@
 //! What hosts a member of the group.
-ghost use Rattle.std.specs.Prelude.{◌≡◌, ◌-◌, ◌<◌, ◌≤◌, ◌∷◌, [], Some, None, IfOk, OnOk, is_some, true};
+ghost use Rattle.std.specs.Prelude.{◌≡◌, ◌<◌, ◌∷◌, [], None, IfOk, OnOk, true};
 ghost use Rattle.std.specs.Option.{option_map_or};
 ghost use Rattle.vr_base.specs.Groups.{is_size};
-ghost use Rattle.vr_lie.specs.Faults.{IsFault};
 ghost use Rattle.vr_lie.specs.Opens as superblock;
 ghost use Rattle.vr_lie.specs.Told.{version_by};
 ghost use Rattle.vr_lying.specs.Lying.{hazards, settled};
-ghost use Rattle.vr_lying.specs.World.{asks, fresh_host, handles, lies, migrates, starts};
+ghost use Rattle.vr_lying.specs.World.{fresh_host, handles, migrates, starts};
 ghost use Rattle.vr_msg.specs.declared.output.Output.TheVariants as output;
-ghost use Rattle.vr_replica.specs.Fit.{IsAsked};
 ghost use Rattle.vr_lying.specs.Disks.{lying_of, told_by};
 ghost use Rattle.vr_lying.specs.Laws.{revived};
 ghost use Rattle.vr_lying.specs.Told.{IsTold};
+ghost use Rattle.vr_group.specs.Deeds.{IsDeed, act_of};
 ghost use Rattle.vr_group.specs.Hosts.{HasActed, IsHost, host_of};
 ghost use Rattle.vr_group.specs.Views.{view_of};
 
+use crate::Deed;
 use crate::asked::asked;
 use std::alloc::Global;
 use std::marker::Model;
 use vr_base::{Config, Kind, NoMemory, Version};
-use vr_lie::{Fault, Faulted, opens};
+use vr_lie::{Faulted, opens};
 use vr_lying::HostDisk;
-use vr_msg::{Event, Outbox, Output, Request};
+use vr_msg::{Event, Outbox, Output};
 use vr_replica::{Halt, Refusal, Replica};
 
 /// A member's replica, none while it is stopped, and its disk.
@@ -43,30 +43,6 @@ impl Model for Host {
     ghost invariant = { λ h. IsHost h.replica h.disk };
 }
 
-// The disk of a member of a new group, with its replica.
-fn make_replica(alloc: Global, index: u8, n: u8, kind: &Kind) -> Result<Host, NoMemory>
-    requires size { is_size kind.now.version n ≡ true }
-    requires member { index < n }
-    ensures { IfOk result (λ h. h ≡ fresh_host hazards kind.now n index) }
-{
-    let mut disk = HostDisk::new(alloc, kind.version)?;
-    let config = Config {
-        cluster: 0,
-        replica: index,
-        n,
-    };
-    match Replica::fresh(alloc, &mut disk, &config, *kind) {
-        Ok(replica) => Ok(Host {
-            replica: Some(replica),
-            disk,
-        }),
-        Err(_) => {
-            drop(disk);
-            Err(NoMemory)
-        }
-    }
-}
-
 // A fuse has cut a call: the replica is gone, and the next calls go through again.
 fn halt(
     replica: &mut Option<Replica>,
@@ -86,7 +62,7 @@ fn halt(
     Ok(())
 }
 
-// A replica that runs handles an event.
+// A replica that runs handles an event; a stopped one doesn't.
 fn step_on(
     replica: &mut Option<Replica>,
     disk: &mut HostDisk,
@@ -95,11 +71,11 @@ fn step_on(
     event: &Event,
     out: &mut Outbox,
 ) -> Result<(), NoMemory>
-    requires { IsHost replica.old disk.old }
+    requires host { IsHost replica.old disk.old }
+    requires empty { out.old ≡ [] }
     ensures host { IsHost replica.new disk.new }
     ensures acted { OnOk result (HasActed (handles hazards event.now index (host_of replica.old disk.old)) (host_of replica.new disk.new) out.new) }
 {
-    out.clear();
     let Some(running) = replica else {
         return Ok(());
     };
@@ -139,7 +115,7 @@ fn recover_on(
     }
 }
 
-// A member is started.
+// A member is recovered. Where it runs, or its superblock doesn't open, nothing happens.
 fn start_on(
     replica: &mut Option<Replica>,
     disk: &mut HostDisk,
@@ -147,11 +123,11 @@ fn start_on(
     index: u8,
     out: &mut Outbox,
 ) -> Result<(), NoMemory>
-    requires { IsHost replica.old disk.old }
+    requires host { IsHost replica.old disk.old }
+    requires empty { out.old ≡ [] }
     ensures host { IsHost replica.new disk.new }
     ensures acted { OnOk result (HasActed (starts hazards index (host_of replica.old disk.old)) (host_of replica.new disk.new) out.new) }
 {
-    out.clear();
     if replica.is_some() {
         return Ok(());
     }
@@ -215,7 +191,8 @@ fn migrate_on(
     }
 }
 
-// A member is migrated.
+// The file of a member becomes one of version 2. Where it runs, or its file is of that version already, or its superblock doesn't open,
+// nothing happens.
 fn move_on(
     replica: &mut Option<Replica>,
     disk: &mut HostDisk,
@@ -223,11 +200,11 @@ fn move_on(
     index: u8,
     out: &mut Outbox,
 ) -> Result<(), NoMemory>
-    requires { IsHost replica.old disk.old }
+    requires host { IsHost replica.old disk.old }
+    requires empty { out.old ≡ [] }
     ensures host { IsHost replica.new disk.new }
     ensures acted { OnOk result (HasActed (migrates hazards index (host_of replica.old disk.old)) (host_of replica.new disk.new) out.new) }
 {
-    out.clear();
     if replica.is_some() || disk.version().get() == 2 {
         return Ok(());
     }
@@ -256,66 +233,69 @@ impl Host {
         requires member { index < n }
         ensures { IfOk result (λ h. h ≡ fresh_host hazards kind.now n index) }
     {
-        make_replica(alloc, index, n, kind)
+        let mut disk = HostDisk::new(alloc, kind.version)?;
+        let config = Config {
+            cluster: 0,
+            replica: index,
+            n,
+        };
+        match Replica::fresh(alloc, &mut disk, &config, *kind) {
+            Ok(replica) => Ok(Host {
+                replica: Some(replica),
+                disk,
+            }),
+            Err(_) => {
+                drop(disk);
+                Err(NoMemory)
+            }
+        }
     }
 
-    /// An event reaches it. Where it is stopped, nothing happens.
-    pub fn handle(
+    /// What is done to it.
+    pub fn act(
         &mut self,
         alloc: Global,
         index: u8,
-        event: &Event,
+        deed: &Deed<'_>,
         out: &mut Outbox,
     ) -> Result<(), NoMemory>
-        ensures { OnOk result (HasActed (handles hazards event.now index self.old) self.new out.new) }
+        requires deed { IsDeed deed.now }
+        requires empty { out.old ≡ [] }
+        ensures { OnOk result (HasActed (act_of deed.now index self.old) self.new out.new) }
     {
-        step_on(&mut self.replica, &mut self.disk, alloc, index, event, out)
-    }
-
-    /// A client asks it, in the version of its file, where the request isn't of a later one. Where it is stopped, nothing happens.
-    pub fn ask(
-        &mut self,
-        alloc: Global,
-        index: u8,
-        request: Request,
-        out: &mut Outbox,
-    ) -> Result<(), NoMemory>
-        requires { IsAsked request }
-        ensures { OnOk result (HasActed (asks hazards request index self.old) self.new out.new) }
-    {
-        let event = asked(self.disk.version(), request);
-        let handled = self.handle(alloc, index, &event, out);
-        drop(event);
-        handled
-    }
-
-    /// It loses its memory.
-    pub fn stop(&mut self)
-        ensures { self.new ≡ record self.old { replica = None } }
-    {
-        drop(self.replica.take());
-    }
-
-    /// It is recovered. Where it runs, or its superblock doesn't open, nothing happens.
-    pub fn start(&mut self, alloc: Global, index: u8, out: &mut Outbox) -> Result<(), NoMemory>
-        ensures { OnOk result (HasActed (starts hazards index self.old) self.new out.new) }
-    {
-        start_on(&mut self.replica, &mut self.disk, alloc, index, out)
-    }
-
-    /// Its file becomes one of version 2. Where it runs, or its file is of that version already, or its superblock doesn't open, nothing happens.
-    pub fn migrate(&mut self, alloc: Global, index: u8, out: &mut Outbox) -> Result<(), NoMemory>
-        ensures { OnOk result (HasActed (migrates hazards index self.old) self.new out.new) }
-    {
-        move_on(&mut self.replica, &mut self.disk, alloc, index, out)
-    }
-
-    /// The `j`-th call of its disk from now on is cut by this code.
-    pub fn fuse(&mut self, j: u64, code: u64)
-        requires { 1 ≤ j }
-        ensures { self.new ≡ record self.old { fuse = Some (record { calls = j - 1; code = code }) } }
-    {
-        self.disk.fuse(j, code);
+        match deed {
+            Deed::Handle(event) => step_on(
+                &mut self.replica,
+                &mut self.disk,
+                alloc,
+                index,
+                event,
+                out,
+            ),
+            Deed::Ask(request) => {
+                let event = asked(alloc, self.disk.version(), request)?;
+                let handled = step_on(&mut self.replica, &mut self.disk, alloc, index, &event, out);
+                drop(event);
+                handled
+            }
+            Deed::Stop => {
+                drop(self.replica.take());
+                Ok(())
+            }
+            Deed::Start => start_on(&mut self.replica, &mut self.disk, alloc, index, out),
+            Deed::Migrate => move_on(&mut self.replica, &mut self.disk, alloc, index, out),
+            Deed::Fuse { call, code } => {
+                self.disk.fuse(*call, *code);
+                Ok(())
+            }
+            Deed::Lie(fault) => {
+                match self.disk.fault(fault) {
+                    Faulted::Done => out.push(Output::Done)?,
+                    Faulted::KeptOut => out.push(Output::KeptOut)?,
+                }
+                Ok(())
+            }
+        }
     }
 
     /// The view of its replica; where it is stopped, that of the value that its disk opens as. It stays as it is.
@@ -324,18 +304,5 @@ impl Host {
         ensures same { self.new ≡ self.old }
     {
         view_on(&self.replica, &mut self.disk)
-    }
-
-    /// Its disk begins to lie, unless the fault is kept out.
-    pub fn lie(&mut self, index: u8, fault: &Fault, out: &mut Outbox) -> Result<(), NoMemory>
-        requires { IsFault fault.now }
-        ensures { OnOk result (HasActed (lies hazards fault.now index self.old) self.new out.new) }
-    {
-        out.clear();
-        match self.disk.fault(fault) {
-            Faulted::Done => out.push(Output::Done)?,
-            Faulted::KeptOut => out.push(Output::KeptOut)?,
-        }
-        Ok(())
     }
 }

@@ -129,7 +129,7 @@ fn share(letter: &Letter, frame: &Frame) -> Result<Option<Rc<Event>>, AllocError
     }
 }
 
-// The same of one of the last letters.
+// The event that one of the last letters shares so, the latest first.
 fn share_last(letters: &[Letter], frame: &Frame) -> Result<Option<Rc<Event>>, AllocError>
     ensures { IfOk result (λ found. IfSome found (λ kept. kept.value ≡ event.Deliver frame.now)) }
 {

@@ -2,6 +2,7 @@
 #![tactic(auto)]
 
 mod asked;
+mod deed;
 mod host;
 mod hosts;
 mod kept;
@@ -12,6 +13,7 @@ mod same;
 mod views;
 mod world;
 
+pub use deed::Deed;
 pub use host::Host;
 pub use kept::{Delivery, Kept};
 pub use letter::Letter;

@@ -106,7 +106,7 @@ fn record_output(
     to.puts.push(put_of(alloc, number, sent, output)?)
 }
 
-/// The same for each output.
+/// Each output, in order.
 #[tactic(auto, using(std::proofs::lemmas::Grind::common_steps, crate::proofs::Numbering::messages_more, crate::proofs::Numbering::messages_none, crate::proofs::Numbering::outputs_more, crate::proofs::Numbering::outputs_end))]
 pub fn record_outputs(
     alloc: Global,

@@ -1,4 +1,4 @@
-use Rattle.std.proofs.Common.{◌≡◌, ◌∙◌, sym}
+use Rattle.std.proofs.Common.{◌∙◌, sym}
 use Rattle.vr_header.specs.Same.{same_header}
 use Rattle.vr_header.proofs.SameHeaders.{same_header_is}
 use Rattle.vr_group.proofs.same.is_header.Goals as goal

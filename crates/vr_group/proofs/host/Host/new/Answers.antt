@@ -3,7 +3,7 @@ use Rattle.vr_lying.specs.Disks.{told_by}
 use Rattle.vr_lying.specs.Lying.{Lying, blank_lying}
 use Rattle.vr_lying.specs.Told.{lying_in}
 use Rattle.vr_group.proofs.Steps.{fresh_host_made}
-use Rattle.vr_group.proofs.host.make_replica.Goals as goal
+use Rattle.vr_group.proofs.host.Host.new.Goals as goal
 
 pub invariant_of-result : goal.invariant_of-result
 invariant_of-result c =

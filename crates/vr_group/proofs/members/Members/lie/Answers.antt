@@ -1,7 +1,0 @@
-use Rattle.vr_group.specs.Group.{world_of}
-use Rattle.vr_group.proofs.Acts.{happened_as}
-use Rattle.vr_group.proofs.members.Members.lie.Goals as goal
-
-pub returns : goal.returns
-returns c =
-    happened_as (world_of c.args.self.now) c.args.replica _ c.lie_at.new.hosts.items c.record_outputs.new.sent c.lie_at.new.out c.args.to.now c.record_outputs.new.to c.in_ok-lie_at.ensures c.in_ok-record_outputs.ensures.sent c.in_ok-record_outputs.ensures.numbered
