@@ -14,7 +14,7 @@ use vr_real::{
     FileDisk, RealClock, RealLink, RealSpawner, SocketLink, StdSink, StdSource,
     take_missing_streams, take_stack,
 };
-use vr_top::{Maker, Untold, run_outside};
+use vr_top::{Maker, Program, Untold, run_outside};
 
 /// The runtime's hand: it makes what is outside, and tells the program's words and where it stands. It doesn't tell what it made.
 #[derive(Drop)]
@@ -47,15 +47,6 @@ impl<'r> Maker for Hand<'r> {
 
     ghost made = { λ _. None };
 
-    fn take_ground(&mut self) -> bool {
-        take_missing_streams() && take_stack(self.rt.alloc())
-    }
-
-    fn words(&mut self) -> Result<Vec<String>, Untold> {
-        let words = args(self.rt).map_err(untold)?;
-        words.collect(self.rt.alloc()).map_err(|_| Untold::NoMemory)
-    }
-
     fn source(&mut self) -> StdSource<Stdin> {
         StdSource::new(self.rt.stdin())
     }
@@ -78,15 +69,26 @@ impl<'r> Maker for Hand<'r> {
         RealClock::new(self.rt)
     }
 
-    fn path(&mut self) -> Result<PathBuf, Untold> {
-        current_exe(self.rt).map_err(untold)
-    }
-
     // As the trait says of a maker that tells nothing.
     fn spawner(&mut self, path: Option<PathBuf>) -> Self::Spawner
         ensures { Grows {X = ℕ} None None [] }
     {
         RealSpawner::new(self.rt.alloc(), self.rt, path)
+    }
+}
+
+impl<'r> Program for Hand<'r> {
+    fn take_ground(&mut self) -> bool {
+        take_missing_streams() && take_stack(self.rt.alloc())
+    }
+
+    fn words(&mut self) -> Result<Vec<String>, Untold> {
+        let words = args(self.rt).map_err(untold)?;
+        words.collect(self.rt.alloc()).map_err(|_| Untold::NoMemory)
+    }
+
+    fn path(&mut self) -> Result<PathBuf, Untold> {
+        current_exe(self.rt).map_err(untold)
     }
 }
 

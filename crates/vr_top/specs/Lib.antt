@@ -3,6 +3,7 @@ pub mod Roles
 pub mod Answers
 pub mod Causes
 pub mod Ends
+pub mod Run
 pub mod Telling
 pub mod Making
 pub mod Beginning

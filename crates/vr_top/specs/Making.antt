@@ -1,9 +1,10 @@
 -- What a maker tells of its calls.
 use Rattle.std.specs.Global.{Global}
-use Rattle.std.specs.Prelude.{ℕ, Bool, List, Option, Result, Ok, Err, String, Vec}
+use Rattle.std.specs.Prelude.{ℕ, Bool, List, [], ◌∷◌, Option, Result, Ok, Err, String, Vec}
 use Rattle.std.specs.declared.alloc.AllocError.{AllocError}
 use Rattle.vr_edge.specs.Attaching.{texts_of}
-use Rattle.vr_top.specs.declared.maker.Untold.{Untold}
+use Rattle.vr_edge.specs.Told.{Grows}
+use Rattle.vr_top.specs.declared.program.Untold.{Untold}
 
 -- a call of a maker, with what it gave
 pub data Making (S K D L C P T : Type 0) : Type 0 where
@@ -21,3 +22,7 @@ pub data Making (S K D L C P T : Type 0) : Type 0 where
 abbrev pub texts_told : Result (Vec (String Global) Global) Untold → Result (List (List ℕ)) Untold
 texts_told (Ok words) = Ok (texts_of words.items)
 texts_told (Err why) = Err why
+
+-- a maker was called so, where it tells it
+abbrev pub Gives : {M X : Type 0} → (M → Option (List X)) → M → M → X → Type 0
+Gives made maker maker' call = Grows (made maker) (made maker') (call ∷ [])

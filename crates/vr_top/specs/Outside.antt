@@ -43,23 +43,40 @@ pub record Spawner (P : Type 0) : Type 0 where
   pub calls : Option (List SpawnCall)
   pub faults : ℕ
 
--- Two that are equal are so object by object: none was changed.
-pub record Outside (S K D L C P : Type 0) : Type 0 where
+-- All but the spawner. Two that are equal are so object by object: none was changed.
+pub record Outside (S K D L C : Type 0) : Type 0 where
   pub source : Source S
   pub sink : Sink K
   pub disk : Disk D
   pub link : Link L
   pub clock : Clock C
+
+-- What a trial has a use for, the spawner being its alone.
+pub record TrialOutside (K L P : Type 0) : Type 0 where
+  pub sink : Sink K
+  pub link : Link L
   pub spawner : Spawner P
 
--- the outside of these objects, by their traits
-abbrev pub outside : {S K D L C P : Type 0} → of_source.Ghosts S → of_sink.Ghosts K → of_disk.Ghosts D → of_link.Ghosts L → of_clock.Ghosts C → of_spawner.Ghosts P
-    → S → K → D → L → C → P → Outside S K D L C P
-outside s k d l c p source sink disk link clock spawner = record {
+-- ---- what these objects tell, by their traits
+
+abbrev pub sink_by : {K : Type 0} → of_sink.Ghosts K → K → Sink K
+sink_by k sink = record { object = sink; taken = k.taken sink; faults = k.faults sink }
+
+abbrev pub link_by : {L : Type 0} → of_link.Ghosts L → L → Link L
+link_by l link = record { object = link; attached = l.attached link; sent = l.sent link; received = l.received link; faults = l.faults link }
+
+abbrev pub outside : {S K D L C : Type 0} → of_source.Ghosts S → of_sink.Ghosts K → of_disk.Ghosts D → of_link.Ghosts L → of_clock.Ghosts C → S → K → D → L → C → Outside S K D L C
+outside s k d l c source sink disk link clock = record {
   source = record { object = source; left = s.left source; faults = s.faults source };
-  sink = record { object = sink; taken = k.taken sink; faults = k.faults sink };
+  sink = sink_by k sink;
   disk = record { object = disk; told = d.told disk; faults = d.faults disk };
-  link = record { object = link; attached = l.attached link; sent = l.sent link; received = l.received link; faults = l.faults link };
+  link = link_by l link;
   clock = record { object = clock; left = c.left clock };
+}
+
+abbrev pub trial_outside : {K L P : Type 0} → of_sink.Ghosts K → of_link.Ghosts L → of_spawner.Ghosts P → K → L → P → TrialOutside K L P
+trial_outside k l p sink link spawner = record {
+  sink = sink_by k sink;
+  link = link_by l link;
   spawner = record { object = spawner; calls = p.calls spawner; faults = p.faults spawner };
 }

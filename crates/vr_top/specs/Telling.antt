@@ -1,5 +1,9 @@
 -- What a program says of its end.
-use Rattle.std.specs.Prelude.{ℕ, ◌==◌, Bool, true, false, if◌then◌else◌, List, [], ◌++◌, length, codes}
+use Rattle.std.specs.Io.KnownBytes.{Appends}
+use Rattle.std.specs.Prelude.{ℕ, ◌==◌, ◌≡◌, ◌⊎◌, Bool, true, false, if◌then◌else◌, List, [], ◌++◌, length, codes}
+use Rattle.vr_base.specs.Causes.{Rose}
+use Rattle.vr_edge.specs.Told.{AppendsFront}
+use Rattle.vr_edge.specs.declared.sink.Sink as of_sink
 use Rattle.vr_status.specs.Texts.{status_text}
 use Rattle.vr_status.specs.declared.status.Status.{Status}
 use Rattle.vr_status.specs.declared.status.Status.TheVariants.{Refused, OtherMember}
@@ -13,3 +17,8 @@ abbrev pub takes_memory : Status → Bool
 takes_memory (Refused line) = true
 takes_memory (OtherMember found asked) = true
 takes_memory _ = false
+
+-- The line of a status goes out: a front of it where a write fails. Where memory is short nothing does, of one that takes memory.
+pub record Tells {E : Type 0} (e : of_sink.Ghosts E) (status : Status) (errors errors' : E) : Type 0 where
+  pub front : AppendsFront (e.taken errors) (e.taken errors') (line_of status)
+  pub whole : ¬ Rose (e.faults errors) (e.faults errors') → Appends (e.taken errors) (e.taken errors') (line_of status) ⊎ ((takes_memory status ≡ true) × (errors' ≡ errors))

@@ -1,50 +1,69 @@
 //! The run of a program, by its words.
-ghost use Rattle.std.specs.Prelude.{Some, map, string_bytes};
-ghost use Rattle.vr_top.specs.Ends.{Ends, HasOneLog};
-ghost use Rattle.vr_top.specs.Outside.{outside};
+ghost use Rattle.std.specs.Prelude.{map, string_bytes};
+ghost use Rattle.vr_top.specs.Ends.{HasOneLog};
 ghost use Rattle.vr_top.specs.Roles.{IsGood};
+ghost use Rattle.vr_top.specs.Run.{Obeys, RunEnds, RunTries};
 ghost use Rattle.vr_words.specs.Asked.{asked, says};
 
-use crate::roles::{ask_group, serve_role, try_group};
+use crate::outside::Outside;
+use crate::roles::{plan_of, role_of};
 use std::alloc::Global;
+use vr_ask::run_client;
 use vr_disk::SectorDisk;
 use vr_edge::{Clock, Link, Sink, Source};
-use vr_node::run_migration;
+use vr_node::{run_migration, run_node};
 use vr_replay::replay;
 use vr_soak::soak;
 use vr_spawn::Spawner;
 use vr_status::Status;
+use vr_trial::run_trial;
 use vr_words::{Command, WordsFault, parse};
 
 /// Does what a command asks for.
-#[tactic(auto, using(crate::proofs::Coming::replays, crate::proofs::Coming::soaks, crate::proofs::Coming::serves, crate::proofs::Coming::asks, crate::proofs::Coming::tries, crate::proofs::Coming::moves))]
+#[tactic(auto, using(crate::proofs::Coming::replays, crate::proofs::Coming::soaks, crate::proofs::Coming::moves, crate::proofs::Coming::node_size, crate::proofs::Coming::node_member, crate::proofs::Coming::node_fits, crate::proofs::Coming::client_size, crate::proofs::Coming::client_named, crate::proofs::Coming::trial_least, crate::proofs::Coming::trial_most))]
 fn obey<S: Source, K: Sink, D: SectorDisk, L: Link, C: Clock, P: Spawner>(
     alloc: Global,
     command: Command,
-    source: &mut S,
-    sink: &mut K,
-    disk: &mut D,
-    link: &mut L,
-    clock: &mut C,
-    spawner: &mut P,
+    outside: &mut Outside<S, K, D, L, C, P>,
 ) -> Status
     requires { IsGood (says command) }
-    ensures { let told = outside S.Source K.Sink D.SectorDisk L.Link C.Clock P.Spawner in
-        Ends (Some (says command)) (told source.old sink.old disk.old link.old clock.old spawner.old) (told source.new sink.new disk.new link.new clock.new spawner.new) result }
+    ensures { Obeys S.Source K.Sink D.SectorDisk L.Link C.Clock P.Spawner (says command) outside.old outside.new result }
 {
     match command {
-        Command::Replay => replay(alloc, source, sink),
-        Command::Soak(words) => soak(alloc, words.seed, words.count, sink),
-        Command::Node(words) => serve_role(alloc, words, sink, disk, link, clock),
-        Command::Client(words) => ask_group(alloc, &words, source, sink, link),
-        Command::Trial(words) => try_group(alloc, words, sink, link, spawner),
-        Command::Migrate(words) => run_migration(alloc, &words.config, words.file.as_str(), disk),
+        Command::Replay => replay(alloc, outside.source, outside.sink),
+        Command::Soak(words) => soak(alloc, words.seed, words.count, outside.sink),
+        Command::Node(words) => run_node(
+            alloc,
+            &role_of(words),
+            outside.disk,
+            outside.link,
+            outside.clock,
+            outside.sink,
+        ),
+        Command::Client(words) => run_client(
+            alloc,
+            words.version,
+            words.cluster,
+            words.id,
+            &words.peers,
+            words.turns,
+            outside.source,
+            outside.sink,
+            outside.link,
+        ),
+        Command::Trial(words) => {
+            let plan = plan_of(words);
+            run_trial(alloc, &plan, outside.sink, outside.link, outside.spawner)
+        }
+        Command::Migrate(words) => {
+            run_migration(alloc, &words.config, words.file.as_str(), outside.disk)
+        }
     }
 }
 
 /// Does what the words of the command line ask for: `replay` plays the schedule of the source, `soak` one that a number makes, `node` serves as a
 /// member of a group, `client` asks one, `trial` starts one and tries it, and `migrate` makes a member's file one of version 2.
-#[tactic(auto, using(crate::proofs::Good::asked_good, crate::proofs::Coming::ends_by, crate::proofs::Coming::ends_none, crate::proofs::Coming::ends_short, crate::proofs::OneLog::words_have_one_log))]
+#[tactic(auto, using(crate::proofs::Good::asked_good, crate::proofs::Coming::ends_by, crate::proofs::Coming::ends_none, crate::proofs::Coming::ends_short, crate::proofs::Coming::tries_by, crate::proofs::Coming::tries_none, crate::proofs::Coming::tries_short, crate::proofs::OneLog::words_have_one_log))]
 pub fn run<S: Source, K: Sink, D: SectorDisk, L: Link, C: Clock, P: Spawner>(
     alloc: Global,
     words: &Vec<String>,
@@ -57,14 +76,24 @@ pub fn run<S: Source, K: Sink, D: SectorDisk, L: Link, C: Clock, P: Spawner>(
 ) -> Status
     // The words are read, what they ask for is done, and the answer has its cause. Objects that it has no use for are unchanged, all of them where the
     // words are no command.
-    ensures ends { let told = outside S.Source K.Sink D.SectorDisk L.Link C.Clock P.Spawner in
-        Ends (asked (map string_bytes words.now.items)) (told source.old sink.old disk.old link.old clock.old spawner.old) (told source.new sink.new disk.new link.new clock.new spawner.new) result }
+    ensures ends { RunEnds S.Source K.Sink D.SectorDisk L.Link C.Clock words.now source.old source.new sink.old sink.new disk.old disk.new link.old link.new clock.old clock.new result }
+
+    // A trial's own run. With other words the spawner is unchanged.
+    ensures trial { RunTries K.Sink L.Link P.Spawner words.now sink.old sink.new link.old link.new spawner.old spawner.new result }
 
     // Whatever the schedule of `replay`, and whatever the number of `soak`: its outputs have one log.
     ensures headline { HasOneLog (asked (map string_bytes words.now.items)) }
 {
+    let mut outside = Outside {
+        source,
+        sink,
+        disk,
+        link,
+        clock,
+        spawner,
+    };
     match parse(alloc, words.as_slice()) {
-        Ok(command) => obey(alloc, command, source, sink, disk, link, clock, spawner),
+        Ok(command) => obey(alloc, command, &mut outside),
         Err(WordsFault::Usage) => Status::Usage,
         Err(WordsFault::NoMemory) => Status::NoMemory,
     }

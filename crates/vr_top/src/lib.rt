@@ -4,11 +4,14 @@
 
 mod command;
 mod maker;
+mod outside;
+mod program;
 mod roles;
 mod telling;
 mod whole;
 
 pub use command::run;
-pub use maker::{Maker, Untold};
+pub use maker::Maker;
+pub use program::{Program, Untold};
 pub use telling::finish;
 pub use whole::run_outside;

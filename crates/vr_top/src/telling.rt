@@ -1,10 +1,7 @@
 //! What a program says of its end.
-ghost use Rattle.std.specs.Io.KnownBytes.{Appends};
-ghost use Rattle.std.specs.Prelude.{◌≡◌, ◌⊎◌, IfOk, MatchOption, string_bytes, true};
-ghost use Rattle.vr_base.specs.Causes.{Rose};
-ghost use Rattle.vr_edge.specs.Told.{AppendsFront};
+ghost use Rattle.std.specs.Prelude.{◌≡◌, IfOk, MatchOption, string_bytes, true};
 ghost use Rattle.vr_status.specs.Texts.{code_of};
-ghost use Rattle.vr_top.specs.Telling.{line_of, takes_memory};
+ghost use Rattle.vr_top.specs.Telling.{Tells, line_of, takes_memory};
 
 use std::alloc::{AllocError, Global};
 use vr_edge::{Sink, write_whole};
@@ -46,8 +43,7 @@ fn line_for(alloc: Global, status: &Status) -> Result<String, AllocError>
 /// Writes the line of a status: a front of it where a write fails, and nothing where memory is taken for it and short.
 #[tactic(auto, using(crate::proofs::Lines::no_front, crate::proofs::Lines::front_by, crate::proofs::Lines::whole_by))]
 fn tell<K: Sink>(alloc: Global, status: &Status, errors: &mut K)
-    ensures front { AppendsFront (K.taken errors.old) (K.taken errors.new) (line_of status.now) }
-    ensures whole { ¬ Rose (K.faults errors.old) (K.faults errors.new) → Appends (K.taken errors.old) (K.taken errors.new) (line_of status.now) ⊎ ((takes_memory status.now ≡ true) × (errors.new ≡ errors.old)) }
+    ensures { Tells K.Sink status.now errors.old errors.new }
 {
     if let Some(line) = fixed_line(status) {
         let _ = write_whole(errors, line.as_bytes());
@@ -64,8 +60,7 @@ pub fn finish<K: Sink>(alloc: Global, status: &Status, errors: &mut K) -> u8
     ensures code { result ≡ code_of status.now }
 
     // The line goes out, or a front of it where a write fails. Where memory is short nothing does, of the two that take memory for their line, and each other one is told still.
-    ensures front { AppendsFront (K.taken errors.old) (K.taken errors.new) (line_of status.now) }
-    ensures whole { ¬ Rose (K.faults errors.old) (K.faults errors.new) → Appends (K.taken errors.old) (K.taken errors.new) (line_of status.now) ⊎ ((takes_memory status.now ≡ true) × (errors.new ≡ errors.old)) }
+    ensures told { Tells K.Sink status.now errors.old errors.new }
 {
     tell(alloc, status, errors);
     code(status)

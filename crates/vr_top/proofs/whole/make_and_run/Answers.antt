@@ -1,5 +1,5 @@
 use Rattle.std.proofs.Common.{ap, rules}
-use Rattle.vr_top.proofs.Begun.{failed, short_of_disk, short_of_link, short_of_nothing, short_of_path, short_of_words}
+use Rattle.vr_top.proofs.Begun.{failed, ran, short_of_disk, short_of_link, short_of_nothing, short_of_path, short_of_words}
 use Rattle.vr_top.specs.Making.{texts_told}
 use Rattle.vr_top.proofs.whole.make_and_run.Goals as goal
 
@@ -26,6 +26,7 @@ returns-in_err-path g c =
 
 pub returns : goal.returns
 returns g c =
-    short_of_nothing _ _ _ _ _ _ _ _ _ _ _ _ _ _ _ _ _ _ _ _ _ _ _ _ c.in_ok-words.ensures.0 c.in_ok-words.ensures.1 c.in_ok-disk.was c.in_ok-link.was
+    short_of_nothing _ _ _ _ _ _ _ _ _ _ _ _ _ _ _ _ _ _ _ _ _ _ _ c.in_ok-words.ensures.0 c.in_ok-words.ensures.1 c.in_ok-disk.was c.in_ok-link.was
     c.in_ok-path.ensures.0 c.in_ok-path.ensures.1
-    c.words.ensures c.source-source.ensures c.sink-sink.ensures c.disk.ensures c.link.ensures c.clock-clock.ensures c.path.ensures c.spawner-spawner.ensures c.run.ensures.ends
+    c.words.ensures c.source-source.ensures c.sink-sink.ensures c.disk.ensures c.link.ensures c.clock-clock.ensures c.path.ensures c.spawner-spawner.ensures
+    (ran _ _ _ _ _ _ _ _ _ _ _ _ _ _ _ _ _ _ _ _ c.run.ensures.ends c.run.ensures.trial)
