@@ -24,6 +24,7 @@ use Rattle.vr_journal.specs.Ready.{IsReady}
 use Rattle.vr_normal.specs.declared.counting.CountRule.{CountRule}
 use Rattle.vr_normal.specs.declared.counting.CountRule.TheVariants as rule
 use Rattle.vr_normal.specs.Named.{count_rule}
+use Rattle.vr_normal.specs.Words.{is_open}
 
 -- ---- its op is open
 
@@ -31,15 +32,15 @@ record Open (a : PrepareOk) (r : Replica) : Type 0 where
   above : r.commit < a.op
   known : a.op ≤ head r
 
-open_parts : (a : PrepareOk) (r : Replica) (named : Bool) → (leads r && ((a.view == r.view) && (nat_lt r.commit a.op && (nat_le a.op (head r) && named)))) ≡ true → Open a r
-open_parts a r named t =
+open_parts : (a : PrepareOk) (r : Replica) → is_open a r ≡ true → Open a r
+open_parts a r t =
     let view = (and_parts (leads r) _ t).1 in
     let above = (and_parts (a.view == r.view) _ view).1 in
     let p = and_parts (nat_lt r.commit a.op) _ above in
     record { above = ltb-true r.commit a.op p.0; known = leb-true a.op (head r) (and_parts (nat_le a.op (head r)) _ p.1).0 }
 
 open_by : (a : PrepareOk) (r : Replica) → first_of (prepare_ok_table name_of a r) ≡ Counted → Open a r
-open_by a r = by_rows (λ x. x ≡ Counted → Open a r) (prepare_ok_table name_of a r) (λ t e. absurd cc, λ n0. (λ t e. open_parts a r _ t, λ n1 e. absurd cc))
+open_by a r = by_rows (λ x. x ≡ Counted → Open a r) (prepare_ok_table name_of a r) (λ t e. absurd cc, λ n0. (λ t e. open_parts a r t, λ n1 e. absurd cc))
 
 -- so it has a place
 pub counted_from : (a : PrepareOk) (r : Replica) → IsReady r → first_of (prepare_ok_table name_of a r) ≡ Counted → r.first ≤ a.op

@@ -12,10 +12,9 @@ use Rattle.vr_journal.specs.Deciding.{first_of, is_from_primary, prepare_table}
 use Rattle.vr_journal.specs.Rule.{Rule}
 use Rattle.vr_journal.specs.Rule.TheVariants.{Ignored, PreparedBefore, PreparedLater, Past, Beyond, Known, Next, Ahead, Other}
 use Rattle.vr_journal.specs.Outputs.{send_to, get_view}
-use Rattle.vr_journal.specs.Replica.{Replica, last_view}
-use Rattle.vr_journal.specs.Rules.{acknowledge, ask_view, obey_prepare, on_prepare}
-use Rattle.vr_journal.specs.Steps.{◌⨾◌, change}
-use Rattle.vr_journal.specs.Words.{accept, learn, rested, write}
+use Rattle.vr_journal.specs.Replica.{Replica, last_view, window_end}
+use Rattle.vr_journal.specs.Rules.{obey_prepare, on_prepare}
+use Rattle.vr_journal.specs.Words.{rested}
 use Rattle.vr_journal.proofs.Ruling.{by_rows, group_of_primary, IsFor}
 use Rattle.vr_journal.specs.Halt.{Halt}
 use Rattle.vr_journal.specs.Does.{Does}
@@ -37,15 +36,15 @@ record Fits (p : Prepare) (r : Replica) : Type 0 where
   group : IsFor p.version p.entry.header.cluster r
   view : p.view ≤ r.log_view
   above : r.checkpoint < p.entry.header.op
-  window : p.entry.header.op ≤ r.checkpoint + 64
+  window : p.entry.header.op ≤ window_end r
 
 fits : (p : Prepare) (r : Replica) → not (is_from_primary p.version p.entry.header.cluster p.replica p.view r) ≡ false → nat_lt r.log_view p.view ≡ false → nat_le p.entry.header.op r.checkpoint ≡ false
-    → nat_lt (r.checkpoint + 64) p.entry.header.op ≡ false → Fits p r
+    → nat_lt (window_end r) p.entry.header.op ≡ false → Fits p r
 fits p r a b c d = record {
   group = group_of_primary p.version p.entry.header.cluster p.replica p.view r a;
   view = ltb-false r.log_view p.view b;
   above = leb-false p.entry.header.op r.checkpoint c;
-  window = ltb-false (r.checkpoint + 64) p.entry.header.op d;
+  window = ltb-false (window_end r) p.entry.header.op d;
 }
 
 abbrev Stored : Rule → Type 0
@@ -107,16 +106,16 @@ module _ (p : Prepare) (r r' : Replica) (d d' : Option Disk) (o o' : List Output
   obeyed x result e h = does_naming _ r r' d d' o o' result (does_by _ r r' d d' o o' result (subst (λ y. Does (obey_prepare name_of p y) r r' d d' o o' result) (sym e) h))
 
   module _ (x : PrepareRule) (result : Result (Unit {0}) Halt) (e : first_of (prepare_table name_of p r) ≡ prepare_rule x) where
-    pub prepare_past : x ≡ rule.Past → Does (change rested ⨾ learn p.commit) r r' d d' o o' result → Does (on_prepare p) r r' d d' o o' result
+    pub prepare_past : x ≡ rule.Past → Does (obey_prepare name_of p Past) r r' d d' o o' result → Does (on_prepare p) r r' d d' o o' result
     prepare_past k h = obeyed Past result (e ∙ ap prepare_rule k) h
 
-    pub prepare_known : x ≡ rule.Known → Does (change rested ⨾ accept p.entry ⨾ acknowledge name_of p.entry.header ⨾ learn p.commit) r r' d d' o o' result → Does (on_prepare p) r r' d d' o o' result
+    pub prepare_known : x ≡ rule.Known → Does (obey_prepare name_of p Known) r r' d d' o o' result → Does (on_prepare p) r r' d d' o o' result
     prepare_known k h = obeyed Known result (e ∙ ap prepare_rule k) h
 
-    pub prepare_next : x ≡ rule.Next → Does (change rested ⨾ write p.entry ⨾ acknowledge name_of p.entry.header ⨾ learn p.commit) r r' d d' o o' result → Does (on_prepare p) r r' d d' o o' result
+    pub prepare_next : x ≡ rule.Next → Does (obey_prepare name_of p Next) r r' d d' o o' result → Does (on_prepare p) r r' d d' o o' result
     prepare_next k h = obeyed Next result (e ∙ ap prepare_rule k) h
 
-    pub prepare_ahead : x ≡ rule.Ahead → Does (change rested ⨾ ask_view p.view p.replica ⨾ learn p.commit) r r' d d' o o' result → Does (on_prepare p) r r' d d' o o' result
+    pub prepare_ahead : x ≡ rule.Ahead → Does (obey_prepare name_of p Ahead) r r' d d' o o' result → Does (on_prepare p) r r' d d' o o' result
     prepare_ahead k h = obeyed Ahead result (e ∙ ap prepare_rule k) h
 
 module _ (p : Prepare) (r : Replica) (d : Option Disk) (o : List Output) (x : PrepareRule) (e : first_of (prepare_table name_of p r) ≡ prepare_rule x) where

@@ -1,15 +1,15 @@
 //! Acknowledgements are counted: prepare_oks.
-ghost use Rattle.std.specs.Prelude.{◌≡◌, ◌<◌, ◌&&◌, ◌==◌, nat_le, nat_lt, true};
+ghost use Rattle.std.specs.Prelude.{◌≡◌, true};
 ghost use Rattle.vr_base.specs.Bytes.{name_of};
 ghost use Rattle.vr_journal.specs.Ready.{IsReady};
 ghost use Rattle.vr_journal.specs.Waits.{EndsAtOnce, Waits, passes};
-ghost use Rattle.vr_journal.specs.Deciding.{first_of, is_named, prepare_ok_table};
+ghost use Rattle.vr_journal.specs.Deciding.{first_of, prepare_ok_table};
 ghost use Rattle.vr_journal.specs.Rule.TheVariants.{Counted};
-ghost use Rattle.vr_journal.specs.Replica.{head, leads};
 ghost use Rattle.vr_journal.specs.Rules.{acknowledged, on_prepare_ok};
 ghost use Rattle.vr_journal.specs.Steps.{◌⨾◌, change};
 ghost use Rattle.vr_journal.specs.Words.{advance};
 ghost use Rattle.vr_normal.specs.Named.{count_rule};
+ghost use Rattle.vr_normal.specs.Words.{is_open};
 ghost use Rattle.vr_normal.specs.declared.counting.CountRule.TheVariants as CountRule;
 ghost use Rattle.vr_journal.specs.Acts.{Acts, MayAct};
 
@@ -31,7 +31,7 @@ pub enum CountRule {
 #[tactic(auto, using(vr_journal::proofs::Memory::window_of, vr_journal::proofs::Memory::some_member))]
 fn is_open(replica: &Replica, ack: &PrepareOk) -> bool
     requires { IsReady replica.now }
-    ensures { result ≡ (leads replica.now && ((ack.now.view == replica.now.view) && (nat_lt replica.now.commit ack.now.op && (nat_le ack.now.op (head replica.now) && is_named name_of ack.now.name ack.now.op replica.now)))) }
+    ensures { result ≡ is_open ack.now replica.now }
 {
     replica.leads()
         && ack.view == replica.view()

@@ -1,24 +1,24 @@
 //! Entries of the primary are stored, and acknowledged: prepares.
-ghost use Rattle.std.specs.Prelude.{◌≡◌, ◌≤◌, ◌+◌, ◌&&◌, ◌==◌, nat_lt, true};
+ghost use Rattle.std.specs.Prelude.{◌≡◌, ◌≤◌, ◌+◌, ◌&&◌, nat_lt, true};
 ghost use Rattle.vr_base.specs.Bytes.{name_of};
-ghost use Rattle.vr_header.specs.Names.{name_by};
 ghost use Rattle.vr_journal.specs.Ready.{IsReady, MayStore};
-ghost use Rattle.vr_msg.specs.Normal.{same_sum};
 ghost use Rattle.vr_journal.specs.Waits.{EndsAtOnce, passes};
 ghost use Rattle.vr_journal.specs.Deciding.{first_of, is_unknown, prepare_table};
-ghost use Rattle.vr_journal.specs.Replica.{head, head_header, last_view};
-ghost use Rattle.vr_journal.specs.Rules.{acknowledge, ask_view, on_prepare};
+ghost use Rattle.vr_journal.specs.Replica.{head, last_view, window_end};
+ghost use Rattle.vr_journal.specs.Rule.TheVariants.{Ahead, Known, Next};
+ghost use Rattle.vr_journal.specs.Rules.{obey_prepare, on_prepare};
 ghost use Rattle.vr_journal.specs.Steps.{◌⨾◌, change};
-ghost use Rattle.vr_journal.specs.Words.{accept, learn, rested, write};
+ghost use Rattle.vr_journal.specs.Words.{learn, rested};
 ghost use Rattle.vr_normal.specs.Messages.{IsPreparing};
 ghost use Rattle.vr_normal.specs.Named.{prepare_rule};
+ghost use Rattle.vr_normal.specs.Words.{is_next};
 ghost use Rattle.vr_journal.specs.Acts.{Acts, MayAct, MaySend};
 
 use crate::entries::header_of;
 use crate::learning::ask_view;
 use crate::making::head_name;
 use std::alloc::Global;
-use vr_disk::SectorDisk;
+use vr_disk::{SLOTS, SectorDisk};
 use vr_header::Header;
 use vr_journal::{Halt, Replica, accept, learn, write};
 use vr_msg::{Outbox, Prepare};
@@ -50,7 +50,7 @@ pub enum PrepareRule {
 #[tactic(auto, using(vr_journal::proofs::Memory::window_of, vr_journal::proofs::Memory::head_fits))]
 fn is_next(replica: &Replica, header: &Header) -> bool
     requires { IsReady replica.now }
-    ensures { result ≡ (is_unknown header.now.op replica.now && ((header.now.op == head replica.now + 1) && same_sum header.now.parent (name_by name_of (head_header name_of replica.now)))) }
+    ensures { result ≡ is_next header.now replica.now }
 {
     replica.is_unknown(header.op)
         && header.op == replica.head() + 1
@@ -70,9 +70,9 @@ fn is_ahead(replica: &Replica, header: &Header) -> bool
 #[tactic(auto, using(vr_journal::proofs::Memory::window_of))]
 fn is_beyond(replica: &Replica, op: u64) -> bool
     requires { IsReady replica.now }
-    ensures { result ≡ nat_lt (replica.now.checkpoint + 64) op }
+    ensures { result ≡ nat_lt (window_end replica.now) op }
 {
-    replica.checkpoint() + 64 < op
+    replica.checkpoint() + (SLOTS as u64) < op
 }
 
 /// Which rule applies to a prepare.
@@ -135,7 +135,7 @@ fn store_known<D: SectorDisk>(
 ) -> Result<(), Halt>
     requires send { MaySend 64 replica.old }
     requires may { MayStore prepare.now.entry replica.old }
-    ensures { Acts D.SectorDisk (change rested ⨾ accept prepare.now.entry ⨾ acknowledge name_of prepare.now.entry.header ⨾ learn prepare.now.commit) replica.old replica.new disk.old disk.new out.old out.new result }
+    ensures { Acts D.SectorDisk (obey_prepare name_of prepare.now Known) replica.old replica.new disk.old disk.new out.old out.new result }
 {
     replica.rest();
     accept(replica, disk, &prepare.entry, out)?;
@@ -154,7 +154,7 @@ fn store_next<D: SectorDisk>(
 ) -> Result<(), Halt>
     requires send { MaySend 64 replica.old }
     requires may { MayStore prepare.now.entry replica.old }
-    ensures { Acts D.SectorDisk (change rested ⨾ write prepare.now.entry ⨾ acknowledge name_of prepare.now.entry.header ⨾ learn prepare.now.commit) replica.old replica.new disk.old disk.new out.old out.new result }
+    ensures { Acts D.SectorDisk (obey_prepare name_of prepare.now Next) replica.old replica.new disk.old disk.new out.old out.new result }
 {
     replica.rest();
     write(replica, disk, &prepare.entry, out)?;
@@ -173,7 +173,7 @@ fn ask_ahead<D: SectorDisk>(
 ) -> Result<(), Halt>
     requires act { MayAct 64 replica.old }
     requires view { prepare.now.view ≤ last_view }
-    ensures { Acts D.SectorDisk (change rested ⨾ ask_view prepare.now.view prepare.now.replica ⨾ learn prepare.now.commit) replica.old replica.new disk.old disk.new out.old out.new result }
+    ensures { Acts D.SectorDisk (obey_prepare name_of prepare.now Ahead) replica.old replica.new disk.old disk.new out.old out.new result }
 {
     replica.rest();
     ask_view(replica, prepare.view, prepare.replica, out)?;
