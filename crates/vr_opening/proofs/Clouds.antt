@@ -11,7 +11,6 @@ use Rattle.vr_disk.specs.DiskState.{Disk}
 use Rattle.vr_header.specs.declared.part.Part.{Part}
 use Rattle.vr_header.specs.declared.part.Part.TheVariants.{Nothing}
 use Rattle.vr_msg.specs.declared.output.Output.{Output}
-use Rattle.vr_msg.specs.Choice.{ops}
 use Rattle.vr_super.specs.Copies.{SuperValue}
 use Rattle.vr_journal.specs.Replica.{Replica, forgetting, part_at, version}
 use Rattle.vr_journal.specs.Steps.{change, each}
@@ -25,7 +24,7 @@ use Rattle.vr_journal.proofs.SavesParts.{Topped, topped_forgetting}
 use Rattle.vr_journal.specs.Halt.{Halt}
 use Rattle.vr_journal.specs.Does.{Does}
 use Rattle.vr_journal.specs.Ready.{IsReady, HasWindow, MayLoad}
-use Rattle.vr_opening.specs.Finding.{IsOpening, cloud_by, cloud_to}
+use Rattle.vr_opening.specs.Finding.{IsOpening, cloud_by, cloud_to, window_end, window_of}
 use Rattle.vr_journal.proofs.Versions.{clouded_stays, forgetting_stays}
 use Rattle.vr_journal.proofs.Stepping.{does_then, does_stopped, change_by_then, change_by}
 
@@ -126,22 +125,22 @@ cloud_room i r q l e w = let parts = w.parts in let number = w.number in rw e (o
 
 pub parts_then : (v : SuperValue) (r r1 r2 q p : Replica) (d d1 d2 : Option Disk) (o o1 o2 : List Output) → r1.saved ≡ v → r2.saved ≡ r1.saved
     → Does (each recover_old (old_headers v)) r r1 d d1 o o1 (Ok tt)
-    → Does (each (recover_op r1.saved) (ops r1.saved.fields.checkpoint (r1.saved.fields.checkpoint + 64))) r1 r2 d1 d2 o1 o2 (Ok tt)
+    → Does (each (recover_op r1.saved) (window_of r1.saved)) r1 r2 d1 d2 o1 o2 (Ok tt)
     → q ≡ clouded r2.saved r2 → p ≡ forgetting q → Does (recover_parts v) r p d d2 o o2 (Ok tt)
 unfolding recover_parts
 parts_then v r r1 r2 q p d d1 d2 o o1 o2 e i h k l m =
     does_then _ _ r r1 p d d1 d2 o o1 o2 (Ok tt) h
-    (does_then _ _ r1 r2 p d1 d2 d2 o1 o2 o2 (Ok tt) (subst (λ (x : SuperValue). Does (each (recover_op x) (ops x.fields.checkpoint (x.fields.checkpoint + 64))) r1 r2 d1 d2 o1 o2 (Ok tt)) e k)
+    (does_then _ _ r1 r2 p d1 d2 d2 o1 o2 o2 (Ok tt) (subst (λ (x : SuperValue). Does (each (recover_op x) (window_of x)) r1 r2 d1 d2 o1 o2 (Ok tt)) e k)
     (change_by_then (clouded v) (change forgetting) r2 q p d2 d2 o2 o2 (Ok tt) (subst (λ (x : SuperValue). q ≡ clouded x r2) (i ∙ e) l) (clouded_stays v r2) (change_by forgetting q p d2 o2 m (forgetting_stays q))))
 
 pub parts_halted : (v : SuperValue) (r r1 r2 q : Replica) (d d1 d2 : Option Disk) (o o1 o2 o3 : List Output) (halt : Halt) → r1.saved ≡ v
     → Does (each recover_old (old_headers v)) r r1 d d1 o o1 (Ok tt)
-    → Does (each (recover_op r1.saved) (ops r1.saved.fields.checkpoint (r1.saved.fields.checkpoint + 64))) r1 r2 d1 d2 o1 o2 (Err halt)
+    → Does (each (recover_op r1.saved) (window_of r1.saved)) r1 r2 d1 d2 o1 o2 (Err halt)
     → Does (recover_parts v) r q d d2 o o3 (Err halt)
 unfolding recover_parts
 parts_halted v r r1 r2 q d d1 d2 o o1 o2 o3 halt e h k =
     does_then _ _ r r1 q d d1 d2 o o1 o3 (Err halt) h
-    (does_stopped _ _ r1 r2 q d1 d2 o1 o2 o3 halt (subst (λ (x : SuperValue). Does (each (recover_op x) (ops x.fields.checkpoint (x.fields.checkpoint + 64))) r1 r2 d1 d2 o1 o2 (Err halt)) e k))
+    (does_stopped _ _ r1 r2 q d1 d2 o1 o2 o3 halt (subst (λ (x : SuperValue). Does (each (recover_op x) (window_of x)) r1 r2 d1 d2 o1 o2 (Err halt)) e k))
 
 pub parts_stopped : (v : SuperValue) (r r1 q : Replica) (d d1 : Option Disk) (o o1 o2 : List Output) (halt : Halt) → Does (each recover_old (old_headers v)) r r1 d d1 o o1 (Err halt)
     → Does (recover_parts v) r q d d1 o o2 (Err halt)
@@ -194,11 +193,12 @@ blank_fits : (v : SuperValue) (ps : List Part) → Fits (version (record (blank 
 unfolding blank
 blank_fits v ps = Fits-empty v.fields.version
 
-pub opened_ready : (c : ℕ) (r q p : Replica) → IsOpening (c + 64) r → c ≡ r.saved.fields.checkpoint → q ≡ clouded r.saved r → p ≡ forgetting q → MayLoad p
+pub opened_ready : (u : SuperValue) (r q p : Replica) → IsOpening (window_end u) r → r.saved ≡ u → q ≡ clouded r.saved r → p ≡ forgetting q → MayLoad p
 unfolding IsOpening MayLoad IsReady
-opened_ready c r q p h e i j =
+opened_ready u r q p k e i j =
     let v : SuperValue = r.saved in
-    let n : ℕ = c + 64 in
+    let n : ℕ = window_end v in
+    let h : IsOpening n r = subst (λ (x : SuperValue). IsOpening (window_end x) r) (sym e) k in
     let w = value_is v h.good in
     let window = w.window in
     let last : v.fields.head ≤ n = omega arith in

@@ -6,11 +6,11 @@ use Rattle.std.proofs.lemmas.Bool.{leb-false}
 use Rattle.std.proofs.lemmas.List.{drop_all}
 use Rattle.std.proofs.lemmas.List.FromFn.{length-range_with_len}
 use Rattle.vr_disk.specs.DiskState.{Disk, Face}
+use Rattle.vr_disk.specs.declared.regions.TheConstants.{SLOTS}
 use Rattle.vr_header.specs.declared.header.Header.{Header}
 use Rattle.vr_header.specs.declared.part.Part.{Part}
 use Rattle.vr_header.specs.Made.{Whole}
 use Rattle.vr_msg.specs.declared.output.Output.{Output}
-use Rattle.vr_msg.specs.Choice.{ops}
 use Rattle.vr_msg.specs.Logs.{has_header}
 use Rattle.vr_super.specs.Copies.{SuperValue, IsGood}
 use Rattle.vr_journal.specs.Replica.{Replica, version, with_part, knows}
@@ -24,7 +24,7 @@ use Rattle.vr_journal.proofs.Openings.{first_is, partly_part, IsOld, old_right}
 use Rattle.vr_journal.proofs.SavesFound.{set_keeps, known_old, only_later}
 use Rattle.vr_journal.specs.Halt.{Halt}
 use Rattle.vr_journal.specs.Does.{Finds, Does, LeftBy, Going}
-use Rattle.vr_opening.specs.Finding.{IsOpening, IsOpeningOld, DoesAt, recover_listed}
+use Rattle.vr_opening.specs.Finding.{IsOpening, IsOpeningOld, DoesAt, recover_listed, window_end, window_of}
 use Rattle.vr_journal.proofs.Lists.{found_is}
 use Rattle.vr_journal.proofs.Versions.{part_stays}
 use Rattle.vr_journal.proofs.Stepping.{does_reading, change_by, going_goes, going_stops, going_ends, going_begins}
@@ -191,16 +191,16 @@ pub nth_fits : (n : ℕ) (r : Replica) → IsOpening n r → r.saved.fields.chec
 unfolding IsOpening
 nth_fits n r o = let w = value_is r.saved o.good in let a = w.commit in let b = w.head in let c = w.number in omega arith
 
-pub nth_step : (v : SuperValue) (c i k : ℕ) (r q : Replica) (d d' : Option Disk) (o o' : List Output) (result : Result (Unit {0}) Halt) → k ≡ c + 1 + i → Does (recover_op v k) r q d d' o o' result
-    → DoesAt (recover_op v) (ops c (c + 64)) i r q d d' o o' result
+pub nth_step : (v : SuperValue) (i k : ℕ) (r q : Replica) (d d' : Option Disk) (o o' : List Output) (result : Result (Unit {0}) Halt) → k ≡ v.fields.checkpoint + 1 + i → Does (recover_op v k) r q d d' o o' result
+    → DoesAt (recover_op v) (window_of v) i r q d d' o o' result
 unfolding DoesAt
-nth_step v c i k r q d d' o o' result e h = λ j at. let is = range_at (c + 1) (c + 64 - c) i j at in let same : k ≡ j = omega (arith, is) in subst (λ m. Does (recover_op v m) r q d d' o o' result) same h
+nth_step v i k r q d d' o o' result e h = λ j at. let is = range_at (v.fields.checkpoint + 1) (window_end v - v.fields.checkpoint) i j at in let same : k ≡ j = omega (arith, is) in subst (λ m. Does (recover_op v m) r q d d' o o' result) same h
 
 pub ops_begin : (c : ℕ) (r : Replica) → IsOpening c r → IsOpening (c + 0) r
 ops_begin c r o = let same : c ≡ c + 0 = omega arith in subst (λ m. IsOpening m r) same o
 
-pub ops_length : (c : ℕ) → length (ops c (c + 64)) ≡ 64
-ops_length c = let n = length-range_with_len (c + 1) (c + 64 - c) in omega (arith, n)
+pub window_length : (v : SuperValue) → length (window_of v) ≡ SLOTS
+window_length v = let n = length-range_with_len (v.fields.checkpoint + 1) (window_end v - v.fields.checkpoint) in omega (arith, n)
 
 -- ---- by a header that is read of the list
 
@@ -212,17 +212,17 @@ one_header v i g r q d d' o o' result at k = λ h e. subst (λ x. Does (recover_
 -- ---- the window's loop
 
 pub ops_at : (v u : SuperValue) (i : ℕ) (r r' r'' : Replica) (d d' d'' : Option Disk) (o o' o'' : List Output)
-    → i < 64 → u ≡ v → Going (recover_op v) (ops v.fields.checkpoint (v.fields.checkpoint + 64)) i r r' d d' o o'
-    → DoesAt (recover_op u) (ops u.fields.checkpoint (u.fields.checkpoint + 64)) i r' r'' d' d'' o' o'' (Ok tt) → Going (recover_op v) (ops v.fields.checkpoint (v.fields.checkpoint + 64)) (i + 1) r r'' d d'' o o''
+    → i < SLOTS → u ≡ v → Going (recover_op v) (window_of v) i r r' d d' o o'
+    → DoesAt (recover_op u) (window_of u) i r' r'' d' d'' o' o'' (Ok tt) → Going (recover_op v) (window_of v) (i + 1) r r'' d d'' o o''
 ops_at v u i r r' r'' d d' d'' o o' o'' l e h k =
-    let n = ops_length v.fields.checkpoint in
-    going_at (recover_op v) (ops v.fields.checkpoint (v.fields.checkpoint + 64)) i r r' r'' d d' d'' o o' o'' (omega (arith, n)) h
-    (subst (λ x. DoesAt (recover_op x) (ops x.fields.checkpoint (x.fields.checkpoint + 64)) i r' r'' d' d'' o' o'' (Ok tt)) e k)
+    let n = window_length v in
+    going_at (recover_op v) (window_of v) i r r' r'' d d' d'' o o' o'' (omega (arith, n)) h
+    (subst (λ x. DoesAt (recover_op x) (window_of x) i r' r'' d' d'' o' o'' (Ok tt)) e k)
 
 pub ops_stopped : (v u : SuperValue) (i : ℕ) (r r' r'' s : Replica) (d d' d'' : Option Disk) (o o' o'' p : List Output) (e : Halt)
-    → i < 64 → u ≡ v → Going (recover_op v) (ops v.fields.checkpoint (v.fields.checkpoint + 64)) i r r' d d' o o'
-    → DoesAt (recover_op u) (ops u.fields.checkpoint (u.fields.checkpoint + 64)) i r' r'' d' d'' o' o'' (Err e) → Does (each (recover_op v) (ops v.fields.checkpoint (v.fields.checkpoint + 64))) r s d d'' o p (Err e)
+    → i < SLOTS → u ≡ v → Going (recover_op v) (window_of v) i r r' d d' o o'
+    → DoesAt (recover_op u) (window_of u) i r' r'' d' d'' o' o'' (Err e) → Does (each (recover_op v) (window_of v)) r s d d'' o p (Err e)
 ops_stopped v u i r r' r'' s d d' d'' o o' o'' p e l q h k =
-    let n = ops_length v.fields.checkpoint in
-    going_at_stops (recover_op v) (ops v.fields.checkpoint (v.fields.checkpoint + 64)) i r r' r'' s d d' d'' o o' o'' p e (omega (arith, n)) h
-    (subst (λ x. DoesAt (recover_op x) (ops x.fields.checkpoint (x.fields.checkpoint + 64)) i r' r'' d' d'' o' o'' (Err e)) q k)
+    let n = window_length v in
+    going_at_stops (recover_op v) (window_of v) i r r' r'' s d d' d'' o o' o'' p e (omega (arith, n)) h
+    (subst (λ x. DoesAt (recover_op x) (window_of x) i r' r'' d' d'' o' o'' (Err e)) q k)

@@ -21,10 +21,12 @@ use Rattle.vr_journal.specs.Steps.{Word, Mend}
 use Rattle.vr_journal.specs.Opening.{blank, opening, first_value}
 use Rattle.vr_journal.specs.Halt.{Halt}
 use Rattle.vr_journal.specs.Halt.TheVariants.{DiskFault, NoMemory}
+use Rattle.vr_opening.specs.declared.reopen.NoValue.{NoValue}
+use Rattle.vr_opening.specs.declared.reopen.NoValue.TheVariants as none
 use Rattle.vr_opening.specs.declared.reopen.Refusal.{Refusal}
-use Rattle.vr_opening.specs.declared.reopen.Refusal.TheVariants.{Lost, OtherMember, Halted}
+use Rattle.vr_opening.specs.declared.reopen.Refusal.TheVariants.{Halted}
 use Rattle.vr_journal.specs.Does.{Does, Performs}
-use Rattle.vr_opening.specs.Recovering.{after_mend, all_good, DoesTo, config_of, is_left, is_other, lost_verdicts, opens_as, refusal_of, runs_as, LosesValue, MendsValue, BeginsWith, StopsMending, LeavesUnmended, FindsValue, IsOther, IsAsked, StopsAsked, Recovered, RecoveredAny}
+use Rattle.vr_opening.specs.Recovering.{after_mend, all_good, DoesTo, config_of, is_left, is_other, not_found, opens_as, refusal_of, runs_as, LosesCopies, LeavesAlone, LosesValue, MendsValue, BeginsWith, StopsMending, LeavesUnmended, FindsValue, IsOther, IsAsked, StopsAsked, Recovered, RecoveredAny}
 use Rattle.vr_journal.proofs.Stepping.{does_no_memory, effect_then, effect_stopped}
 
 pub begun_wanted : (v : SuperValue) (d : Option Disk) (o : List Output) → DoesTo (after_mend v) (blank v) d d o o (Err NoMemory)
@@ -79,20 +81,36 @@ opens_not wanted o v e n = rw (e, n) refl
 verdicts_of : (b c : Bool) (f : Face) → b ≡ c → cond c all_good (map copy_verdict (good_copies f)) ≡ cond b all_good (map copy_verdict (good_copies f))
 verdicts_of b c f e = ap (λ (t : Bool). cond t all_good (map copy_verdict (good_copies f))) (sym e)
 
-leaves : (wanted : Option ℕ) (v : SuperValue) (y : Disk) (d' : Option Disk) → superblock.opens y.face ≡ Some v → is_left wanted v ≡ true → d' ≡ Some y → LosesValue wanted (Some y) d' all_good
+leaves : (wanted : Option ℕ) (v : SuperValue) (y : Disk) (d' : Option Disk) → superblock.opens y.face ≡ Some v → is_left wanted v ≡ true → d' ≡ Some y → LeavesAlone wanted (Some y) d'
 leaves wanted v y d' o e s = record {
   untold = λ x. absurd cc;
-  told = λ x i. let same : y ≡ x = search rules in subst (λ (z : Disk). (opens_as wanted z.face ≡ None) × (d' ≡ Some z) × (all_good ≡ lost_verdicts z.face)) same
-      (opens_not wanted (superblock.opens y.face) v o e, s, verdicts_of (is_some (superblock.opens y.face)) true y.face (ap is_some o));
+  told = λ x i. let same : y ≡ x = search rules in subst (λ (z : Disk). (is_some (superblock.opens z.face) ≡ true) × (opens_as wanted z.face ≡ None) × (d' ≡ Some z)) same
+      (ap is_some o, opens_not wanted (superblock.opens y.face) v o e, s);
 }
 
-untold : (wanted : Option ℕ) (vs : List CopyVerdict) (d' : Option Disk) → d' ≡ None → LosesValue wanted None d' vs
-untold wanted vs d' s = record { untold = λ x. s; told = λ x e. absurd cc }
+untold : (wanted : Option ℕ) (d' : Option Disk) → d' ≡ None → LeavesAlone wanted None d'
+untold wanted d' s = record { untold = λ x. s; told = λ x e. absurd cc }
+
+-- without a value all copies are called good, or each as it is
+pub lost_alone : (wanted : Option ℕ) (d d' : Option Disk) → LeavesAlone wanted d d' → LosesValue wanted d d' all_good
+lost_alone wanted d d' h = record {
+  untold = h.untold;
+  told = λ x e. let t = h.told x e in (t.1, t.2, verdicts_of (is_some (superblock.opens x.face)) true x.face t.0);
+}
+
+pub lost_copies : (wanted : Option ℕ) (vs : List CopyVerdict) (d d' : Option Disk) → LosesCopies d d' vs → LosesValue wanted d d' vs
+lost_copies wanted vs d d' h = record {
+  untold = h.untold;
+  told = λ x e.
+      let t = h.told x e in
+      let lost : is_some (superblock.opens x.face) ≡ false = ap is_some t.0 in
+      (ap (option_and_then (runs_as wanted)) t.0, t.1, t.2 ∙ verdicts_of (is_some (superblock.opens x.face)) false x.face lost);
+}
 
 -- ---- what is found of the superblock
 
-pub left_alone : (wanted : Option ℕ) (found : FoundValue) (b : Bool) (d : Option Disk) → IfSome d (λ x. IsFound x.face found) → b ≡ is_left wanted found.value → b ≡ true → LosesValue wanted d d all_good
-left_alone wanted found b None h e t = untold wanted all_good None refl
+pub left_alone : (wanted : Option ℕ) (found : FoundValue) (b : Bool) (d : Option Disk) → IfSome d (λ x. IsFound x.face found) → b ≡ is_left wanted found.value → b ≡ true → LeavesAlone wanted d d
+left_alone wanted found b None h e t = untold wanted None refl
 left_alone wanted found b (Some y) h e t = leaves wanted found.value y (Some y) h.opens (sym e ∙ t) refl
 
 pub mended : (wanted : Option ℕ) (found : FoundValue) (v : SuperValue) (b : Bool) (d d' : Option Disk) → IfSome d (λ x. IsFound x.face found) → b ≡ is_left wanted found.value → b ≡ false → RunsFrom (mend_calls found.value) d d' true → v ≡ found.value
@@ -112,41 +130,58 @@ pub mend_faulted : (wanted : Option ℕ) (found : FoundValue) (b : Bool) (d d' :
 mend_faulted wanted found b None d' h e n r = record { value = any_value; opens = tt; stops = r }
 mend_faulted wanted found b (Some y) d' h e n r = record { value = found.value; opens = opens_so wanted (superblock.opens y.face) found.value h.opens (sym e ∙ n); stops = r }
 
-lost : (wanted : Option ℕ) (vs : List CopyVerdict) (d d' : Option Disk) → IfSome d (λ x. Finds x.face (Err (fault.Lost vs))) → d' ≡ d → LosesValue wanted d d' vs
-lost wanted vs None d' h s = untold wanted vs d' s
-lost wanted vs (Some y) d' h s =
-    let none : is_some (superblock.opens y.face) ≡ false = ap is_some h.0 in
-    record {
-      untold = λ e. cc;
-      told = λ x e. let same : y ≡ x = search rules in subst (λ (z : Disk). (opens_as wanted z.face ≡ None) × (d' ≡ Some z) × (vs ≡ lost_verdicts z.face)) same (ap (option_and_then (runs_as wanted)) h.0, s, h.1 ∙ verdicts_of (is_some (superblock.opens y.face)) false y.face none);
-    }
+lost : (vs : List CopyVerdict) (d d' : Option Disk) → IfSome d (λ x. Finds x.face (Err (fault.Lost vs))) → d' ≡ d → LosesCopies d d' vs
+lost vs None d' h s = record { untold = λ x. s; told = λ x e. absurd cc }
+lost vs (Some y) d' h s = record {
+  untold = λ e. cc;
+  told = λ x e. let same : y ≡ x = search rules in subst (λ (z : Disk). (superblock.opens z.face ≡ None) × (d' ≡ Some z) × (vs ≡ map copy_verdict (good_copies z.face))) same (h.0, s, h.1);
+}
 
 -- a value that there was no memory for is left alone by its version
-left_unread : (wanted : Option ℕ) (version : ℕ) (b : Bool) (d d' : Option Disk) → IfSome d (λ x. Finds x.face (Err (fault.NoMemory version))) → d' ≡ d → b ≡ is_other wanted version → b ≡ true → LosesValue wanted d d' all_good
-left_unread wanted version b None d' h s e t = untold wanted all_good d' s
+left_unread : (wanted : Option ℕ) (version : ℕ) (b : Bool) (d d' : Option Disk) → IfSome d (λ x. Finds x.face (Err (fault.NoMemory version))) → d' ≡ d → b ≡ is_other wanted version → b ≡ true → LeavesAlone wanted d d'
+left_unread wanted version b None d' h s e t = untold wanted d' s
 left_unread wanted version b (Some y) d' h s e t = leaves wanted h.value y d' h.opens (ap (is_other wanted) h.named ∙ (sym e ∙ t)) s
 
 wanted_memory : (wanted : Option ℕ) (version : ℕ) (b : Bool) (d d' : Option Disk) → IfSome d (λ x. Finds x.face (Err (fault.NoMemory version))) → d' ≡ d → b ≡ is_other wanted version → b ≡ false → LeavesUnmended wanted d d' NoMemory
 wanted_memory wanted version b None d' h s e n = record { value = any_value; opens = tt; stops = s }
 wanted_memory wanted version b (Some y) d' h s e n = record { value = h.value; opens = opens_so wanted (superblock.opens y.face) h.value h.opens (ap (is_other wanted) h.named ∙ (sym e ∙ n)); stops = s }
 
-pub refused_value : (wanted : Option ℕ) (e : FindFault) (d d' : Option Disk) → IfSome d (λ x. Finds x.face (Err e)) → d' ≡ d → FindsValue wanted d d' (Err (refusal_of wanted e))
-unfolding refusal_of
-refused_value wanted (fault.Lost vs) d d' h s = lost wanted vs d d' h s
+pub refused_value : (wanted : Option ℕ) (e : FindFault) (d d' : Option Disk) → IfSome d (λ x. Finds x.face (Err e)) → d' ≡ d → FindsValue wanted d d' (Err (not_found wanted e))
+unfolding not_found
+refused_value wanted (fault.Lost vs) d d' h s = lost vs d d' h s
 refused_value wanted (fault.NoMemory version) d d' h s =
-    elim (is_other wanted version) as (λ b. b ≡ is_other wanted version → FindsValue wanted d d' (Err (cond b (Lost all_good) (Halted NoMemory)))) [
+    elim (is_other wanted version) as (λ b. b ≡ is_other wanted version → FindsValue wanted d d' (Err (cond b none.OtherVersion (none.Halted NoMemory)))) [
       | true ↦ λ e. left_unread wanted version true d d' h s e refl
       | false ↦ λ e. wanted_memory wanted version false d d' h s e refl
     ] refl
 
-no_fault : (wanted : Option ℕ) (e : FindFault) → refusal_of wanted e ≡ Halted DiskFault → ⊥
-unfolding refusal_of
+no_fault : (wanted : Option ℕ) (e : FindFault) → not_found wanted e ≡ none.Halted DiskFault → ⊥
+unfolding not_found
 no_fault wanted (fault.Lost vs) e = absurd cc
-no_fault wanted (fault.NoMemory version) e = elim (is_other wanted version) as (λ b. cond b (Lost all_good) (Halted NoMemory) ≡ Halted DiskFault → ⊥) [ true ↦ λ e. absurd cc | false ↦ λ e. absurd cc ] e
+no_fault wanted (fault.NoMemory version) e = elim (is_other wanted version) as (λ b. cond b none.OtherVersion (none.Halted NoMemory) ≡ none.Halted DiskFault → ⊥) [ true ↦ λ e. absurd cc | false ↦ λ e. absurd cc ] e
 
 -- without a call there is no fault
-pub counts_none : {T : Type 0} (wanted : Option ℕ) (e : FindFault) (before now : ℕ) → now ≡ before → CountsFault {T = T} {E = Refusal} (Halted DiskFault) before now (Err (refusal_of wanted e))
+pub counts_none : {T : Type 0} (wanted : Option ℕ) (e : FindFault) (before now : ℕ) → now ≡ before → CountsFault {T = T} {E = NoValue} (none.Halted DiskFault) before now (Err (not_found wanted e))
 counts_none wanted e before now s = record { later = omega arith; kept = tt; failed = λ x. absurd (no_fault wanted e x); spared = λ n. s }
+
+-- a fault of the disk is answered as one, and nothing else is
+faulted : (x : NoValue) → refusal_of x ≡ Halted DiskFault → x ≡ none.Halted DiskFault
+unfolding refusal_of
+faulted (none.Lost vs) e = absurd cc
+faulted none.OtherVersion e = absurd cc
+faulted (none.Halted halt) e = let same : halt ≡ DiskFault = cc in ap none.Halted same
+
+fault_same : refusal_of (none.Halted DiskFault) ≡ Halted DiskFault
+unfolding refusal_of
+fault_same = refl
+
+pub refused_cause : {T U : Type 0} (x : NoValue) (y : Refusal) (before now : ℕ) → y ≡ refusal_of x → CountsFault {T = T} {E = NoValue} (none.Halted DiskFault) before now (Err x) → CountsFault {T = U} {E = Refusal} (Halted DiskFault) before now (Err y)
+refused_cause x y before now e h = record {
+  later = h.later;
+  kept = tt;
+  failed = λ i. h.failed (faulted x (sym e ∙ i));
+  spared = λ n. h.spared (λ i. n (e ∙ (ap refusal_of i ∙ fault_same)));
+}
 
 -- a stop in the mending is one of the whole opening
 stopped_mending : (v : SuperValue) (d d' : Option Disk) (o : List Output) (halt : Halt) → StopsMending v d d' halt → DoesTo (opening v) (blank v) d d' o o (Err halt)
@@ -173,15 +208,23 @@ halted_any version v d d1 d2 o o' halt m h = record { value = v; opens = opens_o
 pub other_member : (asked found : Config) (v : SuperValue) (d d' : Option Disk) → found ≡ config_of v → (found ≡ asked → ⊥) → MendsValue None v d d' → IsOther asked found d d'
 other_member asked found v d d' e n m = record { value = v; mended = m; named = e; other = n }
 
-pub refused : (asked : Config) (d d' : Option Disk) (o : List Output) (x : Refusal) → FindsValue None d d' (Err x) → Recovered asked d d' o o (Err x)
-refused asked d d' o (Lost vs) h = h
-refused asked d d' o (OtherMember found) h = absurd h
-refused asked d d' o (Halted halt) h = record { value = h.value; opens = h.opens; step = λ e. stopped_mending h.value d d' o halt h.stops; other = λ not. h.stops }
+none_recovered : (asked : Config) (d d' : Option Disk) (o : List Output) (x : NoValue) → FindsValue None d d' (Err x) → Recovered asked d d' o o (Err (refusal_of x))
+unfolding refusal_of
+none_recovered asked d d' o (none.Lost vs) h = lost_copies None vs d d' h
+none_recovered asked d d' o none.OtherVersion h = lost_alone None d d' h
+none_recovered asked d d' o (none.Halted halt) h = record { value = h.value; opens = h.opens; step = λ e. stopped_mending h.value d d' o halt h.stops; other = λ not. h.stops }
+
+pub refused : (asked : Config) (d d' : Option Disk) (o : List Output) (x : NoValue) (y : Refusal) → y ≡ refusal_of x → FindsValue None d d' (Err x) → Recovered asked d d' o o (Err y)
+refused asked d d' o x y e h = rw e (none_recovered asked d d' o x h)
 
 pub recovered_any : (version : ℕ) (v : SuperValue) (q : Replica) (d d1 d2 : Option Disk) (o o' : List Output) → MendsValue (Some version) v d d1 → DoesTo (after_mend v) (blank v) d1 d2 o o' (Ok q) → BeginsWith (Some version) opening d d2 o o' (Ok q)
 recovered_any version v q d d1 d2 o o' m h = record { value = v; opens = opens_of (Some version) v d d1 m; step = mended_then (Some version) v q d d1 d2 o o' (Ok tt) m h }
 
-pub refused_any : (version : ℕ) (d d' : Option Disk) (o : List Output) (x : Refusal) → FindsValue (Some version) d d' (Err x) → RecoveredAny version d d' o o (Err x)
-refused_any version d d' o (Lost vs) h = h
-refused_any version d d' o (OtherMember found) h = absurd h
-refused_any version d d' o (Halted halt) h = record { value = h.value; opens = h.opens; step = stopped_mending h.value d d' o halt h.stops }
+none_any : (version : ℕ) (d d' : Option Disk) (o : List Output) (x : NoValue) → FindsValue (Some version) d d' (Err x) → RecoveredAny version d d' o o (Err (refusal_of x))
+unfolding refusal_of
+none_any version d d' o (none.Lost vs) h = lost_copies (Some version) vs d d' h
+none_any version d d' o none.OtherVersion h = lost_alone (Some version) d d' h
+none_any version d d' o (none.Halted halt) h = record { value = h.value; opens = h.opens; step = stopped_mending h.value d d' o halt h.stops }
+
+pub refused_any : (version : ℕ) (d d' : Option Disk) (o : List Output) (x : NoValue) (y : Refusal) → y ≡ refusal_of x → FindsValue (Some version) d d' (Err x) → RecoveredAny version d d' o o (Err y)
+refused_any version d d' o x y e h = rw e (none_any version d d' o x h)

@@ -2,13 +2,14 @@
 use Rattle.std.specs.Prelude.{ℕ, ◌+◌, ◌*◌, ◌-◌, List, map, Option, Bool}
 use Rattle.std.specs.List.{range_with_len}
 use Rattle.vr_disk.specs.DiskState.{Call, Write, Disk, Runs}
+use Rattle.vr_disk.specs.declared.regions.TheConstants.{SLOTS}
 use Rattle.vr_disk.specs.Regions.{header_place, prepare_place, prepare_sectors}
 use Rattle.vr_rings.specs.Slots.{sector_of}
 use Rattle.vr_journal.specs.Formatting.{reserved_header, zero_sector}
 
 -- the sector behind the prepares of a file of this version
 abbrev pub prepares_end : ℕ → ℕ
-prepares_end v = prepare_place v 0 + 64 * prepare_sectors v
+prepares_end v = prepare_place v 0 + SLOTS * prepare_sectors v
 
 abbrev pub zero_call : ℕ → Call
 zero_call i = Write i zero_sector

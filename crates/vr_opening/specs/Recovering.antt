@@ -18,6 +18,8 @@ use Rattle.vr_journal.specs.Steps.{Word, ◌⨾◌}
 use Rattle.vr_journal.specs.Opening.{recover_parts, resuming, opening, blank}
 use Rattle.vr_journal.specs.Halt.{Halt}
 use Rattle.vr_journal.specs.Halt.TheVariants.{DiskFault, NoMemory}
+use Rattle.vr_opening.specs.declared.reopen.NoValue.{NoValue}
+use Rattle.vr_opening.specs.declared.reopen.NoValue.TheVariants as none
 use Rattle.vr_opening.specs.declared.reopen.Refusal.{Refusal}
 use Rattle.vr_opening.specs.declared.reopen.Refusal.TheVariants.{Lost, OtherMember, Halted}
 use Rattle.vr_journal.specs.Does.{Does}
@@ -67,6 +69,16 @@ pub record LosesValue (wanted : Option ℕ) (d d' : Option Disk) (verdicts : Lis
   pub untold : d ≡ None → d' ≡ None
   pub told : (x : Disk) → d ≡ Some x → (opens_as wanted x.face ≡ None) × (d' ≡ Some x) × (verdicts ≡ lost_verdicts x.face)
 
+-- no two good copies agree, and no call is made
+pub record LosesCopies (d d' : Option Disk) (verdicts : List CopyVerdict) : Type 0 where
+  pub untold : d ≡ None → d' ≡ None
+  pub told : (x : Disk) → d ≡ Some x → (superblock.opens x.face ≡ None) × (d' ≡ Some x) × (verdicts ≡ map copy_verdict (good_copies x.face))
+
+-- there is a value, but its file is of another version, and no call is made
+pub record LeavesAlone (wanted : Option ℕ) (d d' : Option Disk) : Type 0 where
+  pub untold : d ≡ None → d' ≡ None
+  pub told : (x : Disk) → d ≡ Some x → (is_some (superblock.opens x.face) ≡ true) × (opens_as wanted x.face ≡ None) × (d' ≡ Some x)
+
 -- the value that opens is mended
 pub record MendsValue (wanted : Option ℕ) (v : SuperValue) (d d' : Option Disk) : Type 0 where
   pub untold : d ≡ None → d' ≡ None
@@ -89,16 +101,22 @@ pub record LeavesUnmended (wanted : Option ℕ) (d d' : Option Disk) (halt : Hal
   pub opens : IfSome d (λ x. opens_as wanted x.face ≡ Some value)
   pub stops : StopsMending value d d' halt
 
-abbrev pub FindsValue : Option ℕ → Option Disk → Option Disk → Result SuperValue Refusal → Type 0
+abbrev pub FindsValue : Option ℕ → Option Disk → Option Disk → Result SuperValue NoValue → Type 0
 FindsValue wanted d d' (Ok v) = MendsValue wanted v d d'
-FindsValue wanted d d' (Err (Lost verdicts)) = LosesValue wanted d d' verdicts
-FindsValue wanted d d' (Err (OtherMember found)) = ⊥
-FindsValue wanted d d' (Err (Halted halt)) = LeavesUnmended wanted d d' halt
+FindsValue wanted d d' (Err (none.Lost verdicts)) = LosesCopies d d' verdicts
+FindsValue wanted d d' (Err none.OtherVersion) = LeavesAlone wanted d d'
+FindsValue wanted d d' (Err (none.Halted halt)) = LeavesUnmended wanted d d' halt
 
--- where no value was found: one that there was no memory for is left alone by its version
-unfoldable pub refusal_of : Option ℕ → FindFault → Refusal
-refusal_of wanted (find.Lost verdicts) = Lost verdicts
-refusal_of wanted (find.NoMemory version) = if is_other wanted version then Lost all_good else Halted NoMemory
+-- where none was found: one that there was no memory for is left alone by its version
+unfoldable pub not_found : Option ℕ → FindFault → NoValue
+not_found wanted (find.Lost verdicts) = none.Lost verdicts
+not_found wanted (find.NoMemory version) = if is_other wanted version then none.OtherVersion else none.Halted NoMemory
+
+-- and so there is no replica: of a file of another version all copies are called good
+unfoldable pub refusal_of : NoValue → Refusal
+refusal_of (none.Lost verdicts) = Lost verdicts
+refusal_of none.OtherVersion = Lost all_good
+refusal_of (none.Halted halt) = Halted halt
 
 -- the value is that of another member
 pub record IsOther (asked found : Config) (d d' : Option Disk) : Type 0 where

@@ -12,7 +12,7 @@ ghost use Rattle.vr_opening.specs.Calls.{prepares_end, reserved_call};
 
 use vr_base::{Config, Sum, Version, checksum};
 use vr_disk::{
-    DiskFailed, DiskFault, SECTORS, SLOTS, Sector, SectorDisk, header_place, prepare_place,
+    DiskFailed, DiskFault, SECTORS, SLOTS, SectorDisk, ZEROS, header_place, prepare_place,
     prepare_sectors,
 };
 use vr_header::{Command, Header, Size};
@@ -42,9 +42,8 @@ fn zero_prepares<D: SectorDisk>(disk: &mut D, version: Version) -> Result<(), Di
     ensures runs { Runs (zero_prepares version) (D.told disk.old) (D.told disk.new) (is_ok result) }
     ensures cause { HasCause (D.faults disk.old) (D.faults disk.new) result }
 {
-    let zeros = Sector { bytes: [0; 512] };
     for i in prepares_begin(version)..prepares_end(version) {
-        disk.write(i, &zeros)?;
+        disk.write(i, &ZEROS)?;
     }
     Ok(())
 }
@@ -82,7 +81,7 @@ fn reserve<D: SectorDisk>(
     slot: u32,
     body: Sum,
 ) -> Result<(), DiskFailed>
-    requires slot { slot < 64 }
+    requires slot { slot < SLOTS }
     requires body { body.0 ≡ name_of [] }
     ensures runs { Runs (reserved_call version cluster slot ∷ []) (D.told disk.old) (D.told disk.new) (is_ok result) }
     ensures cause { HasCause (D.faults disk.old) (D.faults disk.new) result }
@@ -102,7 +101,7 @@ fn reserve_all<D: SectorDisk>(
     ensures cause { HasCause (D.faults disk.old) (D.faults disk.new) result }
 {
     let none = checksum(&[]);
-    for slot in 0..64u32 {
+    for slot in 0..SLOTS {
         reserve(disk, version, cluster, slot, none)?;
     }
     Ok(())

@@ -9,7 +9,7 @@ ghost use Rattle.vr_journal.specs.Migrating.{migrated};
 ghost use Rattle.vr_opening.specs.Migration.{Migrated, MigratedAny, MovesOver, moving_calls};
 ghost use Rattle.vr_opening.specs.declared.reopen.Refusal.TheVariants as Refusal;
 
-use crate::reopen::{Refusal, config_of, find_value, is_same};
+use crate::reopen::{Refusal, config_of, find_value, is_same, refusal_of};
 use std::alloc::Global;
 use vr_base::{Config, NoMemory, Seq, Version};
 use vr_disk::{DiskFault, SectorDisk};
@@ -72,13 +72,13 @@ fn migrate_mended<D: SectorDisk>(alloc: Global, disk: &mut D, value: &Super) -> 
 /// The file of a disk becomes one of version 2, if the disk is that of the member that is asked for: its superblock is mended, and then, where its
 /// file is of version 1, each slot's prepare is written at its new place, and the value is saved with the new version. Of another member's disk
 /// the superblock is mended, and no other call is made.
-#[tactic(auto, using(crate::proofs::Moves::migrated_well, crate::proofs::Moves::migration_halted, crate::proofs::Moves::migration_refused, crate::proofs::Recovers::other_member))]
+#[tactic(auto, using(crate::proofs::Moves::migrated_well, crate::proofs::Moves::migration_halted, crate::proofs::Recovers::other_member))]
 pub fn migrate<D: SectorDisk>(alloc: Global, disk: &mut D, asked: &Config) -> Result<(), Refusal>
     ensures cause { CountsFault (Refusal.Halted Halt.DiskFault) (D.faults disk.old) (D.faults disk.new) result }
     ensures step { Migrated asked.now (D.told disk.old) (D.told disk.new) result }
 {
     match find_value(alloc, disk, &None) {
-        Err(refusal) => Err(refusal),
+        Err(why) => Err(refusal_of(why)),
         Ok(value) => {
             let found = config_of(&value);
             if is_same(&found, asked) {
@@ -94,13 +94,13 @@ pub fn migrate<D: SectorDisk>(alloc: Global, disk: &mut D, asked: &Config) -> Re
 }
 
 /// The file of a disk becomes one of version 2, whatever member's disk it is: `OtherMember` never comes. One of version 2 is left alone.
-#[tactic(auto, using(crate::proofs::Moves::any_well, crate::proofs::Moves::any_halted, crate::proofs::Moves::any_refused))]
+#[tactic(auto, using(crate::proofs::Moves::any_well, crate::proofs::Moves::any_halted))]
 pub fn migrate_any<D: SectorDisk>(alloc: Global, disk: &mut D) -> Result<(), Refusal>
     ensures cause { CountsFault (Refusal.Halted Halt.DiskFault) (D.faults disk.old) (D.faults disk.new) result }
     ensures step { MigratedAny (D.told disk.old) (D.told disk.new) result }
 {
     match find_value(alloc, disk, &Some(Version::new(1))) {
-        Err(refusal) => Err(refusal),
+        Err(why) => Err(refusal_of(why)),
         Ok(value) => match migrate_mended(alloc, disk, &value) {
             Ok(()) => Ok(()),
             Err(halt) => Err(Refusal::Halted(halt)),

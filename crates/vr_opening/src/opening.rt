@@ -1,17 +1,16 @@
 //! How a replica finds its Parts again.
 ghost use Rattle.std.specs.Prelude.{◌≡◌, ◌<◌, ◌≤◌, ◌+◌, ◌-◌, IfOk, OnOk, Some, length, nat_le, slice_get, slice_set, slice_index_or, drop, ◌^◌, true};
 ghost use Rattle.std.specs.List.{list_any};
-ghost use Rattle.vr_msg.specs.Choice.{ops};
 ghost use Rattle.vr_journal.specs.Opening.{old_part, recover_old, recover_op, recover_parts, old_headers, was_stored, clouded, blank};
 ghost use Rattle.vr_header.specs.declared.part.Part.TheVariants.{Nothing};
 ghost use Rattle.vr_journal.specs.Steps.{each};
 ghost use Rattle.vr_journal.specs.Does.{Does, Caused};
 ghost use Rattle.vr_journal.specs.Ready.{HasWindow, MayLoad};
-ghost use Rattle.vr_opening.specs.Finding.{IsOpening, IsOpeningOld, recover_listed, DoesAt, cloud_by};
+ghost use Rattle.vr_opening.specs.Finding.{IsOpening, IsOpeningOld, recover_listed, DoesAt, cloud_by, window_end, window_of};
 
 use crate::finding::{is_listed, recover_op};
 use std::alloc::Global;
-use vr_disk::{Buffer, SectorDisk};
+use vr_disk::{Buffer, SLOTS, SectorDisk};
 use vr_header::{Entry, Header, Part};
 use vr_journal::{Halt, Replica, find_entry};
 use vr_msg::Outbox;
@@ -86,7 +85,7 @@ fn named(replica: &Replica, i: usize) -> Header
 #[tactic(auto, using(crate::proofs::Olds::nth_fits))]
 fn op_at(replica: &Replica, i: u64) -> u64
     requires opening { IsOpening (replica.now.saved.fields.checkpoint + i) replica.now }
-    requires within { i < 64 }
+    requires within { i < SLOTS }
     ensures { result ≡ replica.now.saved.fields.checkpoint + 1 + i }
 {
     replica.saved().fields().checkpoint + 1 + i
@@ -167,18 +166,18 @@ fn recover_nth<D: SectorDisk>(
     out: &mut Outbox,
 ) -> Result<(), Halt>
     requires opening { IsOpening (replica.old.saved.fields.checkpoint + i) replica.old }
-    requires within { i < 64 }
+    requires within { i < SLOTS }
     ensures opening { OnOk result (IsOpening (replica.old.saved.fields.checkpoint + (i + 1)) replica.new) }
     ensures saved { OnOk result (replica.new.saved ≡ replica.old.saved) }
     ensures cause { Caused (D.faults disk.old) (D.faults disk.new) result }
-    ensures step { DoesAt (recover_op replica.old.saved) (ops replica.old.saved.fields.checkpoint (replica.old.saved.fields.checkpoint + 64)) i replica.old replica.new (D.told disk.old) (D.told disk.new) out.old out.new result }
+    ensures step { DoesAt (recover_op replica.old.saved) (window_of replica.old.saved) i replica.old replica.new (D.told disk.old) (D.told disk.new) out.old out.new result }
 {
     let op = op_at(replica, i);
     recover_op(replica, disk, op, buffer, out)
 }
 
 // Finds what is known of the ops of the window.
-#[tactic(auto, using(vr_journal::proofs::Stepping::going_begins, vr_journal::proofs::Stepping::going_ends, crate::proofs::Olds::ops_at, crate::proofs::Olds::ops_stopped, crate::proofs::Olds::ops_begin, crate::proofs::Olds::ops_length))]
+#[tactic(auto, using(vr_journal::proofs::Stepping::going_begins, vr_journal::proofs::Stepping::going_ends, crate::proofs::Olds::ops_at, crate::proofs::Olds::ops_stopped, crate::proofs::Olds::ops_begin, crate::proofs::Olds::window_length))]
 fn recover_window<D: SectorDisk>(
     replica: &mut Replica,
     disk: &mut D,
@@ -186,12 +185,12 @@ fn recover_window<D: SectorDisk>(
     out: &mut Outbox,
 ) -> Result<(), Halt>
     requires opening { IsOpening replica.old.saved.fields.checkpoint replica.old }
-    ensures opening { OnOk result (IsOpening (replica.old.saved.fields.checkpoint + 64) replica.new) }
+    ensures opening { OnOk result (IsOpening (window_end replica.old.saved) replica.new) }
     ensures saved { OnOk result (replica.new.saved ≡ replica.old.saved) }
     ensures cause { Caused (D.faults disk.old) (D.faults disk.new) result }
-    ensures step { Does (each (recover_op replica.old.saved) (ops replica.old.saved.fields.checkpoint (replica.old.saved.fields.checkpoint + 64))) replica.old replica.new (D.told disk.old) (D.told disk.new) out.old out.new result }
+    ensures step { Does (each (recover_op replica.old.saved) (window_of replica.old.saved)) replica.old replica.new (D.told disk.old) (D.told disk.new) out.old out.new result }
 {
-    for i in 0..64u64 {
+    for i in 0..SLOTS as u64 {
         match recover_nth(replica, disk, i, buffer, out) {
             Ok(()) => {}
             Err(halt) => return Err(halt),
@@ -209,10 +208,10 @@ fn recover_ops<D: SectorDisk>(
     out: &mut Outbox,
 ) -> Result<(), Halt>
     requires opening { IsOpening replica.old.saved.fields.checkpoint replica.old }
-    ensures opening { OnOk result (IsOpening (replica.old.saved.fields.checkpoint + 64) replica.new) }
+    ensures opening { OnOk result (IsOpening (window_end replica.old.saved) replica.new) }
     ensures saved { OnOk result (replica.new.saved ≡ replica.old.saved) }
     ensures cause { Caused (D.faults disk.old) (D.faults disk.new) result }
-    ensures step { Does (each (recover_op replica.old.saved) (ops replica.old.saved.fields.checkpoint (replica.old.saved.fields.checkpoint + 64))) replica.old replica.new (D.told disk.old) (D.told disk.new) out.old out.new result }
+    ensures step { Does (each (recover_op replica.old.saved) (window_of replica.old.saved)) replica.old replica.new (D.told disk.old) (D.told disk.new) out.old out.new result }
 {
     let mut buffer = Buffer::new(alloc)?;
     recover_window(replica, disk, &mut buffer, out)

@@ -1,12 +1,13 @@
 //! A replica is recovered from its disk.
 ghost use Rattle.std.specs.Prelude.{◌≡◌, ◌≢◌, true, false, IfOk, IfErr, IfSome, Ok};
 ghost use Rattle.vr_disk.specs.Counts.{CountsFault};
+ghost use Rattle.vr_opening.specs.declared.reopen.NoValue.TheVariants as NoValue;
 ghost use Rattle.vr_opening.specs.declared.reopen.Refusal.TheVariants as Refusal;
 ghost use Rattle.vr_journal.specs.Does.{Caused};
 ghost use Rattle.vr_journal.specs.Ready.{IsReady};
 ghost use Rattle.vr_opening.specs.Finding.{IsOpeningOld};
 ghost use Rattle.vr_journal.specs.Opening.{blank};
-ghost use Rattle.vr_opening.specs.Recovering.{after_mend, DoesTo, config_of, FindsValue, refusal_of, Recovered, RecoveredAny};
+ghost use Rattle.vr_opening.specs.Recovering.{after_mend, DoesTo, config_of, FindsValue, not_found, refusal_of, Recovered, RecoveredAny};
 ghost use Rattle.vr_journal.specs.Halt.TheVariants as Halt;
 ghost use Rattle.vr_super.specs.Recovers.{IsFound};
 
@@ -66,6 +67,17 @@ pub enum Refusal {
     Halted(Halt),
 }
 
+/// Why a disk gives no value.
+#[derive(Clone, Copy, Debug, PartialEq, Eq)]
+pub enum NoValue {
+    /// No two good copies of the superblock agree.
+    Lost([CopyVerdict; 4]),
+    /// It has one, but its file is of another version than is asked for.
+    OtherVersion,
+    /// A call of the disk failed, or there was no memory.
+    Halted(Halt),
+}
+
 // The member that a value names.
 pub(crate) fn config_of(value: &Super) -> Config
     ensures { result ≡ config_of value.now }
@@ -84,49 +96,61 @@ fn mended_value<D: SectorDisk>(
     disk: &mut D,
     found: FoundValue,
     wanted: &Option<Version>,
-) -> Result<Super, Refusal>
+) -> Result<Super, NoValue>
     requires { IfSome (D.told disk.old) (λ d. IsFound d.face found) }
-    ensures cause { CountsFault (Refusal.Halted Halt.DiskFault) (D.faults disk.old) (D.faults disk.new) result }
+    ensures cause { CountsFault (NoValue.Halted Halt.DiskFault) (D.faults disk.old) (D.faults disk.new) result }
     ensures value { FindsValue wanted.now (D.told disk.old) (D.told disk.new) result }
 {
     if is_left(&found.value, wanted) {
-        return Err(Refusal::Lost([CopyVerdict::Good; 4]));
+        return Err(NoValue::OtherVersion);
     }
     match mend_found(disk, found) {
         Ok(value) => Ok(value),
-        Err(_) => Err(Refusal::Halted(Halt::DiskFault)),
+        Err(_) => Err(NoValue::Halted(Halt::DiskFault)),
     }
 }
 
-// Why a disk gives no replica on which no value was found. One that there was no memory for is left alone by its version.
-#[tactic(auto, unfolding(crate::specs::Recovering::refusal_of))]
-fn refusal_of(fault: FindFault, wanted: &Option<Version>) -> Refusal
-    ensures { result ≡ refusal_of wanted.now fault }
+// Why a disk gives no value on which none was found. One that there was no memory for is left alone by its version.
+#[tactic(auto, unfolding(crate::specs::Recovering::not_found))]
+fn not_found(fault: FindFault, wanted: &Option<Version>) -> NoValue
+    ensures { result ≡ not_found wanted.now fault }
 {
     match fault {
-        FindFault::Lost(verdicts) => Refusal::Lost(verdicts),
+        FindFault::Lost(verdicts) => NoValue::Lost(verdicts),
         FindFault::NoMemory(version) => {
             if is_other(version, wanted) {
-                Refusal::Lost([CopyVerdict::Good; 4])
+                NoValue::OtherVersion
             } else {
-                Refusal::Halted(Halt::NoMemory)
+                NoValue::Halted(Halt::NoMemory)
             }
         }
     }
 }
 
-// What stood in the way of the superblock's value, in a file of the version that is asked for.
+// Why a disk without a value gives no replica: of a file of another version all copies are called good.
+#[tactic(auto, unfolding(crate::specs::Recovering::refusal_of))]
+pub(crate) fn refusal_of(why: NoValue) -> Refusal
+    ensures { result ≡ refusal_of why }
+{
+    match why {
+        NoValue::Lost(verdicts) => Refusal::Lost(verdicts),
+        NoValue::OtherVersion => Refusal::Lost([CopyVerdict::Good; 4]),
+        NoValue::Halted(halt) => Refusal::Halted(halt),
+    }
+}
+
+// The superblock's value, mended, in a file of the version that is asked for; or why there is none.
 pub(crate) fn find_value<D: SectorDisk>(
     alloc: Global,
     disk: &mut D,
     wanted: &Option<Version>,
-) -> Result<Super, Refusal>
-    ensures cause { CountsFault (Refusal.Halted Halt.DiskFault) (D.faults disk.old) (D.faults disk.new) result }
+) -> Result<Super, NoValue>
+    ensures cause { CountsFault (NoValue.Halted Halt.DiskFault) (D.faults disk.old) (D.faults disk.new) result }
     ensures value { FindsValue wanted.now (D.told disk.old) (D.told disk.new) result }
 {
     match find(alloc, disk) {
         Ok(found) => mended_value(disk, found, wanted),
-        Err(fault) => Err(refusal_of(fault, wanted)),
+        Err(fault) => Err(not_found(fault, wanted)),
     }
 }
 
@@ -140,7 +164,7 @@ pub(crate) fn is_same(found: &Config, asked: &Config) -> bool
 
 /// The replica of a disk, if the disk is that of the member that is asked for. Of another member's disk the superblock is mended, and no
 /// other call is made, whatever the answer.
-#[tactic(auto, using(crate::proofs::Recovers::recovered, crate::proofs::Recovers::halted, crate::proofs::Recovers::other_member, crate::proofs::Recovers::refused))]
+#[tactic(auto, using(crate::proofs::Recovers::recovered, crate::proofs::Recovers::halted, crate::proofs::Recovers::other_member))]
 pub fn recover<D: SectorDisk>(
     alloc: Global,
     disk: &mut D,
@@ -152,7 +176,7 @@ pub fn recover<D: SectorDisk>(
     ensures step { Recovered asked.now (D.told disk.old) (D.told disk.new) out.old out.new result }
 {
     match find_value(alloc, disk, &None) {
-        Err(refusal) => Err(refusal),
+        Err(why) => Err(refusal_of(why)),
         Ok(value) => {
             let found = config_of(&value);
             if is_same(&found, asked) {
@@ -180,7 +204,7 @@ pub fn recover_any<D: SectorDisk>(
     ensures step { RecoveredAny version (D.told disk.old) (D.told disk.new) out.old out.new result }
 {
     match find_value(alloc, disk, &Some(version)) {
-        Err(refusal) => Err(refusal),
+        Err(why) => Err(refusal_of(why)),
         Ok(value) => match open_value(alloc, disk, value, out) {
             Ok(replica) => Ok(replica),
             Err(halt) => Err(Refusal::Halted(halt)),
