@@ -53,7 +53,7 @@ steps() {
     }'
 }
 
-handle=vr_group::host::Host::handle
+handle=vr_group::host::step_on
 rounds 4 2 > "$folder/four"
 printf '%s\n' 'cluster 3' 'request 0 7 0 register' > "$folder/first"
 steps 'the first prepare, stored and acknowledged by a backup' $handle "$folder/first" 'deliver 0'
