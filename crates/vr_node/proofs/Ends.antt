@@ -1,5 +1,5 @@
 -- How a member ends.
-use Rattle.std.proofs.Common.{◌≡◌, ◌≢◌, ◌≤◌, ◌<◌, ◌⊎◌, ℕ, true, false, List, [], ◌∷◌, length, get_or, Option, Some, None, Result, Err, refl, sym, subst, inl, inr, arith}
+use Rattle.std.proofs.Common.{◌≡◌, ◌≢◌, ◌≤◌, ◌<◌, ℕ, true, false, List, [], ◌∷◌, length, get_or, Option, Some, None, Result, Err, refl, sym, subst, inl, inr, arith}
 use Rattle.std.proofs.lemmas.List.{get_or-map}
 use Rattle.std.specs.Global.{Global}
 use Rattle.std.specs.Prelude.{String, string_bytes}
@@ -15,14 +15,14 @@ use Rattle.vr_edge.specs.declared.attach.Attach.{Attach}
 use Rattle.vr_edge.specs.declared.datagram.Datagram.{Datagram}
 use Rattle.vr_msg.specs.declared.output.Output.{Output}
 use Rattle.vr_node.specs.Opening.{Opens, OpensNone}
-use Rattle.vr_node.specs.Running.{EndsAttached, GroupEnds, IsCut, NodeEnds, Outside, ServeEnds, end_in, on_disk, outside}
-use Rattle.vr_node.specs.Steps.{steps, stops}
+use Rattle.vr_node.specs.Running.{EndsAttached, GroupEnds, IsCut, NodeEnds, Outside, ServeEnds, on_disk, outside}
+use Rattle.vr_node.specs.Steps.{steps}
 use Rattle.vr_node.specs.Stops.{disk_after, status_of}
 use Rattle.vr_node.specs.declared.node.Node.{Node}
 use Rattle.vr_replica.specs.Replica.{version}
 use Rattle.vr_serve.specs.Causes.{Counts, HasCauses, counts}
 use Rattle.vr_serve.specs.Causes as serve
-use Rattle.vr_serve.specs.Runs.{IsCutBefore, IsCutInTurn, IsServed}
+use Rattle.vr_serve.specs.Runs.{IsServed}
 use Rattle.vr_serve.specs.declared.stop.Stop.{Stop}
 use Rattle.vr_serve.specs.declared.stop.Stop.TheVariants as stop
 use Rattle.vr_status.proofs.Counting.{links_kept}
@@ -32,35 +32,18 @@ use Rattle.vr_status.specs.declared.status.Status.TheVariants as status
 
 -- ---- serving
 
--- a front of the run, of a loop that was given this version and this group
-abbrev pub CutAs : ℕ → ℕ → ℕ → List Output → Node → Outside → Outside → Stop → Type 0
-CutAs v k turns first node o o' why =
-    IsCutBefore first o.disk o.left o'.left o.got o'.got o.taken o.sent (end_in why o')
-    ⊎ IsCutInTurn steps stops v k turns first node o.disk o.left o'.left o.got o'.got o.taken o.sent (end_in why o')
+pub served : (turns : ℕ) (first : List Output) (node node' : Node) (o o' : Outside) (b n : Counts)
+    → IsServed steps (version node.replica.memory) node.replica.memory.cluster turns first node node' o.disk o'.disk o.left o'.left o.got o'.got o.taken o'.taken o.sent o'.sent
+    → ServeEnds turns first node o o' b n status.Done
+served turns first node node' o o' b n s = (node', s)
 
-pub served : (turns : ℕ) (first : List Output) (node node' : Node) (o o' : Outside) (b n : Counts) (v k : ℕ)
-    → IsServed steps v k turns first node node' o.disk o'.disk o.left o'.left o.got o'.got o.taken o'.taken o.sent o'.sent
-    → v ≡ version node.replica.memory → k ≡ node.replica.memory.cluster → ServeEnds turns first node o o' b n status.Done
-served turns first node node' o o' b n v k s x y = (
-  node',
-  subst (λ a. IsServed steps a node.replica.memory.cluster turns first node node' o.disk o'.disk o.left o'.left o.got o'.got o.taken o'.taken o.sent o'.sent) x
-      (subst (λ a. IsServed steps v a turns first node node' o.disk o'.disk o.left o'.left o.got o'.got o.taken o'.taken o.sent o'.sent) y s),
-)
-
-cut_so : (turns : ℕ) (first : List Output) (node : Node) (o o' : Outside) (b n : Counts) (s : Stop)
+pub cut_off : (turns : ℕ) (first : List Output) (node : Node) (o o' : Outside) (b n : Counts) (s : Stop)
     → HasCauses {T = Unit {0}} b n (Err s) → (◌≡◌ {A = Result (Unit {0}) Stop} (Err s) (Err stop.Link) → EndsFailed o.got o'.got) → IsCut turns first node o o' s
     → ServeEnds turns first node o o' b n (status_of s)
-cut_so turns first node o o' b n stop.Disk h l c = (let d = h.disk in omega (arith, d), c)
-cut_so turns first node o o' b n stop.Link h l c = (let k = h.link in omega (arith, k), l refl, c)
-cut_so turns first node o o' b n stop.Write h l c = (let w = h.write in omega (arith, w), c)
-cut_so turns first node o o' b n stop.NoMemory h l c = c
-
-pub cut_off : (turns : ℕ) (first : List Output) (node : Node) (o o' : Outside) (b n : Counts) (s : Stop) (v k : ℕ)
-    → HasCauses {T = Unit {0}} b n (Err s) → (◌≡◌ {A = Result (Unit {0}) Stop} (Err s) (Err stop.Link) → EndsFailed o.got o'.got)
-    → CutAs v k turns first node o o' s → v ≡ version node.replica.memory → k ≡ node.replica.memory.cluster → ServeEnds turns first node o o' b n (status_of s)
-cut_off turns first node o o' b n s v k h l c x y =
-    cut_so turns first node o o' b n s h l
-    (subst (λ a. CutAs a node.replica.memory.cluster turns first node o o' s) x (subst (λ a. CutAs v a turns first node o o' s) y c))
+cut_off turns first node o o' b n stop.Disk h l c = (let d = h.disk in omega (arith, d), c)
+cut_off turns first node o o' b n stop.Link h l c = (let k = h.link in omega (arith, k), l refl, c)
+cut_off turns first node o o' b n stop.Write h l c = (let w = h.write in omega (arith, w), c)
+cut_off turns first node o o' b n stop.NoMemory h l c = c
 
 -- ---- the link
 

@@ -1,17 +1,22 @@
 -- What the pieces of a member's run leave.
-use Rattle.std.specs.Prelude.{◌≡◌, List, string_bytes}
+use Rattle.std.specs.Prelude.{ℕ, ◌≡◌, true, List, string_bytes, Result, Err, OnOk, IfErr}
 use Rattle.vr_disk.specs.declared.disk.SectorDisk as of_disk
 use Rattle.vr_edge.specs.Attaching.{texts_of}
-use Rattle.vr_edge.specs.Failing.{LinkFailure}
+use Rattle.vr_edge.specs.Failing.{EndsFailed, LinkFailure}
 use Rattle.vr_edge.specs.declared.clock.Clock as of_clock
 use Rattle.vr_edge.specs.declared.link.Link as of_link
 use Rattle.vr_edge.specs.declared.sink.Sink as of_sink
 use Rattle.vr_msg.specs.declared.output.Output.{Output}
-use Rattle.vr_node.specs.Running.{EndsAttached, GroupEnds, NodeEnds, Outside, outside}
+use Rattle.vr_node.specs.Running.{EndsAttached, GroupEnds, IsCut, NodeEnds, Outside, outside}
+use Rattle.vr_node.specs.Steps.{steps}
 use Rattle.vr_node.specs.Stops.{disk_after}
 use Rattle.vr_node.specs.declared.node.Node.{Node}
 use Rattle.vr_node.specs.declared.role.Role.{Role}
-use Rattle.vr_serve.specs.Causes.{Counts, counts}
+use Rattle.vr_replica.specs.Replica.{version}
+use Rattle.vr_serve.specs.Causes.{Counts, HasCauses, counts}
+use Rattle.vr_serve.specs.Runs.{IsServed}
+use Rattle.vr_serve.specs.declared.stop.Stop.{Stop}
+use Rattle.vr_serve.specs.declared.stop.Stop.TheVariants as stop
 use Rattle.vr_status.specs.Counts.{links_after, writes_after}
 use Rattle.vr_status.specs.declared.status.Status.{Status}
 use Rattle.vr_status.specs.declared.status.Status.TheVariants.{LinkFault}
@@ -23,6 +28,17 @@ outside_of d l c k disk link clock sink = outside (d.told disk) (c.left clock) (
 -- the faults that they count
 abbrev pub faults_of : {D L K : Type 0} → of_disk.Ghosts D → of_link.Ghosts L → of_sink.Ghosts K → D → L → K → Counts
 faults_of d l k disk link sink = counts (d.faults disk) (k.faults sink) (l.faults link)
+
+-- a member served its group for so many turns, or its loop ended early
+pub record ServesGroup {D L C K : Type 0} (d : of_disk.Ghosts D) (l : of_link.Ghosts L) (c : of_clock.Ghosts C) (k : of_sink.Ghosts K) (turns : ℕ) (first : List Output)
+    (node node' : Node) (disk0 disk1 : D) (link0 link1 : L) (clock0 clock1 : C) (sink0 sink1 : K) (result : Result (Unit {0}) Stop) : Type 0 where
+  pub running : OnOk result (node'.replica.running ≡ true)
+  pub causes : HasCauses (faults_of d l k disk0 link0 sink0) (faults_of d l k disk1 link1 sink1) result
+  pub linked : result ≡ Err stop.Link → EndsFailed (l.received link0) (l.received link1)
+  pub attached : l.attached link1 ≡ l.attached link0
+  pub done : OnOk result (IsServed steps (version node.replica.memory) node.replica.memory.cluster turns first node node' (d.told disk0) (d.told disk1)
+      (c.left clock0) (c.left clock1) (l.received link0) (l.received link1) (k.taken sink0) (k.taken sink1) (l.sent link0) (l.sent link1))
+  pub cut : IfErr result (IsCut turns first node (outside_of d l c k disk0 link0 clock0 sink0) (outside_of d l c k disk1 link1 clock1 sink1))
 
 -- a way to end
 abbrev pub Ending : Type 1

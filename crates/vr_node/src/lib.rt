@@ -6,8 +6,10 @@ mod node;
 mod opening;
 mod role;
 mod running;
+mod serving;
 
 pub use moving::run_migration;
 pub use node::Node;
 pub use role::Role;
 pub use running::run_node;
+pub use serving::serve;

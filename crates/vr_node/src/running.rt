@@ -6,13 +6,13 @@ ghost use Rattle.vr_node.specs.Running.{ServeEnds};
 ghost use Rattle.vr_node.specs.Stops.{status_of};
 
 use crate::opening::open_member;
-use crate::{Node, Role};
+use crate::{Node, Role, serve};
 use std::alloc::Global;
 use vr_base::Seq;
 use vr_disk::SectorDisk;
 use vr_edge::{Clock, Link, Sink};
 use vr_msg::Outbox;
-use vr_serve::{Stop, serve};
+use vr_serve::Stop;
 use vr_status::Status;
 
 /// The status of a loop that ended early.
@@ -43,11 +43,7 @@ fn serve_turns<D: SectorDisk, L: Link, C: Clock, K: Sink>(
     ensures ends { Ends D.SectorDisk L.Link C.Clock K.Sink (ServeEnds turns first node.old) disk.old disk.new link.old link.new clock.old clock.new sink.old sink.new result }
     ensures attached { L.attached link.new ≡ L.attached link.old }
 {
-    let version = node.version();
-    let cluster = node.cluster();
-    match serve(
-        alloc, version, cluster, node, first, disk, link, clock, sink, turns,
-    ) {
+    match serve(alloc, node, first, disk, link, clock, sink, turns) {
         Ok(()) => Status::Done,
         Err(stop) => status_of(stop),
     }

@@ -12,7 +12,7 @@ returns-in-Err-clause-ends g c =
     let stop = c.in-Err.stop in
     let causes = c.in-Err.ensures.causes in
     rw c.status_of.ensures (record {
-      ends = cut_off c.args.turns c.args.first c.args.node.now o o' b n stop _ _ causes (λ e. c.serve.ensures.linked (c.in-Err.is ∙ e)) c.in-Err.ensures.cut (search rules) (search rules);
+      ends = cut_off c.args.turns c.args.first c.args.node.now o o' b n stop causes (λ e. c.serve.ensures.linked (c.in-Err.is ∙ e)) c.in-Err.ensures.cut;
       disk = stop_disk stop b.disk n.disk causes.disk;
       write = stop_writes stop b.write n.write causes.write;
       links = stop_links stop b.link n.link causes.link;
