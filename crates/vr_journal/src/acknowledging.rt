@@ -12,7 +12,8 @@ use vr_header::Part;
 use vr_memory::Replica;
 use vr_msg::Outbox;
 
-/// Acknowledges the entry of an op if it is stored.
+// Where the Part of this op is `Here`, one prepare_ok of it to the view's primary is put out, else nothing. Whether its entry reads isn't
+// looked at. After an `Err`, want of memory, nothing is said of outputs.
 #[tactic(auto, using(crate::proofs::Acks::here_entry))]
 fn acknowledge_stored(replica: &Replica, op: u64, out: &mut Outbox) -> Result<(), AllocError>
     requires ready { IsReady replica.now }
@@ -25,7 +26,9 @@ fn acknowledge_stored(replica: &Replica, op: u64, out: &mut Outbox) -> Result<()
     }
 }
 
-/// Acknowledges each entry that is stored, from the op above its commit number on to this one.
+/// For each op above the commit number up to this one, ascending, whose Part is `Here`: one prepare_ok to the view's primary. Nothing else
+/// is put out, and no entry is read. `Tells`: these outputs are the word's, which leaves replica and disk as they are. After an `Err`, want
+/// of memory, nothing is said of outputs.
 #[tactic(auto, using(crate::proofs::Acks::acks))]
 pub fn acknowledge_all(replica: &Replica, head: u64, out: &mut Outbox) -> Result<(), AllocError>
     requires ready { IsReady replica.now }

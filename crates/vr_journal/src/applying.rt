@@ -19,7 +19,9 @@ use vr_memory::Replica;
 use vr_msg::Outbox;
 use vr_step::Halt;
 
-/// Writes a checkpoint of the op just applied.
+// Writes the checkpoint of the op just applied: the blocks that changed since the table before, then the root, then one sync. `Ok` gives
+// the new root's name and the new table. `HasApplied`: an entry was just applied, and nothing done since. After an `Err` the disk has had
+// these calls up to the stop; nothing is put out.
 #[tactic(auto, using(crate::proofs::Performing::checkpoint_made, vr_memory::proofs::Memory::due_number))]
 fn put_checkpoint<D: SectorDisk>(
     replica: &Replica,
@@ -48,7 +50,9 @@ fn put_checkpoint<D: SectorDisk>(
     }
 }
 
-/// Makes the checkpoint that is due.
+// In this order: the checkpoint of the op just applied is written, the window moves up to it, and the replica saves. Of the ops that come
+// in nothing is known, no block is worn any more, and nothing is put out. After an `Err` the disk has had its calls up to the stop; of
+// replica and outputs nothing is said.
 #[tactic(auto, using(crate::proofs::Performing::checkpoint_then, crate::proofs::Performing::checkpoint_stopped, crate::proofs::Performing::checkpoint_wanted, vr_memory::proofs::Memory::ready_moved))]
 fn make_checkpoint<D: SectorDisk>(
     replica: &mut Replica,
@@ -67,7 +71,8 @@ fn make_checkpoint<D: SectorDisk>(
     save(replica, alloc, disk, out)
 }
 
-// Makes a checkpoint where one is due.
+// Where the op just applied is a multiple of 32 (`due`), its checkpoint is written, the window moves up to it, and the replica saves. Else
+// nothing is done. Nothing is put out. After an `Err` the disk has had its calls up to the stop; of replica and outputs nothing is said.
 #[tactic(auto, using(crate::proofs::Applies::due_then, crate::proofs::Applies::due_none, vr_memory::proofs::Memory::ready_applied))]
 fn check_point<D: SectorDisk>(
     replica: &mut Replica,
@@ -87,7 +92,10 @@ fn check_point<D: SectorDisk>(
     }
 }
 
-/// Applies an entry.
+// In this order: the commit line of this entry; where the replica leads, the reply to it; then it goes through sessions and machine, and
+// applied is one more. Where that op is a multiple of 32, the checkpoint is written, the window moves up, and the replica saves.
+// `MayApply`: no block is missing, and applied is below the commit number. After an `Err` the disk has had its calls up to the stop; of
+// replica and outputs nothing is said.
 #[tactic(auto, using(crate::proofs::Applies::entry_then, vr_step::proofs::Stepping::wants, vr_memory::proofs::Memory::has_applied))]
 fn apply_entry<D: SectorDisk>(
     replica: &mut Replica,
@@ -107,7 +115,9 @@ fn apply_entry<D: SectorDisk>(
     check_point(replica, alloc, disk, out)
 }
 
-// Applies the entry of this header, which is stored.
+// Where the slot reads as this header's whole entry, that is applied: line, reply where the replica leads, state, and where one is due the
+// checkpoint, written and saved. Where it doesn't, the Part of the op becomes `Lost`, and nothing else is done. After an `Err` the disk has
+// had its calls up to the stop; of replica and outputs nothing is said.
 #[tactic(auto, using(vr_step::proofs::Stepping::readings, vr_step::proofs::Stepping::wants, vr_memory::proofs::Memory::readies, vr_memory::proofs::Memory::may_ready, crate::proofs::Readings::here_taken))]
 fn apply_found<D: SectorDisk>(
     replica: &mut Replica,
@@ -131,7 +141,9 @@ fn apply_found<D: SectorDisk>(
     }
 }
 
-// Applies the next entry, of which this is known.
+// `part` is that of the next op. Where it is `Here` and its entry reads, that is applied: line, reply where the replica leads, state, and
+// where one is due the checkpoint, written and saved. Where it is `Here` and doesn't read, it becomes `Lost`; where it isn't `Here`,
+// nothing is done. After an `Err` the disk has had its calls up to the stop; of replica and outputs nothing is said.
 #[tactic(auto, using(vr_step::proofs::Stepping::kinds, vr_memory::proofs::Memory::here_op, vr_memory::proofs::Memory::may_ready))]
 fn apply_part<D: SectorDisk>(
     replica: &mut Replica,
@@ -152,7 +164,9 @@ fn apply_part<D: SectorDisk>(
     }
 }
 
-// Applies the next entry, if it may.
+// Where no block is missing, applied is below the commit number, and the next op is `Here`, its entry is read. One that reads is applied:
+// line, reply where the replica leads, state, and where one is due the checkpoint, written and saved. One that doesn't becomes `Lost`. In
+// all other cases nothing is done. After an `Err` the disk has had its calls up to the stop; of replica and outputs nothing is said.
 #[tactic(auto, using(crate::proofs::Applies::next_then, crate::proofs::Applies::next_none, vr_memory::proofs::Memory::may_apply, vr_memory::proofs::Memory::next_fits))]
 fn apply_next<D: SectorDisk>(
     replica: &mut Replica,
@@ -172,7 +186,10 @@ fn apply_next<D: SectorDisk>(
     }
 }
 
-/// Applies the stored entries up to the commit number.
+/// Applies each op above applied up to the commit number, ascending, as long as no block is missing and the op is `Here` and reads. Of
+/// each: commit line, reply where the replica leads, state; at a multiple of 32 also the checkpoint, written and saved before the next op.
+/// One that is `Here` and doesn't read becomes `Lost`, and ends it. After an `Err` the disk has had its calls up to the stop; of replica
+/// and outputs nothing is said.
 #[tactic(auto, using(vr_step::proofs::Stepping::loops, vr_memory::proofs::Memory::few_to_apply), unfolding(crate::specs::Words::apply))]
 pub fn apply<D: SectorDisk>(
     replica: &mut Replica,
@@ -191,7 +208,9 @@ pub fn apply<D: SectorDisk>(
     Ok(())
 }
 
-/// Learns a commit number, and applies.
+/// The commit number becomes the greater of itself and this one, which counts only up to the head. Then ops are applied up to it, ascending
+/// (`apply`): as long as no block is missing and the next one is `Here` and reads; one that doesn't read becomes `Lost`. After an `Err` the
+/// disk has had its calls up to the stop; of replica and outputs nothing is said.
 #[tactic(auto, using(vr_step::proofs::Stepping::steps, vr_memory::proofs::Memory::readies, vr_memory::proofs::Memory::window_of), unfolding(crate::specs::Words::learn))]
 pub fn learn<D: SectorDisk>(
     replica: &mut Replica,

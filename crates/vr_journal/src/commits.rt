@@ -12,7 +12,8 @@ use vr_memory::{Replica, is_here};
 use vr_msg::Outbox;
 use vr_step::Halt;
 
-// Whether there is an op to apply, and its entry is here.
+// Whether no block is missing, applied is below the commit number, and the Part of the op after applied is `Here`. Whether it reads isn't
+// looked at.
 #[tactic(auto, using(vr_memory::proofs::Memory::next_fits))]
 fn applies_next(replica: &Replica) -> bool
     requires { IsReady replica.now }
@@ -23,9 +24,10 @@ fn applies_next(replica: &Replica) -> bool
         && is_here(&replica.part_at(replica.applied() + 1))
 }
 
-/// The commit number rises, up to the head, over each op that a replication quorum has acknowledged, the replica itself counted where the
-/// entry is stored; then what is committed is applied. Where the next op hasn't its quorum, and all that can be is applied, it makes no
-/// call of the disk and takes no memory.
+/// The commit number rises, up to the head, as long as a replication quorum has acknowledged the next op, the replica itself counted where
+/// its Part is `Here`. Then ops are applied up to it, ascending, as long as no block is missing and the next one is `Here` and reads. Where
+/// the next op has no such quorum and nothing more can be applied (`Waits`), it answers `Ok` and leaves the very same disk. After an `Err`
+/// the disk has had its calls up to the stop; of replica and outputs nothing is said.
 #[tactic(auto, using(vr_step::proofs::Stepping::steps, vr_memory::proofs::Versions::advanced_stays, vr_memory::proofs::Memory::window_of, vr_memory::proofs::Repairs::ready_advanced, crate::proofs::Advancing::none_applied, crate::proofs::Advancing::none_next), unfolding(crate::specs::Words::advance))]
 pub fn advance<D: SectorDisk>(
     replica: &mut Replica,

@@ -15,7 +15,9 @@ use vr_memory::{Replica, may_be_stored};
 use vr_rings::{write_again, write_header, write_new};
 use vr_super::Super;
 
-/// Writes an entry into its slot.
+/// Writes and syncs an entry's slot: where the Part of its op is `Here`, `Lost` or `Unknown` the header sector first, else the prepare
+/// first, then the other. The Part stays what it was, and nothing is put out. `Takes`: a file of the replica's version may have an entry of
+/// this version. An `Err` comes exactly where a call failed, and the disk got these calls up to that one.
 #[tactic(auto, using(crate::proofs::Performing::write_is_again, crate::proofs::Performing::write_is_new))]
 pub(crate) fn write_entry<D: SectorDisk>(
     replica: &Replica,
@@ -33,7 +35,9 @@ pub(crate) fn write_entry<D: SectorDisk>(
     }
 }
 
-/// Writes this value over the one last saved, and keeps it.
+/// Mends each copy of the superblock that doesn't read as the value last saved, then writes this value, the replica's present one, into all
+/// four. After `Ok` it is the value last saved, and nothing else of the replica changed; nothing is put out. An `Err` comes exactly where a
+/// call failed: the disk got these calls up to that one, and nothing is said of the replica.
 #[tactic(auto, using(crate::proofs::Performing::save_is))]
 pub(crate) fn save_value<D: SectorDisk>(
     replica: &mut Replica,
@@ -55,7 +59,8 @@ pub(crate) fn save_value<D: SectorDisk>(
     }
 }
 
-/// Writes the header sector of a slot alone.
+/// Writes the header sector of this header's slot, its op modulo 64, and syncs; the prepare isn't touched, and nothing is put out. An `Err`
+/// comes exactly where a call failed, and the disk got these calls up to that one.
 #[tactic(auto, using(crate::proofs::Performing::rewrite_is))]
 pub fn rewrite_header<D: SectorDisk>(
     _replica: &Replica,
@@ -68,7 +73,8 @@ pub fn rewrite_header<D: SectorDisk>(
     write_header(disk, header)
 }
 
-/// Writes a whole block under its name.
+/// Writes the bytes, which are the whole block of this name, at the name's address, and syncs. What is missing or worn stays as it was, and
+/// nothing is put out. An `Err` comes exactly where a call failed, and the disk got these calls up to that one.
 #[tactic(auto, using(crate::proofs::Performing::put_is))]
 pub fn put_block<D: SectorDisk>(
     _replica: &Replica,

@@ -14,7 +14,8 @@ use vr_memory::Replica;
 use vr_msg::Outbox;
 use vr_step::Halt;
 
-// What the disk has of the checkpoint.
+// What the disk has of the checkpoint with the replica's root: its texts and table, or what is missing. Missing is the root alone, where
+// that doesn't read, else the data blocks that don't. The disk is only read. An `Err` is want of memory.
 #[tactic(auto, using(crate::proofs::Loads::checkpoint_found))]
 fn find_checkpoint<D: SectorDisk>(
     replica: &Replica,
@@ -27,13 +28,17 @@ fn find_checkpoint<D: SectorDisk>(
     vr_ckpt::load(alloc, disk, replica.root())
 }
 
+// Whether the op of the checkpoint isn't 0.
 fn has_checkpoint(replica: &Replica) -> bool
     ensures { result ≡ nat_lt 0 replica.now.checkpoint }
 {
     0 < replica.checkpoint()
 }
 
-/// Loads the checkpoint.
+/// Where there is a checkpoint and all its blocks read, state and table become its own, and no block is missing. Else both stay, and
+/// missing are the blocks that don't read; or the root alone, where it doesn't read, or its state doesn't decode or fit the file's version.
+/// Without a checkpoint nothing changes. Nothing is written or put out; after an `Err` nothing is said of the replica. `MayLoad`: nothing
+/// is applied above the checkpoint.
 #[tactic(auto, using(crate::proofs::Loads::load_then, crate::proofs::Loads::load_none, vr_step::proofs::Stepping::does_no_memory, crate::proofs::Loads::ready_loaded, crate::proofs::Loads::ready_opened))]
 pub fn load<D: SectorDisk>(
     replica: &mut Replica,
