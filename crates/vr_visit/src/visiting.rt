@@ -23,7 +23,7 @@ use vr_rings::read_header;
 
 // ---- slots
 
-// Whether the header sector of an entry's slot reads as its header.
+// Whether the header sector of this header's slot reads as a valid header, and as just this one. The disk is only read.
 fn reads_as<D: SectorDisk>(disk: &mut D, header: &Header) -> bool
     ensures untouched { Untouched D.SectorDisk disk.old disk.new }
     ensures value { IfSome (D.told disk.old) (λ d. result ≡ reads_as header.now (header_in d.face (header.now.op % 64))) }
@@ -34,7 +34,8 @@ fn reads_as<D: SectorDisk>(disk: &mut D, header: &Header) -> bool
     }
 }
 
-// The header sector of a slot is written anew where it doesn't read as this header.
+// Where the header sector of this header's slot reads as it, `Good`, and nothing is written. Where it doesn't, it is written and synced:
+// `Mended`. An `Err` is `DiskFault`, where that failed. Nothing is put out.
 #[tactic(auto, using(crate::proofs::Visits::header_good, crate::proofs::Visits::header_mended, crate::proofs::Visits::header_stopped, crate::proofs::Visits::found_good, crate::proofs::Visits::found_mended))]
 fn mend_header<D: SectorDisk>(
     replica: &Replica,
@@ -54,7 +55,9 @@ fn mend_header<D: SectorDisk>(
     Ok(Visit::Mended)
 }
 
-// The slot of an entry that is stored is looked at.
+// The op of this header is `Here`. Where its slot doesn't read as the whole entry, the Part becomes `Lost`, and nothing is written: `Lost`.
+// Where it does, its header sector is written anew if it reads as anything else: `Mended`, else `Good`. An `Err` is `DiskFault`, where that
+// write failed; nothing is said of the replica then. Nothing is put out.
 #[tactic(auto, using(crate::proofs::Visits::slot_lost, crate::proofs::Visits::found_stored, crate::proofs::Visits::found_lost, vr_journal::proofs::Memory::readies))]
 fn visit_stored<D: SectorDisk>(
     replica: &mut Replica,
@@ -76,9 +79,9 @@ fn visit_stored<D: SectorDisk>(
     }
 }
 
-/// Looks at the slot of an op: an entry that was stored and can't be read is lost; the header sector of one that reads is written anew
-/// where it reads as something else. Nothing is looked at where no entry of the op is known to be stored. It takes no memory: an `Err` is a
-/// write that failed.
+/// Where the Part of this op is `Here` and its slot doesn't read as the whole entry, it becomes `Lost`, and nothing is written: `Lost`.
+/// Where it does read, its header sector is written anew if it reads as anything else: `Mended`, else `Good`. Where the Part isn't `Here`,
+/// nothing is done: `Nothing`. An `Err` is `DiskFault`, where that write failed; nothing is said of the replica then.
 #[tactic(auto, using(crate::proofs::Visits::slot_nothing, crate::proofs::Visits::found_here, crate::proofs::Visits::found_nothing, vr_journal::proofs::Memory::here_op))]
 pub fn visit_slot<D: SectorDisk>(
     replica: &mut Replica,
@@ -99,7 +102,8 @@ pub fn visit_slot<D: SectorDisk>(
 
 // ---- the superblock, and blocks
 
-// Each copy of the superblock that doesn't read as the value last saved is written anew.
+// Each copy of the superblock that doesn't read as the value last saved is written anew, one after the other; the others get no call.
+// Nothing is put out. An `Err` comes exactly where a call failed, and the disk got these calls up to that one.
 fn mend_value<D: SectorDisk>(replica: &Replica, disk: &mut D) -> Result<(), DiskFault>
     ensures runs { Performs mends replica.now (D.told disk.old) (D.told disk.new) (is_ok result) }
     ensures cause { HasCause (D.faults disk.old) (D.faults disk.new) result }
@@ -107,7 +111,8 @@ fn mend_value<D: SectorDisk>(replica: &Replica, disk: &mut D) -> Result<(), Disk
     vr_super::mend_value(disk, replica.saved())
 }
 
-// A block of the checkpoint is looked at.
+// Where the block of this name doesn't read whole, its address is in the grid, and no worn one has that address, it becomes the last of the
+// worn. Else nothing changes. Nothing is written or put out; after an `Err` nothing is said of the replica.
 #[tactic(auto, using(crate::proofs::Visits::block_bad, crate::proofs::Visits::block_good, crate::proofs::Visits::ready_worn_after, vr_journal::proofs::Stepping::does_no_memory))]
 fn visit_block<D: SectorDisk>(
     replica: &mut Replica,
@@ -124,7 +129,10 @@ fn visit_block<D: SectorDisk>(
     Ok(())
 }
 
-// Looks at a place.
+// Of places below 64 the slot is visited: an entry that is `Here` and doesn't read becomes `Lost`; where it reads and its header sector
+// doesn't, that is written. At 64 the superblock's copies that don't read as the value last saved are written. From 65 on a block of the
+// checkpoint, root first: one that doesn't read becomes worn. Past those nothing is done, and nothing is ever put out. After an `Err` the
+// disk has had its calls up to the stop; of replica and outputs nothing is said.
 #[tactic(auto, using(crate::proofs::Visits::place_slot, crate::proofs::Visits::place_value, crate::proofs::Visits::place_block, crate::proofs::Visits::block_none, vr_journal::proofs::Stepping::does_effect, vr_journal::proofs::Stepping::does_effect_stopped))]
 fn visit_place<D: SectorDisk>(
     replica: &mut Replica,
@@ -150,8 +158,10 @@ fn visit_place<D: SectorDisk>(
     }
 }
 
-/// Looks at the next place of the disk, one after the other and then from the front. While a block of the checkpoint is missing nothing
-/// is looked at.
+/// Where a block is missing, nothing is done. Else the place at the cursor is visited, or place 0 where that is past the last one; then the
+/// cursor goes on by one, after the last to 0. Places are the 64 slots, the superblock, the checkpoint's root and the blocks of its table.
+/// Header sectors and superblock are mended; an entry that doesn't read becomes `Lost`, such a block worn; nothing is put out. After an
+/// `Err` the disk has had its calls up to the stop; of replica and outputs nothing is said.
 #[tactic(auto, using(crate::proofs::Visits::visit_then, crate::proofs::Visits::visit_stopped, crate::proofs::Visits::visit_none, crate::proofs::Visits::ready_moved))]
 pub fn visit<D: SectorDisk>(
     replica: &mut Replica,
