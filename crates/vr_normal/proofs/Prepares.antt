@@ -1,5 +1,5 @@
 -- Prepares: which rule applies, and what it is.
-use Rattle.std.proofs.Common.{arith, ◌≡◌, ◌≤◌, ◌<◌, ◌+◌, ◌∙◌, ◌⊎◌, inl, inr, refl, sym, ap, subst, false, not, List, ◌++◌, Option, Result, Ok}
+use Rattle.std.proofs.Common.{arith, ◌≡◌, ◌≤◌, ◌<◌, ◌∙◌, ◌⊎◌, inl, inr, refl, sym, ap, subst, false, not, List, ◌++◌, Option, Result, Ok}
 use Rattle.std.specs.Prelude.{nat_lt, nat_le}
 use Rattle.std.proofs.lemmas.Bool.{ltb-false, leb-false}
 use Rattle.vr_base.specs.Bytes.{name_of}

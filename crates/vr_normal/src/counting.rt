@@ -27,7 +27,8 @@ pub enum CountRule {
     Counted,
 }
 
-// Whether it is of an open entry of the view that this replica leads.
+// Whether the replica leads, the message is of its view, and its op is above the commit number, at most the head, and has a known header of
+// this name.
 #[tactic(auto, using(vr_journal::proofs::Memory::window_of, vr_journal::proofs::Memory::some_member))]
 fn is_open(replica: &Replica, ack: &PrepareOk) -> bool
     requires { IsReady replica.now }
@@ -40,7 +41,8 @@ fn is_open(replica: &Replica, ack: &PrepareOk) -> bool
         && replica.is_named(&ack.name, ack.op)
 }
 
-/// Which rule applies to a prepare_ok.
+/// `Counted` where the message is of this version and group and from another replica, the replica leads, and it is of that very view. And
+/// its op has to be above the commit number, at most the head, and to have a known header of this name. Else `Ignored`.
 #[tactic(auto, unfolding(vr_journal::specs::Deciding::first_of))]
 pub fn decide_prepare_ok(replica: &Replica, ack: &PrepareOk) -> CountRule
     requires { IsReady replica.now }
@@ -55,7 +57,9 @@ pub fn decide_prepare_ok(replica: &Replica, ack: &PrepareOk) -> CountRule
     }
 }
 
-// It is counted, and the commit number rises as far as it may.
+// The sender is added to those that have acknowledged this op. Then advance: the commit number rises, up to the head, as long as the next
+// op has its quorum, and what is committed is applied. Where that neither raises nor applies anything (`Waits`), it answers `Ok` and leaves
+// the very same disk. After an `Err` the disk has had its calls up to the stop; of replica and outputs nothing is said.
 #[tactic(auto, using(vr_journal::proofs::Stepping::steps, crate::proofs::Counts::counted_from, crate::proofs::Counts::counted_within, crate::proofs::Counts::ready_counted))]
 fn count<D: SectorDisk>(
     replica: &mut Replica,
@@ -73,8 +77,11 @@ fn count<D: SectorDisk>(
     advance(replica, alloc, disk, out)
 }
 
-/// A backup has stored an entry. Where that is open in the view that this replica leads it is counted, and the commit number rises as
-/// far as a quorum has stored the entries. Where it then waits it makes no call of the disk and takes no memory.
+/// Rule 15: a message of this version and group, from another replica, of an open entry of the view that this one leads, counts for its
+/// sender. Open: the op is above the commit number, at most the head, and has a known header of this name. Then the commit number rises as
+/// long as the next op has its quorum, and what is committed is applied. Where it isn't so, nothing is done; then, and where it counts but
+/// nothing can rise or be applied (`Waits`), it answers `Ok` and leaves the very same disk. After an `Err` the disk has had its calls up to
+/// the stop; of replica and outputs nothing is said.
 #[tactic(auto, using(crate::proofs::Counts::rules))]
 pub fn handle_prepare_ok<D: SectorDisk>(
     replica: &mut Replica,

@@ -6,7 +6,7 @@ ghost use Rattle.vr_header.specs.Spelling.{IsHeader};
 use vr_header::{Entry, Header};
 use vr_journal::valued;
 
-/// The header of an entry, which has the values of one.
+/// The header of the entry. By its type it is that of an entry, and has the values of the program.
 pub fn header_of(entry: &Entry) -> Header
     ensures same { result ≡ entry.now.header }
     ensures values { IsHeader entry.now.header }

@@ -30,7 +30,7 @@ pub enum CommitRule {
     CommitHeard,
 }
 
-/// Asks a replica for the log of a view.
+/// Puts out one get_view of this view, to the replica `to`. After an `Err`, want of memory, nothing is said of outputs.
 pub fn ask_view(replica: &Replica, view: u32, to: u8, out: &mut Outbox) -> Result<(), AllocError>
     requires { view ≤ last_view }
     ensures { OnOk result (out.new ≡ out.old ++ send_to to (get_view view replica.now) replica.now) }
@@ -44,7 +44,8 @@ pub fn ask_view(replica: &Replica, view: u32, to: u8, out: &mut Outbox) -> Resul
     replica.tell(to, message, out)
 }
 
-/// Which rule applies to a commit.
+/// The first that holds: `Ignored` unless it is of this version and group and from its view's primary, another replica; `CommitBefore`
+/// below the view. Then `CommitLater` above the log view; else `CommitHeard`.
 #[tactic(auto, using(vr_journal::proofs::Memory::some_member), unfolding(vr_journal::specs::Deciding::first_of))]
 pub fn decide_commit(replica: &Replica, commit: &Commit) -> CommitRule
     requires { IsReady replica.now }
@@ -61,7 +62,7 @@ pub fn decide_commit(replica: &Replica, commit: &Commit) -> CommitRule
     }
 }
 
-// Whether the primary's log is longer.
+// Whether the head that the commit tells of is above the replica's.
 #[tactic(auto, using(vr_journal::proofs::Memory::window_of))]
 fn is_behind(replica: &Replica, commit: &Commit) -> bool
     requires { IsReady replica.now }
@@ -70,7 +71,8 @@ fn is_behind(replica: &Replica, commit: &Commit) -> bool
     replica.head() < commit.head
 }
 
-// Asks for the log where the primary's is longer.
+// Where the head that the commit tells of is above the replica's, one get_view of the commit's view goes to its sender; else nothing is put
+// out. Replica and disk are left as they are; after an `Err` nothing is said of outputs.
 #[tactic(auto, using(crate::proofs::Commits::behind, vr_journal::proofs::Stepping::wants))]
 fn ask_behind<D: SectorDisk>(
     replica: &Replica,
@@ -88,7 +90,9 @@ fn ask_behind<D: SectorDisk>(
     Ok(())
 }
 
-// The primary is heard, and the commit number learned.
+// In this order: idle is 0; where the commit's head is above the replica's, a get_view of its view goes to its sender. Then its commit
+// number is learned, at most up to the head, and what is committed is applied. After an `Err` the disk has had its calls up to the stop; of
+// replica and outputs nothing is said.
 #[tactic(auto, using(vr_journal::proofs::Stepping::steps, vr_journal::proofs::Memory::readies))]
 fn hear<D: SectorDisk>(
     replica: &mut Replica,
@@ -106,8 +110,10 @@ fn hear<D: SectorDisk>(
     learn(replica, alloc, disk, commit.commit, out)
 }
 
-/// The primary tells how far its log goes, and how far it is committed. A replica that has the view's log learns the commit number, and
-/// asks for the log where its own is shorter; one that hasn't asks for the log.
+/// Rules 16 to 18: where it isn't of this version and group, from its view's primary and another replica, or is below the view, nothing is
+/// done. Above the log view a get_view of its view goes to the sender, and that is all. Else idle is 0, and where its head is above the
+/// replica's, that get_view goes out. Then its commit number is learned, at most up to the head, and what is committed is applied. After an
+/// `Err` the disk has had its calls up to the stop; of replica and outputs nothing is said.
 #[tactic(auto, using(crate::proofs::Commits::rules, crate::proofs::Commits::view_fits, vr_journal::proofs::Stepping::wants))]
 pub fn handle_commit<D: SectorDisk>(
     replica: &mut Replica,

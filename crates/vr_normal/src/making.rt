@@ -19,7 +19,7 @@ use vr_header::{Entry, Header};
 use vr_journal::{Halt, Replica, advance, write};
 use vr_msg::{Outbox, Request};
 
-/// The name of what the next entry stands on.
+/// The name of the header that is known at the head; where none is, that of the group's root.
 #[tactic(auto, using(vr_journal::proofs::Memory::window_of))]
 pub fn head_name(replica: &Replica) -> Sum
     requires { IsReady replica.now }
@@ -31,7 +31,7 @@ pub fn head_name(replica: &Replica) -> Sum
     }
 }
 
-// The op of the next entry.
+// The op after the head, at most 2^62.
 #[tactic(auto, using(vr_journal::proofs::Memory::window_of))]
 fn next_op(replica: &Replica) -> u64
     requires ready { IsReady replica.now }
@@ -42,7 +42,8 @@ fn next_op(replica: &Replica) -> u64
     replica.head() + 1
 }
 
-// The next entry, of this request.
+// The entry of this request, of the request's version, made in the replica's view for the op after the head, with the head's name as its
+// parent. An `Err` is want of memory.
 #[tactic(auto, unfolding(vr_journal::specs::Rules::next_entry))]
 fn next_entry(replica: &Replica, alloc: Global, request: &Request) -> Result<Entry, AllocError>
     requires ready { IsReady replica.now }
@@ -62,7 +63,9 @@ fn next_entry(replica: &Replica, alloc: Global, request: &Request) -> Result<Ent
     ))
 }
 
-// An entry is stored, prepared to the others, and counted.
+// In this order: the entry is written into its slot, and `Here`; a prepare of it goes to each other replica, ascending. Then the commit
+// number rises as long as the next op has its quorum, and what is committed is applied. After an `Err` the disk has had its calls up to the
+// stop; of replica and outputs nothing is said.
 #[tactic(auto, using(vr_journal::proofs::Stepping::steps, vr_journal::proofs::Memory::readies), unfolding(vr_journal::specs::Rules::make))]
 fn make<D: SectorDisk>(
     replica: &mut Replica,
@@ -82,7 +85,9 @@ fn make<D: SectorDisk>(
     advance(replica, alloc, disk, out)
 }
 
-/// The next entry is made of this request.
+/// Rule 6, which has to apply: the entry of this request is made in the replica's view for the op after the head, on the head's name. In
+/// this order: it is written, and `Here`; a prepare of it goes to each other replica, ascending; the commit number rises as quorums allow;
+/// what is committed is applied. After an `Err` the disk has had its calls up to the stop; of replica and outputs nothing is said.
 #[tactic(auto, using(vr_journal::proofs::Stepping::steps, crate::proofs::Requests::may_make, crate::proofs::Requests::made_taken, crate::proofs::Requests::made_view, crate::proofs::Requests::head_room))]
 pub fn make_next<D: SectorDisk>(
     replica: &mut Replica,

@@ -53,7 +53,7 @@ pub enum RequestRule {
 
 // ---- which rule applies
 
-// Whether the header that is known at a place is of this client's request.
+// Whether the Part at this place knows a header, and that is of this client. Past the list it isn't.
 #[tactic(auto, using(vr_journal::proofs::Lists::past_is, vr_journal::proofs::Lists::found_is))]
 fn is_of(parts: &Window<Part>, client: u64, at: usize) -> bool
     ensures { result ≡ is_of client (slice_index_or parts.now at Nothing) }
@@ -67,7 +67,7 @@ fn is_of(parts: &Window<Part>, client: u64, at: usize) -> bool
     }
 }
 
-// Whether one of the headers from a place on, up to another, is.
+// Whether one of the Parts from place `from` on, below place `end`, knows a header of this client.
 #[tactic(auto, using(crate::proofs::Requests::any_more, crate::proofs::Requests::any_found, crate::proofs::Requests::any_past))]
 fn any_of(parts: &Window<Part>, client: u64, from: usize, end: usize) -> bool
     ensures { result ≡ any_of client parts.now from end }
@@ -80,7 +80,7 @@ fn any_of(parts: &Window<Part>, client: u64, from: usize, end: usize) -> bool
     false
 }
 
-// Whether an entry of the client stands above the commit number.
+// Whether an op above the commit number, at most the head, has a known header of this client.
 #[tactic(auto, using(vr_journal::proofs::Memory::window_of, vr_journal::proofs::Memory::commit_fits, crate::proofs::Requests::flight_is))]
 fn is_in_flight(replica: &Replica, client: u64) -> bool
     requires { IsReady replica.now }
@@ -92,14 +92,14 @@ fn is_in_flight(replica: &Replica, client: u64) -> bool
     any_of(replica.parts(), client, from, end)
 }
 
-// Whether what is committed isn't applied yet.
+// Whether a block is missing, or applied is below the commit number.
 fn is_late(replica: &Replica) -> bool
     ensures { result ≡ (not (is_loaded replica.now) || nat_lt replica.now.applied replica.now.commit) }
 {
     !replica.is_loaded() || replica.applied() < replica.commit()
 }
 
-// Whether there is no room for one more entry.
+// Whether the head is at least 8 above the commit number, or at least 2^62.
 #[tactic(auto, using(vr_journal::proofs::Memory::window_of))]
 fn is_full(replica: &Replica) -> bool
     requires { IsReady replica.now }
@@ -109,7 +109,7 @@ fn is_full(replica: &Replica) -> bool
     PIPELINE <= head.saturating_sub(replica.commit()) || LAST_OP <= head
 }
 
-// Whether the sessions have no answer yet.
+// Whether the sessions answer that the request is `Fresh`.
 fn is_fresh(answer: &SessionAnswer) -> bool
     ensures { result ≡ is_fresh answer.now }
 {
@@ -119,7 +119,8 @@ fn is_fresh(answer: &SessionAnswer) -> bool
     }
 }
 
-// Which rule applies where nothing else is to be done first: by what the sessions answer, and whether there is room.
+// `Answered`, with what the sessions answer, where that isn't `Fresh`. Else `Full` where the head is at least 8 above the commit number, or
+// at least 2^62; else `Made`. The rules in front of these aren't looked at. An `Err` is want of memory.
 #[tactic(auto, unfolding(vr_journal::specs::Deciding::first_of, crate::specs::Requests::Answers))]
 fn decide_open(replica: &Replica, request: &RequestFields) -> Result<RequestRule, NoMemory>
     requires { IsReady replica.now }
@@ -136,7 +137,10 @@ fn decide_open(replica: &Replica, request: &RequestFields) -> Result<RequestRule
     }
 }
 
-/// Which rule applies to a request, with what the sessions answer where it isn't fresh.
+/// The first that holds: `Ignored` of another version or group; `Redirected` where the replica doesn't lead; `Behind` where a block is
+/// missing or applied is below the commit number. `InFlight` where an op above the commit number, up to the head, is of the client;
+/// `Answered`, with what the sessions answer, where that isn't `Fresh`. `Full` where the head is at least 8 above the commit number, or at
+/// least 2^62; else `Made`. An `Err` is want of memory.
 #[tactic(auto, using(vr_journal::proofs::Memory::some_member), unfolding(vr_journal::specs::Deciding::first_of, crate::specs::Requests::Answers))]
 pub fn decide_request(replica: &Replica, request: &RequestFields) -> Result<RequestRule, NoMemory>
     requires { IsReady replica.now }
@@ -158,7 +162,7 @@ pub fn decide_request(replica: &Replica, request: &RequestFields) -> Result<Requ
 
 // ---- what is done
 
-// The name of a request.
+// The name of the request, which is that of its header.
 fn request_name(request: &Request) -> Sum
     ensures { result ≡ (asker_by name_of request.now).name }
 {
@@ -166,7 +170,8 @@ fn request_name(request: &Request) -> Sum
     name
 }
 
-// Replies to a request.
+// Puts out one reply of this kind, with the request's client, number and name, and the replica's view and version. After an `Err`, want of
+// memory, nothing is said of outputs.
 fn reply_to(
     replica: &Replica,
     request: &Request,
@@ -188,7 +193,9 @@ fn reply_to(
     )
 }
 
-// Replies what the sessions answer to a request that isn't fresh.
+// Puts out one reply to the request: of `Repeat` the stored outcome with its op, else `Old`, `Gap` or `Evicted` as it is. Of `Fresh`
+// nothing is put out. `HasNumber`, `AnswerFits`: op and outcome of a `Repeat` are such as a reply may carry. After an `Err`, want of
+// memory, nothing is said of outputs.
 fn reply_stored(
     replica: &Replica,
     request: &Request,
@@ -212,7 +219,10 @@ fn reply_stored(
     }
 }
 
-// Does what the rule says.
+// `rule` is the one that applies. `Ignored` and `InFlight`: nothing; `Redirected`: reply `redirect`; `Behind` and `Full`: reply `busy`;
+// `Answered`: reply what the sessions answer, which it has (`Answers`). `Made`: the next entry is made, written, prepared to each other
+// replica, and counted; what is committed is applied. In all others replica and disk are left as they are. After an `Err` the disk has had
+// its calls up to the stop; of replica and outputs nothing is said.
 #[tactic(auto, using(crate::proofs::Requests::rules, vr_journal::proofs::Stepping::wants))]
 fn obey_request<D: SectorDisk>(
     replica: &mut Replica,
@@ -251,9 +261,11 @@ fn obey_request<D: SectorDisk>(
     }
 }
 
-/// A client asks. The primary makes the next entry of a fresh request, stores it, and prepares it to the others. One that isn't fresh is
-/// replied to with the outcome that is stored, or with why there is none; one that is in flight isn't replied to yet. A replica that doesn't
-/// lead redirects, and one that is behind or has no room replies that it is busy.
+/// The first that holds: of another version or group, nothing; the replica doesn't lead, reply `redirect`; a block is missing or applied is
+/// below the commit number, reply `busy`. An op above the commit number is of the client, nothing; it isn't fresh, reply the stored outcome
+/// or why there is none. The head is at least 8 above the commit number or at least 2^62, reply `busy`. Else, in this order: the next entry
+/// is written; a prepare goes to each other replica; the commit number rises as quorums allow; what is committed is applied. After an `Err`
+/// the disk has had its calls up to the stop; of replica and outputs nothing is said.
 #[tactic(auto, using(vr_journal::proofs::Stepping::wants))]
 pub fn handle_request<D: SectorDisk>(
     replica: &mut Replica,

@@ -46,7 +46,7 @@ pub enum PrepareRule {
     Other,
 }
 
-// Whether it is the next entry: the head's op and name come before it.
+// Whether no header of its op is known, its op is the one after the head, and its parent is the head's name.
 #[tactic(auto, using(vr_journal::proofs::Memory::window_of, vr_journal::proofs::Memory::head_fits))]
 fn is_next(replica: &Replica, header: &Header) -> bool
     requires { IsReady replica.now }
@@ -57,7 +57,7 @@ fn is_next(replica: &Replica, header: &Header) -> bool
         && header.parent == head_name(replica)
 }
 
-// Whether entries before it are missing.
+// Whether no header of its op is known, and its op is above the one after the head.
 #[tactic(auto, using(vr_journal::proofs::Memory::window_of, vr_journal::proofs::Memory::head_fits))]
 fn is_ahead(replica: &Replica, header: &Header) -> bool
     requires { IsReady replica.now }
@@ -66,7 +66,7 @@ fn is_ahead(replica: &Replica, header: &Header) -> bool
     replica.is_unknown(header.op) && replica.head() + 1 < header.op
 }
 
-// Whether it is past the window.
+// Whether the op is more than 64 above the checkpoint.
 #[tactic(auto, using(vr_journal::proofs::Memory::window_of))]
 fn is_beyond(replica: &Replica, op: u64) -> bool
     requires { IsReady replica.now }
@@ -75,7 +75,10 @@ fn is_beyond(replica: &Replica, op: u64) -> bool
     replica.checkpoint() + (SLOTS as u64) < op
 }
 
-/// Which rule applies to a prepare.
+/// The first that holds: `Ignored` unless it is of this version and group and from its view's primary, another replica; `PreparedBefore`
+/// below the view; `PreparedLater` above the log view. By its op: `Past` up to the checkpoint; `Beyond` past the window; `Known` where the
+/// op's known header is its own, in all 128 bytes. Where no header of the op is known: `Next` for the op after the head with the head's
+/// name as parent; `Ahead` for a later op. Else `Other`.
 #[tactic(auto, using(vr_journal::proofs::Memory::some_member), unfolding(vr_journal::specs::Deciding::first_of))]
 pub fn decide_prepare(replica: &Replica, prepare: &Prepare) -> PrepareRule
     requires { IsReady replica.now }
@@ -108,7 +111,8 @@ pub fn decide_prepare(replica: &Replica, prepare: &Prepare) -> PrepareRule
     }
 }
 
-// The primary is heard, and the commit number learned.
+// In this order: idle is 0; this commit number is learned, at most up to the head; what is committed is applied. After an `Err` the disk
+// has had its calls up to the stop; of replica and outputs nothing is said.
 #[tactic(auto, using(vr_journal::proofs::Stepping::steps, vr_journal::proofs::Memory::readies))]
 fn hear<D: SectorDisk>(
     replica: &mut Replica,
@@ -124,7 +128,9 @@ fn hear<D: SectorDisk>(
     learn(replica, alloc, disk, commit, out)
 }
 
-// The entry of a known header is stored unless it is, and acknowledged.
+// Rule 11, in this order: idle is 0; the entry is written, unless the Part of its op is `Here`; a prepare_ok of it goes to the view's
+// primary. Then the prepare's commit number is learned, at most up to the head, and what is committed is applied. After an `Err` the disk
+// has had its calls up to the stop; of replica and outputs nothing is said.
 #[tactic(auto, using(vr_journal::proofs::Stepping::steps, vr_journal::proofs::Memory::readies))]
 fn store_known<D: SectorDisk>(
     replica: &mut Replica,
@@ -143,7 +149,9 @@ fn store_known<D: SectorDisk>(
     learn(replica, alloc, disk, prepare.commit, out)
 }
 
-// The next entry is stored, and acknowledged.
+// Rule 12, in this order: idle is 0; the entry is written, and `Here`; a prepare_ok of it goes to the view's primary. Then the prepare's
+// commit number is learned, at most up to the head, and what is committed is applied. After an `Err` the disk has had its calls up to the
+// stop; of replica and outputs nothing is said.
 #[tactic(auto, using(vr_journal::proofs::Stepping::steps, vr_journal::proofs::Memory::readies))]
 fn store_next<D: SectorDisk>(
     replica: &mut Replica,
@@ -162,7 +170,8 @@ fn store_next<D: SectorDisk>(
     learn(replica, alloc, disk, prepare.commit, out)
 }
 
-// The log is asked for, since entries before this one are missing.
+// Rule 13, in this order: idle is 0; a get_view of the prepare's view goes to its sender; the commit number is learned; what is committed
+// is applied. The entry isn't written. After an `Err` the disk has had its calls up to the stop; of replica and outputs nothing is said.
 #[tactic(auto, using(vr_journal::proofs::Stepping::steps, vr_journal::proofs::Memory::readies))]
 fn ask_ahead<D: SectorDisk>(
     replica: &mut Replica,
@@ -180,8 +189,12 @@ fn ask_ahead<D: SectorDisk>(
     learn(replica, alloc, disk, prepare.commit, out)
 }
 
-/// The primary prepares an entry. A replica that has the view's log stores it where it is known or the next one, acknowledges it, and
-/// learns the commit number; one that misses entries before it, or the view's log, asks for that.
+/// Rules 7 to 14. Nothing is done where it is below the view, or not of this version and group and from its view's primary, another
+/// replica. Above the log view a get_view goes to the sender, and that is all. Else idle is 0; an entry whose header is known, or that is
+/// next, is written unless `Here`, and a prepare_ok goes to the primary; one ahead sends get_view. Then, unless past the window or without
+/// a place (`Other`), its commit number is learned, and what is committed applied. Where it is ignored, before the view or `Other`
+/// (`passes`), it answers `Ok` and leaves the very same disk. After an `Err` the disk has had its calls up to the stop; of replica and
+/// outputs nothing is said.
 #[tactic(auto, using(crate::proofs::Prepares::rules, crate::proofs::Prepares::may_store, crate::proofs::Prepares::view_fits, vr_journal::proofs::Memory::readies, vr_journal::proofs::Stepping::wants))]
 pub fn handle_prepare<D: SectorDisk>(
     replica: &mut Replica,
