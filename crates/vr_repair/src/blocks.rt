@@ -18,7 +18,7 @@ use vr_disk::SectorDisk;
 use vr_journal::{Halt, Replica, apply};
 use vr_msg::{GetBlock, GiveBlock, Outbox};
 
-// The name of the block that is asked for.
+// The name of the block that is asked for: its address and its sum.
 fn asked_block(get: &GetBlock) -> Name
     ensures { result ≡ asked_block get.now }
 {
@@ -28,7 +28,8 @@ fn asked_block(get: &GetBlock) -> Name
     }
 }
 
-// Gives the block that is asked for, where it reads.
+// Where the asked block reads whole under its name, one give_block with its bytes goes to the sender; else nothing is put out. The disk is
+// only read; after an `Err` nothing is said of outputs.
 #[tactic(auto, using(crate::proofs::Rules::block_read, crate::proofs::Rules::block_unread, vr_journal::proofs::Stepping::wants))]
 fn give_block<D: SectorDisk>(
     replica: &Replica,
@@ -47,7 +48,8 @@ fn give_block<D: SectorDisk>(
     Ok(())
 }
 
-/// A replica asks for a block: where one reads whole under this name, it is given.
+/// Rule 30, of a message of this version and group, from another replica: where the asked block reads whole under its name, it goes to the
+/// sender in a give_block. Else nothing is done. Replica and disk are left as they are; after an `Err` nothing is said of outputs.
 #[tactic(auto, using(crate::proofs::Rules::block_given, crate::proofs::Rules::get_block_ignored))]
 pub fn handle_get_block<D: SectorDisk>(
     replica: &Replica,
@@ -65,7 +67,9 @@ pub fn handle_get_block<D: SectorDisk>(
     }
 }
 
-// Puts a block that was missing, and applies.
+// The name is the first missing one whose block the bytes are. They are written at its address, and then no block of that address is
+// missing. Where none is missing now, the checkpoint is loaded anew; then what is committed is applied. After an `Err` the disk has had its
+// calls up to the stop; of replica and outputs nothing is said.
 #[tactic(auto, using(vr_journal::proofs::Stepping::steps, crate::proofs::Rules::may_put, crate::proofs::Rules::is_put))]
 fn take_block<D: SectorDisk>(
     replica: &mut Replica,
@@ -83,7 +87,9 @@ fn take_block<D: SectorDisk>(
     apply(replica, alloc, disk, out)
 }
 
-// Puts a block that had gone bad; the state has what was in it.
+// The name is the first worn one whose block the bytes are. They are written at its address, and then no block of that address is worn.
+// Nothing else of the replica changes, and nothing is put out. After an `Err` the disk has had its calls up to the stop; of replica and
+// outputs nothing is said.
 #[tactic(auto, using(crate::proofs::Words::mended_then, crate::proofs::Words::mended_stopped, crate::proofs::Rules::is_put, vr_journal::proofs::Repairs::ready_unworn))]
 fn mend_block<D: SectorDisk>(
     replica: &mut Replica,
@@ -101,9 +107,10 @@ fn mend_block<D: SectorDisk>(
     Ok(())
 }
 
-/// A block comes that was asked for: where a block of this address is missing, and the bytes are that block, whole and of its name, it is put.
-/// After the last one, and after the root, the checkpoint is loaded anew; then what can be is applied. Where a block of this address has gone
-/// bad, and none is missing, it is put in its place.
+/// Only from another replica of this version and group is anything done. Rule 31a: where the bytes are a missing block of this address,
+/// whole, it is written, and no longer missing. If none is missing then, the checkpoint is loaded anew; then what is committed is applied.
+/// Else rule 31b: where they are such a worn block, it is written, and no longer worn. Else nothing is done. After an `Err` the disk has
+/// had its calls up to the stop; of replica and outputs nothing is said.
 #[tactic(auto, using(crate::proofs::Rules::block_taken, crate::proofs::Rules::block_mended, crate::proofs::Rules::give_block_ignored))]
 pub fn handle_give_block<D: SectorDisk>(
     replica: &mut Replica,

@@ -29,7 +29,8 @@ pub enum Repair {
     BlockMended(Name),
 }
 
-/// Which rule a get_prepare leads to.
+/// `EntryGiven` where the message is of this version and group and from another replica, the known header of its op has this name, and the
+/// Part is `Here`. Else `Ignored`. Whether the entry reads isn't looked at.
 #[tactic(auto, unfolding(vr_journal::specs::Deciding::first_of))]
 pub fn decide_get_prepare(replica: &Replica, get: &GetPrepare) -> Repair
     ensures { first_of (get_prepare_table name_of get.now replica.now) ≡ rule_of result }
@@ -44,7 +45,7 @@ pub fn decide_get_prepare(replica: &Replica, get: &GetPrepare) -> Repair
     }
 }
 
-// Whether the header of an op is known, and its entry is not to be had here.
+// Whether the Part is `Lost` or `Wanted`: a header is known, and its entry isn't to be had here.
 fn is_absent(part: &Part) -> bool
     ensures { result ≡ is_absent part.now }
 {
@@ -54,7 +55,9 @@ fn is_absent(part: &Part) -> bool
     }
 }
 
-/// Which rule a give_prepare leads to. An entry that is taken is one that may be stored.
+/// `EntryTaken` where the message is of this version and group and from another replica, and the entry's op, above the checkpoint, is
+/// `Lost` or `Wanted` with its very header. Else `Ignored`. An entry that is taken may be stored (`MayStore`): it is in the window, and was
+/// made in the log view or before.
 #[tactic(auto, using(crate::proofs::Rules::may_take), unfolding(vr_journal::specs::Deciding::first_of))]
 pub fn decide_give_prepare(replica: &Replica, give: &GivePrepare) -> Repair
     requires { IsReady replica.now }
@@ -73,7 +76,8 @@ pub fn decide_give_prepare(replica: &Replica, give: &GivePrepare) -> Repair
     }
 }
 
-/// Which rule a get_block leads to where the block reads; where it doesn't nothing is done.
+/// `BlockGiven` where the message is of this version and group and from another replica, else `Ignored`. Whether the block reads isn't
+/// looked at: where it does, this is the rule; where it doesn't, the rule is `Ignored`, whatever is answered here.
 #[tactic(auto, unfolding(vr_journal::specs::Deciding::first_of))]
 pub fn decide_get_block(replica: &Replica, get: &GetBlock) -> Repair
     ensures { (reads : Bool) → first_of (get_block_table reads get.now replica.now) ≡ (if reads then rule_of result else Ignored) }

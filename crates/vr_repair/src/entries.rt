@@ -14,7 +14,9 @@ use vr_header::Entry;
 use vr_journal::{Halt, Replica, apply, read_entry, write};
 use vr_msg::{GetPrepare, GivePrepare, Outbox};
 
-// Reads the entry of an op, and gives it to a replica.
+// Where the asked op is `Here` and its entry reads, one give_prepare of it goes to the sender. Where it is `Here` and doesn't read, its
+// Part becomes `Lost`; where it isn't `Here`, nothing is done. The disk is left as it is; after an `Err` nothing is said of replica and
+// outputs.
 #[tactic(auto, using(crate::proofs::Rules::given_read, crate::proofs::Rules::given_none, vr_journal::proofs::Stepping::wants))]
 fn give_entry<D: SectorDisk>(
     replica: &mut Replica,
@@ -33,7 +35,9 @@ fn give_entry<D: SectorDisk>(
     Ok(())
 }
 
-/// A replica asks for an entry: where it is stored here under that name it is read, and given.
+/// Rule 28: where the message is of this version and group and from another replica, and its op is `Here` with a header of this name, the
+/// entry is read. One that reads goes to the sender in a give_prepare; one that doesn't becomes `Lost`. Else nothing is done. The disk is
+/// left as it is; after an `Err` nothing is said of replica and outputs.
 #[tactic(auto, using(crate::proofs::Rules::entry_given, crate::proofs::Rules::get_prepare_ignored))]
 pub fn handle_get_prepare<D: SectorDisk>(
     replica: &mut Replica,
@@ -51,7 +55,9 @@ pub fn handle_get_prepare<D: SectorDisk>(
     }
 }
 
-// Stores an entry that was absent, tells of it, and applies.
+// The entry is written into its slot, and `Here`. Then, where the view is started and its op is above the commit number, it is told of;
+// then what is committed is applied. Told of: the primary sends its prepare to each other replica, a backup a prepare_ok to the primary.
+// The commit number stays. After an `Err` the disk has had its calls up to the stop; of replica and outputs nothing is said.
 #[tactic(auto, using(vr_journal::proofs::Stepping::steps, crate::proofs::Rules::entry_made))]
 fn take_entry<D: SectorDisk>(
     replica: &mut Replica,
@@ -69,8 +75,10 @@ fn take_entry<D: SectorDisk>(
     apply(replica, alloc, disk, out)
 }
 
-/// An entry comes that was asked for: where it is above the checkpoint, and its op is lost or wanted with just this header, it is stored and
-/// told of, and what can be is applied.
+/// Only from another replica of this version and group is anything done. Rule 29: where the entry's op, above the checkpoint, is `Lost` or
+/// `Wanted` with its very header, it is written, and `Here`. Then, in a started view and above the commit number, the primary sends its
+/// prepare to each other replica, a backup a prepare_ok to the primary. Then what is committed is applied, and the commit number stays.
+/// Else nothing is done. After an `Err` the disk has had its calls up to the stop; of replica and outputs nothing is said.
 #[tactic(auto, using(crate::proofs::Rules::entry_taken, crate::proofs::Rules::give_prepare_ignored))]
 pub fn handle_give_prepare<D: SectorDisk>(
     replica: &mut Replica,

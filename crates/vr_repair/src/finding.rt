@@ -9,6 +9,7 @@ use vr_base::{ByteList, NoMemory, Seq};
 use vr_ckpt::{Name, is_block_on};
 use vr_disk::{BLOCK_SECTORS, BLOCKS, SectorDisk, block_place, read_sectors};
 
+// A list of these bytes. An `Err` is want of memory.
 fn list_of(alloc: Global, bytes: &[u8]) -> Result<ByteList, AllocError>
     ensures { IfOk result (λ list. list ≡ bytes.now) }
 {
@@ -17,7 +18,8 @@ fn list_of(alloc: Global, bytes: &[u8]) -> Result<ByteList, AllocError>
     Ok(list)
 }
 
-// Whether a block can be read, and is the whole one of this name.
+// Whether the block at the name's address reads, and is the whole one of this name; then `to` has its bytes. At an address past the disk's
+// blocks none does. Else of `to` only its length is said. The disk is only read.
 #[tactic(auto, using(crate::proofs::BlockReadings::block_past, crate::proofs::BlockReadings::block_unread, crate::proofs::BlockReadings::block_as))]
 fn read_whole<D: SectorDisk>(disk: &mut D, name: &Name, to: &mut [u8]) -> bool
     requires { length to.old ≡ 4096 }
@@ -34,7 +36,8 @@ fn read_whole<D: SectorDisk>(disk: &mut D, name: &Name, to: &mut [u8]) -> bool
     is_block_on(disk, to, name)
 }
 
-/// The whole block that reads under this name, of 4,096 bytes, whatever the version of the file; `None` where none does. Memory is taken for the block alone.
+/// The 4,096 bytes of the block that reads whole under this name, whatever the version of the file, else `None`. The disk is only read,
+/// also where an `Err` comes, which is want of memory.
 pub fn find_block<D: SectorDisk>(
     alloc: Global,
     disk: &mut D,

@@ -1,9 +1,9 @@
 //! What repair makes good.
 ghost use Rattle.vr_repair.specs.Laws.{BlocksAreRepaired, EntriesAreRepaired, TakenBlocksRead, TakenEntriesRead};
 
-/// An entry or a block that comes is repaired in that very step: after its words the entry is known to be stored and its slot reads as it, the
-/// block isn't missing and reads under its name. So in the step of the message that brings it: at its end the slot of a taken entry reads as
-/// it, and a taken block is put before anything is loaded or applied, and reads.
+/// On a disk on which no sector waits for a sync: an entry that may be stored, once written, is `Here`, and its slot reads as it. A block,
+/// once put, isn't missing any more, and reads under its name. At the end of the step in which an entry is taken (`EntryTaken`), its slot
+/// reads as it. In the step in which a block is taken (`BlockTaken`), it is put before anything else, and reads under its name then.
 pub fn repair_laws()
     ensures entries { EntriesAreRepaired }
     ensures blocks { BlocksAreRepaired }

@@ -17,7 +17,8 @@ use vr_header::Header;
 use vr_journal::{Halt, Replica, load};
 use vr_msg::Outbox;
 
-// Asks a peer for a block.
+// One get_block of this name goes to the peer whose turn it is, (index + 1 + turn) modulo n. Then the turn moves on by one, modulo n - 1;
+// nothing else of the replica changes. The disk is left as it is; after an `Err` nothing is said of replica and outputs.
 #[tactic(auto, using(vr_journal::proofs::Stepping::steps, vr_journal::proofs::Repairs::ready_turned), unfolding(vr_journal::specs::Words::ask_peer))]
 fn ask_block<D: SectorDisk>(
     replica: &mut Replica,
@@ -34,7 +35,8 @@ fn ask_block<D: SectorDisk>(
     Ok(())
 }
 
-// Asks a peer for an entry.
+// One get_prepare of this header's op and name goes to the peer whose turn it is, (index + 1 + turn) modulo n. Then the turn moves on by
+// one, modulo n - 1; nothing else of the replica changes. The disk is left as it is; after an `Err` nothing is said of replica and outputs.
 #[tactic(auto, using(vr_journal::proofs::Stepping::steps, vr_journal::proofs::Repairs::ready_turned), unfolding(vr_journal::specs::Words::ask_peer))]
 fn ask_entry<D: SectorDisk>(
     replica: &mut Replica,
@@ -52,7 +54,8 @@ fn ask_entry<D: SectorDisk>(
     Ok(())
 }
 
-// Asks a peer for the first block that has gone bad.
+// Where a block is worn, a get_block of the first goes to the peer whose turn it is, and the turn moves on. Else nothing is done. The disk
+// is left as it is; after an `Err` nothing is said of replica and outputs.
 #[tactic(auto, using(crate::proofs::Words::asked_worn, crate::proofs::Words::none_worn))]
 fn ask_worn<D: SectorDisk>(
     replica: &mut Replica,
@@ -69,7 +72,9 @@ fn ask_worn<D: SectorDisk>(
     }
 }
 
-// Asks a peer for the least entry that is absent, or else for a block that has gone bad.
+// A get_prepare of the least op above applied that is `Lost` or `Wanted`, or where there is none of the least such op above the checkpoint.
+// Where there is none either, a get_block of the first worn block. It goes to the peer whose turn it is, and the turn moves on; where
+// nothing is to be had, nothing is done. The disk is left as it is; after an `Err` nothing is said of replica and outputs.
 #[tactic(auto, using(crate::proofs::Words::asked_entry, crate::proofs::Words::asked_none, crate::proofs::Words::checkpoint_fits, vr_journal::proofs::Memory::next_fits, vr_journal::proofs::Repairs::ready_absent))]
 fn ask_absent<D: SectorDisk>(
     replica: &mut Replica,
@@ -86,8 +91,10 @@ fn ask_absent<D: SectorDisk>(
     }
 }
 
-/// Asks the peer whose turn it is for what is missing: the first of the blocks that are, else the least entry that isn't stored or can't be
-/// read, else the first block that has gone bad. Where there is none of these, or no peer, nothing is asked.
+/// Asks for one thing: the first missing block; else the least op above applied, or else above the checkpoint, that is `Lost` or `Wanted`;
+/// else the first worn block. The get_block or get_prepare goes to the peer whose turn it is, (index + 1 + turn) modulo n, and the turn
+/// moves on, modulo n - 1. In a group of one, and where there is nothing to ask for, nothing is done. The disk is left as it is; after an
+/// `Err` nothing is said of replica and outputs.
 #[tactic(auto, using(crate::proofs::Words::asked_block, crate::proofs::Words::asked_absent, crate::proofs::Words::none_asked, vr_journal::proofs::Repairs::ready_size))]
 pub fn ask<D: SectorDisk>(replica: &mut Replica, disk: &mut D, out: &mut Outbox) -> Result<(), Halt>
     requires ready { IsReady replica.old }
@@ -102,7 +109,9 @@ pub fn ask<D: SectorDisk>(replica: &mut Replica, disk: &mut D, out: &mut Outbox)
     }
 }
 
-// Loads the checkpoint where none of its blocks is missing any more.
+// Where no block is missing, the checkpoint is loaded from the disk (`load`): state and table become its own, or blocks are missing again.
+// Else nothing is done. Nothing is written or put out, and view and saved value stay; after an `Err` nothing is said of the replica.
+// `MayLoad`: nothing is applied above the checkpoint.
 #[tactic(auto, using(crate::proofs::Words::loaded_whole, crate::proofs::Words::loaded_not, crate::proofs::Words::may_ready))]
 fn load_whole<D: SectorDisk>(
     replica: &mut Replica,
@@ -121,7 +130,10 @@ fn load_whole<D: SectorDisk>(
     }
 }
 
-/// Puts the whole block of this name, which isn't missing any more. After the last one, and after the root, the checkpoint is loaded anew.
+/// Writes the bytes, which are the whole block of this name, at its address, and then no block of that address is missing. Where none is
+/// missing now, the checkpoint is loaded anew: state and table become its own, or blocks are missing again. Nothing is put out, view and
+/// saved value stay. `MayLoad`: nothing is applied above the checkpoint. After an `Err` the disk has had its calls up to the stop; of
+/// replica and outputs nothing is said.
 #[tactic(auto, using(crate::proofs::Words::put_then, crate::proofs::Words::put_stopped, crate::proofs::Words::may_dropped))]
 pub fn put_block<D: SectorDisk>(
     replica: &mut Replica,

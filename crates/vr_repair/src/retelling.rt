@@ -13,13 +13,15 @@ use vr_header::Entry;
 use vr_journal::{Halt, Replica};
 use vr_msg::Outbox;
 
+// Whether the view is started, and the entry's op is above the commit number.
 fn is_open(replica: &Replica, entry: &Entry) -> bool
     ensures { result ≡ (is_started replica.now && nat_lt replica.now.commit entry.now.header.op) }
 {
     replica.is_started() && replica.commit() < entry.header().op
 }
 
-// The primary prepares the entry to all, a backup tells the primary that it is stored.
+// The view's primary sends a prepare of the entry to each other replica, ascending; another replica sends one prepare_ok of it to the
+// primary. After an `Err`, want of memory, nothing is said of outputs.
 #[tactic(auto, using(vr_journal::proofs::Memory::some_member))]
 fn tell(replica: &Replica, alloc: Global, entry: &Entry, out: &mut Outbox) -> Result<(), AllocError>
     requires ready { IsReady replica.now }
@@ -35,8 +37,9 @@ fn tell(replica: &Replica, alloc: Global, entry: &Entry, out: &mut Outbox) -> Re
     }
 }
 
-/// Tells of an entry that was stored late: where the view is started and the entry stands above the commit number, the primary prepares it to
-/// all, and a backup tells the primary that it is stored.
+/// Where the view isn't started, or the entry's op is at most the commit number, nothing is put out. Else its primary sends a prepare of
+/// the entry to each other replica, ascending, a backup one prepare_ok to the primary. Replica and disk are left as they are; after an
+/// `Err` nothing is said of outputs.
 #[tactic(auto, using(crate::proofs::Words::resent, crate::proofs::Words::not_resent, vr_journal::proofs::Stepping::wants))]
 pub fn resend<D: SectorDisk>(
     replica: &Replica,

@@ -10,14 +10,15 @@ use vr_ckpt::{Name, NameList, is_block_of};
 use vr_journal::Replica;
 use vr_msg::GiveBlock;
 
-// Whether the bytes are the missing block of this name, which belongs at this address. Only where the address is right they are hashed.
+// Whether the name has the address of the message, and the message's bytes are the whole block of this name. Only where the address is
+// right they are hashed.
 fn is_wanted(name: &Name, give: &GiveBlock) -> bool
     ensures { result ≡ is_wanted is_block give.now name.now }
 {
     name.address == give.address && is_block_of(give.block.as_slice(), name)
 }
 
-// The name at a place, where the bytes are its block.
+// The name at this place, where it has the message's address and the message's bytes are its whole block. Else, and past the list, `None`.
 fn wanted_at(names: &NameList, give: &GiveBlock, at: usize) -> Option<Name>
     ensures { result ≡ found_at (is_wanted is_block give.now) names.now at }
 {
@@ -27,7 +28,7 @@ fn wanted_at(names: &NameList, give: &GiveBlock, at: usize) -> Option<Name>
     }
 }
 
-// The name of the block of these that the bytes are.
+// The first of these names that has the message's address, and whose whole block the message's bytes are; `None` where there is none.
 #[tactic(auto, using(crate::proofs::Rules::found_more, crate::proofs::Rules::found_here, crate::proofs::Rules::found_past))]
 fn find_wanted(names: &NameList, give: &GiveBlock) -> Option<Name>
     ensures { result ≡ find (is_wanted is_block give.now) names.now }
@@ -41,7 +42,8 @@ fn find_wanted(names: &NameList, give: &GiveBlock) -> Option<Name>
     None
 }
 
-// One that has gone bad, if none that is missing.
+// `BlockMended` with the first worn name that has the message's address, and whose whole block its bytes are; `Ignored` where there is
+// none. What is missing isn't looked at.
 #[tactic(auto, using(crate::proofs::Rules::mended_some, crate::proofs::Rules::mended_none))]
 fn decide_mended(replica: &Replica, give: &GiveBlock) -> Repair
     ensures name { (name : Name) → result ≡ Repair.BlockMended name → find (is_wanted is_block give.now) replica.now.worn ≡ Some name }
@@ -53,7 +55,8 @@ fn decide_mended(replica: &Replica, give: &GiveBlock) -> Repair
     }
 }
 
-/// Which rule a give_block leads to. The block that is taken is the whole one of a name that is missing, or that has gone bad.
+/// `Ignored` unless the message is of this version and group and from another replica. Then `BlockTaken` with the first missing name that
+/// has its address, and whose whole block its bytes are. Where there is none, `BlockMended` with the first such worn name; else `Ignored`.
 #[tactic(auto, using(crate::proofs::Rules::wanted_some, crate::proofs::Rules::wanted_none), unfolding(vr_journal::specs::Deciding::first_of))]
 pub fn decide_give_block(replica: &Replica, give: &GiveBlock) -> Repair
     ensures rule { first_of (give_block_table is_block give.now replica.now) ≡ rule_of result }
