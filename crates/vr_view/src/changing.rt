@@ -30,7 +30,9 @@ pub enum ChangeRule {
     ChangeDone,
 }
 
-/// Which rule applies to a start_view_change.
+/// The first that holds: `Ignored` unless the message is of this version and group and from another
+/// replica; `ChangeBefore` below the view; `ChangeLater` above it. In the view: `ChangeHeard` where it
+/// isn't started and the sender isn't heard yet; `ChangeDone` where the replica leads; else `Ignored`.
 #[tactic(auto, unfolding(vr_journal::specs::Deciding::first_of))]
 pub fn decide_start_view_change(replica: &Replica, message: &StartViewChange) -> ChangeRule
     requires { 0 < replica.now.n }
@@ -51,7 +53,10 @@ pub fn decide_start_view_change(replica: &Replica, message: &StartViewChange) ->
     }
 }
 
-// Enters the later view that a replica has entered, and speaks there.
+// In this order: the message's view is entered, saved, and told to each other replica by
+// start_view_change; its sender is heard; the replica speaks. Speaking, with a view-change quorum
+// heard: the primary tries to begin the view, another replica sends its statement to the primary. After
+// an `Err` the disk has had its calls up to the stop; of replica and outputs nothing is said.
 #[tactic(auto, using(vr_journal::proofs::Stepping::steps, crate::proofs::Changes::later))]
 fn enter_later<D: SectorDisk>(
     replica: &mut Replica,
@@ -70,7 +75,10 @@ fn enter_later<D: SectorDisk>(
     speak(replica, alloc, disk, out)
 }
 
-// Hears of one more replica in its view, which isn't started, and speaks.
+// The sender is heard, and then the replica speaks. Speaking, with a view-change quorum heard: the
+// primary tries to begin the view, another replica sends its statement to the primary. With fewer heard
+// nothing more is done. After an `Err` the disk has had its calls up to the stop; of replica and
+// outputs nothing is said.
 #[tactic(auto, using(vr_journal::proofs::Stepping::steps, crate::proofs::Changes::heard))]
 fn hear_one<D: SectorDisk>(
     replica: &mut Replica,
@@ -87,9 +95,14 @@ fn hear_one<D: SectorDisk>(
     speak(replica, alloc, disk, out)
 }
 
-/// A replica has entered a view. A later one is entered too, and it counts there; in a view that isn't
-/// started it counts, and where enough have entered it the replica speaks; the primary of a view that is
-/// started tells it of the log.
+/// Only from another replica of this version and group is anything done. Rule 20: a later view is
+/// entered, saved and told to each other replica, the sender is heard, and the replica speaks. Rule 21:
+/// in a view that isn't started, a sender not yet heard is heard, and the replica speaks. Rule 22:
+/// where it leads the message's view, one start_view goes to the sender; else nothing is done.
+/// Speaking, with a view-change quorum heard: the primary tries to begin the view, another replica
+/// sends its statement to the primary. Where it is `Ignored` or below the view (`passes`), it answers
+/// `Ok` and leaves the very same disk. After an `Err` the disk has had its calls up to the stop; of
+/// replica and outputs nothing is said.
 #[tactic(auto, using(crate::proofs::Changes::changes, crate::proofs::Changes::means, vr_journal::proofs::Memory::some_member, vr_journal::proofs::Stepping::wants))]
 pub fn handle_start_view_change<D: SectorDisk>(
     replica: &mut Replica,

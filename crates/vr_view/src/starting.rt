@@ -41,7 +41,7 @@ pub enum ViewRule {
     ViewGiven,
 }
 
-// The log that a start_view tells of.
+// The log that a start_view tells of: its view, `lo`, headers, head and commit number.
 fn log_of(start: &StartView) -> Log<'_>
     ensures { result ≡ log_of start.now }
 {
@@ -54,7 +54,7 @@ fn log_of(start: &StartView) -> Log<'_>
     }
 }
 
-// Whether a log ends past the window, or begins above what is committed here.
+// Whether the log's head is more than 64 above the checkpoint, or its `lo` above the commit number.
 fn is_out_of_reach(replica: &Replica, log: &Log) -> bool
     requires { HasWindow replica.now }
     ensures { result ≡ (nat_lt (window_end replica.now) log.now.head || nat_lt replica.now.commit log.now.lo) }
@@ -62,7 +62,10 @@ fn is_out_of_reach(replica: &Replica, log: &Log) -> bool
     replica.checkpoint() + 64 < log.head || replica.commit() < log.lo
 }
 
-/// Which rule applies to a start_view; one that is taken has headers with the values of the program.
+/// The first that holds: `Ignored` unless it is of this version and group and from its view's primary,
+/// another replica; `Taken` where its log may be taken (`may_take`). Then `SyncAsked` where its log is
+/// newer, and ends past the window or begins above the commit number. Both ask, too, that the replica
+/// isn't that primary; else `Ignored`. Headers that are taken have the values of the program.
 #[tactic(auto, using(vr_journal::proofs::Memory::window_of, vr_journal::proofs::Memory::some_member), unfolding(vr_journal::specs::Deciding::first_of))]
 pub fn decide_start_view(replica: &Replica, start: &StartView) -> StartRule
     requires { IsReady replica.now }
@@ -84,7 +87,8 @@ pub fn decide_start_view(replica: &Replica, start: &StartView) -> StartRule
     }
 }
 
-/// Which rule applies to a get_view.
+/// `ViewGiven` where the message is of this version and group and from another replica, and the replica
+/// leads a view that is at least the asked one. Else `Ignored`.
 #[tactic(auto, unfolding(vr_journal::specs::Deciding::first_of))]
 pub fn decide_get_view(replica: &Replica, get: &GetView) -> ViewRule
     requires { 0 < replica.now.n }
@@ -99,7 +103,10 @@ pub fn decide_get_view(replica: &Replica, get: &GetView) -> ViewRule
     }
 }
 
-// Takes over a log that may be taken, acknowledges what is stored of it, and applies.
+// In this order: the log is taken over, and saved; for each op above the commit number up to its head,
+// ascending, if `Here`, a prepare_ok goes to the primary. Then what is committed is applied. `MayTake`:
+// the log is newer, fits and is a chain. After an `Err` the disk has had its calls up to the stop; of
+// replica and outputs nothing is said.
 #[tactic(auto, using(vr_journal::proofs::Stepping::steps, crate::proofs::Takes::taken_low, crate::proofs::Choices::head_small, vr_journal::proofs::Acks::told_to))]
 fn follow<D: SectorDisk>(
     replica: &mut Replica,
@@ -117,9 +124,13 @@ fn follow<D: SectorDisk>(
     apply(replica, alloc, disk, out)
 }
 
-/// The primary of a view tells of its log. Where it is newer than the replica's, fits and is a chain, it
-/// is taken over, the entries of it that are stored are acknowledged, and what is committed is applied.
-/// Where it is newer and out of reach, the view's checkpoint is asked for.
+/// Only from its view's primary, another replica of this version and group, is anything done, and not
+/// where the replica is that primary. Rule 26: a log that may be taken (newer, fits, a chain) is taken
+/// over (`take`: views and Parts are by the log), and saved. Then each op above the commit number up to
+/// its head, ascending, if `Here`, is acknowledged to the primary, and what is committed is applied.
+/// Rule 35: else, where it is newer, and ends past the window or begins above the commit number, one
+/// get_sync of its view goes to the sender. Else nothing is done. After an `Err` the disk has had its
+/// calls up to the stop; of replica and outputs nothing is said.
 #[tactic(auto, using(crate::proofs::Starts::starts, crate::proofs::Starts::may_follow, crate::proofs::Starts::view_started, vr_journal::proofs::Stepping::wants))]
 pub fn handle_start_view<D: SectorDisk>(
     replica: &mut Replica,
@@ -142,7 +153,10 @@ pub fn handle_start_view<D: SectorDisk>(
     }
 }
 
-/// A replica asks for the log of a view: where this one leads that view or a later one, it is told.
+/// Rule 27: where the replica leads a view that is at least the asked one, one start_view goes to the
+/// sender. Else, and where the message isn't of this version and group and from another replica,
+/// nothing is put out. Replica and disk are left as they are; after an `Err` nothing is said of
+/// outputs.
 #[tactic(auto, using(crate::proofs::Starts::gives, vr_journal::proofs::Memory::some_member, vr_journal::proofs::Stepping::wants))]
 pub fn handle_get_view<D: SectorDisk>(
     replica: &Replica,

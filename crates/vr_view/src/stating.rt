@@ -33,7 +33,9 @@ pub enum StateRule {
     Stated,
 }
 
-/// Which rule applies to a do_view_change.
+/// The first that holds: `Ignored` unless the message is of this version and group and from another
+/// replica; `StatedBefore` below the view. Also `StatedBefore` where the replica isn't the primary of
+/// the message's view. Then `StatedLate` where that is its own view, and started; else `Stated`.
 #[tactic(auto, unfolding(vr_journal::specs::Deciding::first_of))]
 pub fn decide_do_view_change(replica: &Replica, message: &DoViewChange) -> StateRule
     requires { 0 < replica.now.n }
@@ -52,7 +54,7 @@ pub fn decide_do_view_change(replica: &Replica, message: &DoViewChange) -> State
     }
 }
 
-// A copy of a Part, whose header has the values of the program.
+// The same Part. The header that it knows, if any, has the values of the program.
 #[tactic(auto, using(crate::proofs::Copies::valued))]
 fn copy_part(part: &Part) -> Part
     ensures same { result ≡ part.now }
@@ -67,7 +69,8 @@ fn copy_part(part: &Part) -> Part
     }
 }
 
-// A copy of Parts, whose headers have the values of the program.
+// The same Parts, in order. The headers that they know have the values of the program. An `Err` is want
+// of memory.
 #[tactic(auto, using(crate::proofs::Copies::copies))]
 fn copy_parts(alloc: Global, parts: &[Part]) -> Result<Seq<Part>, AllocError>
     ensures same { IfOk result (λ copy. copy ≡ parts.now) }
@@ -80,7 +83,8 @@ fn copy_parts(alloc: Global, parts: &[Part]) -> Result<Seq<Part>, AllocError>
     Ok(copy)
 }
 
-// A copy of a statement, whose headers have the values of the program.
+// The same statement. The headers that its Parts know have the values of the program. An `Err` is want
+// of memory.
 fn copy_statement(alloc: Global, statement: &Statement) -> Result<Statement, AllocError>
     ensures same { IfOk result (λ copy. copy ≡ statement.now) }
     ensures values { OnOk result (AreHeaders (known statement.now.body.parts)) }
@@ -96,7 +100,9 @@ fn copy_statement(alloc: Global, statement: &Statement) -> Result<Statement, All
     })
 }
 
-// Enters a view that is later than its own.
+// In this order: this is the view, with acknowledgements and statements dropped, only itself heard, and
+// idle 0; it is saved once; a start_view_change goes to each other replica. Group and size stay. After
+// an `Err` the disk has had its calls up to the stop; of replica and outputs nothing is said.
 #[tactic(auto, using(crate::proofs::States::enters))]
 fn enter_later<D: SectorDisk>(
     replica: &mut Replica,
@@ -120,7 +126,10 @@ fn enter_later<D: SectorDisk>(
     }
 }
 
-// Enters a view unless it is in it.
+// Where the replica is in this view, nothing is done. Else it is entered: acknowledgements and
+// statements are dropped, only itself is heard, idle is 0; it saves once; a start_view_change goes to
+// each other replica. Group and size stay. After an `Err` the disk has had its calls up to the stop; of
+// replica and outputs nothing is said.
 #[tactic(auto, using(crate::proofs::States::enters))]
 fn enter_up_to<D: SectorDisk>(
     replica: &mut Replica,
@@ -145,7 +154,10 @@ fn enter_up_to<D: SectorDisk>(
     }
 }
 
-// Keeps what a replica states of its log, in the view for which it does, and tries to begin that.
+// In this order: the message's view is entered, unless it is the replica's; the statement takes the
+// place of the sender's; the replica tries to begin its view (`try`). Entering saves, and tells each
+// other replica. After an `Err` the disk has had its calls up to the stop; of replica and outputs
+// nothing is said.
 #[tactic(auto, using(vr_journal::proofs::Stepping::steps, crate::proofs::States::states))]
 fn keep<D: SectorDisk>(
     replica: &mut Replica,
@@ -165,9 +177,13 @@ fn keep<D: SectorDisk>(
     try_view(replica, alloc, disk, out)
 }
 
-/// A replica states its log for a view whose primary this one is. Where the view is started already, the
-/// sender is told of its log; else the view is entered if it is a later one, the statement is kept, and
-/// the replica tries to begin it.
+/// Where the message isn't of this version and group and from another replica, is below the view, or of
+/// a view whose primary isn't this one, nothing is done. Rule 24: of the replica's own view, started,
+/// one start_view goes to the sender. Rule 25, else: a later view is entered, saved and told to each
+/// other replica; the statement takes the place of the sender's; the replica tries to begin its view.
+/// It tries: where the statements decide on a log that may be taken, the view begins with it; else
+/// nothing or one `wait` line is put out. After an `Err` the disk has had its calls up to the stop; of
+/// replica and outputs nothing is said.
 #[tactic(auto, using(crate::proofs::States::rules, vr_journal::proofs::Memory::some_member, vr_journal::proofs::Stepping::wants))]
 pub fn handle_do_view_change<D: SectorDisk>(
     replica: &mut Replica,

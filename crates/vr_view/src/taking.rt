@@ -23,7 +23,13 @@ pub fn commit_of(log: &Log) -> u64
     log.commit
 }
 
-/// Takes over the log of a view, and saves that it has it.
+/// In this order: the log is taken over, and the replica saves; nothing is put out. Above the
+/// checkpoint an op of its headers keeps a Part of that very header; else `Unknown` becomes `Lost`, any
+/// other `Wanted`. Above its head Parts become `Nothing`, if its view is above the log view; others
+/// stay; ops 64 or more below the head are forgotten. View and log view are the log's,
+/// acknowledgements, heard and statements dropped, idle 0; the commit number is the greater. `MayTake`:
+/// it is newer, fits and is a chain. After an `Err` the disk has had its calls up to the stop; of
+/// replica and outputs nothing is said.
 #[tactic(auto, using(vr_journal::proofs::Stepping::steps, vr_journal::proofs::Versions::taken_stays, crate::proofs::Takes::takes, vr_journal::proofs::Memory::window_of), unfolding(vr_journal::specs::Words::take))]
 pub fn take<D: SectorDisk>(
     replica: &mut Replica,

@@ -27,7 +27,9 @@ fn log_end(commit: u64, headers: &HeaderList) -> u64
     }
 }
 
-// The log of the replica's view with these headers, and the greatest commit number that was stated.
+// The log of the replica's view with these headers, and the greatest commit number that was stated. Its
+// head is the op of the last header, or that commit number where there is none; its `lo` as many below
+// as there are headers.
 fn chosen_log<'a>(
     replica: &Replica,
     statements: &Seq<Statement>,
@@ -46,7 +48,8 @@ fn chosen_log<'a>(
     }
 }
 
-// What the statements of the group decide of the log of its view.
+// What the statements decide, which are those of the group, the replica's own among them: too few, a
+// wait at an op, or the headers of the log. An `Err` is want of memory.
 #[tactic(auto, using(crate::proofs::Choices::some_stated))]
 fn decide(
     replica: &Replica,
@@ -63,7 +66,10 @@ fn decide(
     }
 }
 
-// Prepares again each entry that it can read, from the one above its commit number on to the log's head.
+// For each op above the commit number up to the log's head, ascending: where it is `Here` and its entry
+// reads, a prepare of it goes to each other replica. One that is `Here` and doesn't read becomes
+// `Lost`. The saved value stays. The disk is left as it is; after an `Err` nothing is said of replica
+// and outputs.
 #[tactic(auto, using(vr_journal::proofs::Goes::goes))]
 fn prepare_all<D: SectorDisk>(
     replica: &mut Replica,
@@ -89,7 +95,9 @@ fn prepare_all<D: SectorDisk>(
     Ok(())
 }
 
-// A line on the log that it chose.
+// Puts out a `choose` line: view, greatest log view stated, the log's commit number and head, the
+// replica's Parts above its commit number up to the last that isn't `Nothing`. After an `Err`, want of
+// memory, nothing is said of outputs.
 #[tactic(auto, using(crate::proofs::Choices::choice_told, crate::proofs::Choices::commit_small))]
 fn tell_choice(
     replica: &Replica,
@@ -106,7 +114,9 @@ fn tell_choice(
     Ok(())
 }
 
-// What is committed is applied; where its group has no other replica, what it has stored of the log counts first.
+// What is committed is applied. In a group of one the commit number rises first, as long as the next op
+// has its quorum, the replica counted where it is `Here`. After an `Err` the disk has had its calls up
+// to the stop; of replica and outputs nothing is said.
 fn apply_log<D: SectorDisk>(
     replica: &mut Replica,
     alloc: Global,
@@ -123,8 +133,11 @@ fn apply_log<D: SectorDisk>(
     }
 }
 
-// Begins its view with this log: it takes it over, the others hear of it, and what can be read above
-// the commit number is prepared again and then applied.
+// In this order: a `choose` line; the log is taken over, and saved; a start_view goes to each other
+// replica. Then each op above the commit number up to the log's head, if `Here`, is read, and prepared
+// to each other replica; one that doesn't read becomes `Lost`. Then what is committed is applied; in a
+// group of one what is `Here` counts as committed first. After an `Err` the disk has had its calls up
+// to the stop; of replica and outputs nothing is said.
 #[tactic(auto, using(vr_journal::proofs::Stepping::steps, crate::proofs::Takes::taken_low, crate::proofs::Choices::head_small, crate::proofs::Choices::begins))]
 fn begin_view<D: SectorDisk>(
     replica: &mut Replica,
@@ -145,7 +158,11 @@ fn begin_view<D: SectorDisk>(
     apply_log(replica, alloc, disk, out)
 }
 
-// Begins its view with this log if it may take it, and waits otherwise.
+// Where the log may be taken (newer, fits, a chain), the replica begins its view with it
+// (`begin_view`): a `choose` line, take and save, start_views, prepares, apply. Else one `wait` line
+// with the log's head is put out, and nothing else is done. `IsTaught`: the headers are those of
+// entries of the group, of a view that may be entered. After an `Err` the disk has had its calls up to
+// the stop; of replica and outputs nothing is said.
 #[tactic(auto, using(vr_journal::proofs::Stepping::steps, crate::proofs::Takes::may_take_now, vr_journal::proofs::Memory::window_of), unfolding(vr_journal::specs::Words::try_log))]
 fn try_log<D: SectorDisk>(
     replica: &mut Replica,
@@ -167,7 +184,7 @@ fn try_log<D: SectorDisk>(
     }
 }
 
-// Whether too few replicas have stated for its view to choose a log.
+// Whether fewer replicas have stated, itself counted, than a view-change quorum.
 fn are_too_few(replica: &Replica) -> bool
     ensures { result ≡ nat_lt (length (stated replica.now)) (view_change replica.now.n) }
 {
@@ -178,7 +195,10 @@ fn are_too_few(replica: &Replica) -> bool
     }
 }
 
-// Obeys what the statements of the group decide; they are copied only where they are enough.
+// What the statements of the group, its own among them, decide is obeyed. Too few: nothing; a wait: one
+// `wait` line with its op. An end: where the chosen log may be taken, the view begins with it
+// (`begin_view`); else one `wait` line with the log's head. After an `Err` the disk has had its calls
+// up to the stop; of replica and outputs nothing is said.
 #[tactic(auto, using(crate::proofs::Choices::choices, crate::proofs::Choices::chosen_taught, vr_journal::proofs::Memory::window_of, vr_journal::proofs::Stepping::wants))]
 fn choose_log<D: SectorDisk>(
     replica: &mut Replica,
@@ -206,7 +226,7 @@ fn choose_log<D: SectorDisk>(
     }
 }
 
-// Whether it is the primary of a view that isn't started.
+// Whether the replica is the primary of its view, and that isn't started.
 fn may_try(replica: &Replica) -> bool
     requires { 0 < replica.now.n }
     ensures { result ≡ (is_primary replica.now && not (is_started replica.now)) }
@@ -214,8 +234,11 @@ fn may_try(replica: &Replica) -> bool
     replica.is_primary() && !replica.is_started()
 }
 
-/// Tries to begin its view: the primary of a view that isn't started chooses its log from what the
-/// replicas have stated, and begins the view if they leave no doubt.
+/// Where the replica isn't the primary of its view, or that is started, or too few have stated, nothing
+/// is done. Where the statements decide on a wait, one `wait` line with its op is put out. Where they
+/// decide on a log that may be taken, the view begins with it: `choose` line, take and save,
+/// start_views, prepares, apply. Where that may not be taken, one `wait` line with its head is put out.
+/// After an `Err` the disk has had its calls up to the stop; of replica and outputs nothing is said.
 #[tactic(auto, using(crate::proofs::Choices::tries, vr_journal::proofs::Memory::some_member))]
 pub fn try_view<D: SectorDisk>(
     replica: &mut Replica,
@@ -233,7 +256,7 @@ pub fn try_view<D: SectorDisk>(
     }
 }
 
-// Whether a view-change quorum is known to have entered its view.
+// Whether at least a view-change quorum is known to have entered its view.
 fn is_heard(replica: &Replica) -> bool
     ensures { result ≡ nat_le (view_change replica.now.n) (size replica.now.heard) }
 {
@@ -244,8 +267,10 @@ fn is_heard(replica: &Replica) -> bool
     }
 }
 
-/// Speaks, in a view that isn't started: where enough replicas have entered it, its primary tries to
-/// begin it, and another one states its log to the primary.
+/// With fewer heard than a view-change quorum nothing is done. Else the primary tries to begin its view
+/// (`try`), with the log that the statements decide on, and another replica sends one do_view_change
+/// with its statement to the primary. After an `Err` the disk has had its calls up to the stop; of
+/// replica and outputs nothing is said.
 #[tactic(auto, using(vr_journal::proofs::Stepping::steps, vr_journal::proofs::Memory::some_member), unfolding(vr_journal::specs::Words::speak))]
 pub fn speak<D: SectorDisk>(
     replica: &mut Replica,
