@@ -23,7 +23,9 @@ pub enum SyncRule {
     SyncGiven,
 }
 
-/// Which rule applies to a get_sync.
+/// `SyncGiven` where the message is of this version and group and from another replica, the replica leads, in the asked view or a later
+/// one, and its log reaches down. Else `Ignored`. `reaches_down`: it has a checkpoint, and its known headers reach from the head without a
+/// hole down to the checkpoint's.
 #[tactic(auto, using(vr_journal::proofs::Memory::some_member), unfolding(vr_journal::specs::Deciding::first_of))]
 pub fn decide_get_sync(replica: &Replica, get: &GetSync) -> SyncRule
     requires { IsReady replica.now }
@@ -39,8 +41,10 @@ pub fn decide_get_sync(replica: &Replica, get: &GetSync) -> SyncRule
     }
 }
 
-/// A replica that is out of reach of a view's log asks for its checkpoint: where this one leads that view or a later one, and its log reaches
-/// down to its checkpoint, it is given both.
+/// Rule 36: where the replica leads, in the asked view or a later one, and its log reaches down, one sync_view goes to the sender. Reaching
+/// down: it has a checkpoint, and known headers from the head without a hole down to that. Else, and where the message isn't of this
+/// version and group and from another replica, nothing is put out. Replica and disk are left as they are; after an `Err` nothing is said of
+/// outputs.
 #[tactic(auto, using(crate::proofs::Syncs::gives, vr_journal::proofs::Stepping::wants))]
 pub fn handle_get_sync<D: SectorDisk>(
     replica: &Replica,

@@ -27,7 +27,9 @@ pub enum JumpRule {
     Jumped,
 }
 
-/// Which rule applies to a sync_view; one that is taken over has headers with the values of the program.
+/// `Jumped` where it is of this version and group and from its view's primary, another replica, may be jumped to, and this replica isn't
+/// that primary. Else `Ignored`. It may be: the log is newer and a chain, its head at least the commit number, its checkpoint above the
+/// replica's. Headers that are taken over have the values of the program.
 #[tactic(auto, using(vr_journal::proofs::Memory::window_of, vr_journal::proofs::Memory::some_member), unfolding(vr_journal::specs::Deciding::first_of))]
 pub fn decide_sync_view(replica: &Replica, sync: &SyncView) -> JumpRule
     requires { IsReady replica.now }
@@ -43,7 +45,11 @@ pub fn decide_sync_view(replica: &Replica, sync: &SyncView) -> JumpRule
     }
 }
 
-// Takes over a log with its checkpoint, and saves that it has them.
+// In this order: log and checkpoint are taken over (`jumped`), and the replica saves; nothing is put out. The message's checkpoint is
+// checkpoint and applied then; its root alone is missing, and no block is worn. Ops of its log up to that are `Lost`; in front of its log
+// Parts stay up to the commit number, and are `Nothing` above. Above it Parts are as after `take`; view and log view are the message's, and
+// the commit number is the greater. `MayJump`: the message may be jumped to, and its root is in the grid. After an `Err` the disk has had
+// its calls up to the stop; of replica and outputs nothing is said.
 #[tactic(auto, using(vr_journal::proofs::Stepping::steps, vr_journal::proofs::Versions::jumped_stays, crate::proofs::Jumps::ready_jumped, crate::proofs::Jumps::view_jumped, crate::proofs::Jumps::may_move, vr_journal::proofs::Memory::window_of), unfolding(vr_journal::specs::Words::jump))]
 fn jump<D: SectorDisk>(
     replica: &mut Replica,
@@ -62,7 +68,9 @@ fn jump<D: SectorDisk>(
     save(replica, alloc, disk, out)
 }
 
-// And then acknowledges what is stored of the log, and applies.
+// In this order: log and checkpoint are taken over, and saved. Each op above the commit number up to the head, ascending, if `Here`, is
+// acknowledged to the primary by a prepare_ok. Nothing is applied, since the root is missing now. `MayJump`: the message may be jumped to,
+// and its root is in the grid. After an `Err` the disk has had its calls up to the stop; of replica and outputs nothing is said.
 #[tactic(auto, using(vr_journal::proofs::Stepping::steps, crate::proofs::Jumps::view_low, crate::proofs::Jumps::head_small))]
 fn follow<D: SectorDisk>(
     replica: &mut Replica,
@@ -80,8 +88,11 @@ fn follow<D: SectorDisk>(
     apply(replica, alloc, disk, out)
 }
 
-/// The primary of a view gives its checkpoint and its log. Where the log is newer than the replica's and a chain, reaches up to what is
-/// committed here, and the checkpoint is a later one, both are taken over; its state is still to be had, block by block.
+/// Only from its view's primary, another replica of this version and group, is anything done, and not where the replica is that primary.
+/// Rule 37: where the log is newer and a chain, its head at least the commit number, its checkpoint above the replica's, both are taken
+/// over, and saved. Then each op above the commit number up to the log's head, ascending, if `Here`, is acknowledged to the primary.
+/// Nothing is applied, since the root is missing now. Else nothing is done. After an `Err` the disk has had its calls up to the stop; of
+/// replica and outputs nothing is said.
 #[tactic(auto, using(crate::proofs::Jumps::syncs, crate::proofs::Jumps::may_follow))]
 pub fn handle_sync_view<D: SectorDisk>(
     replica: &mut Replica,
