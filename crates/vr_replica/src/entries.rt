@@ -12,7 +12,8 @@ use vr_disk::SectorDisk;
 use vr_header::{Entry, Header, Part};
 use vr_journal::{Replica, find_entry};
 
-// Reads the entry of this header, which is stored; one that can't be read is lost.
+// The op of this header is `Here`. The entry, where its slot reads as the whole one of just this header; else `None`, and the Part becomes
+// `Lost`. Nothing else of the replica changes, and the disk is only read. An `Err` is want of memory, and leaves the replica as it was.
 #[tactic(auto, using(crate::proofs::EntryReadings::found, vr_journal::proofs::Memory::readies))]
 fn look_up_stored<D: SectorDisk>(
     replica: &mut Replica,
@@ -38,8 +39,9 @@ fn look_up_stored<D: SectorDisk>(
     }
 }
 
-/// Reads the entry of an op where it is stored; one that can't be read is lost. `None`: there is none to be had. It changes nothing on
-/// the disk, and an `Err` changes nothing.
+/// The entry of an op that is `Here`, where its slot reads as the whole one of the known header. Else `None`: a Part that is `Here` and
+/// doesn't read becomes `Lost`, and nothing else changes. The disk is only read. An `Err` is want of memory, and leaves the replica as it
+/// was.
 #[tactic(auto, using(vr_journal::proofs::Memory::here_op))]
 pub fn look_up<D: SectorDisk>(
     replica: &mut Replica,

@@ -45,8 +45,9 @@ impl Model for Replica {
 }
 
 impl Replica {
-    /// The replica of a member of a new group, whose disk is formatted for a file of this kind. `Occupied` exactly where two good copies of a superblock agree,
-    /// and then nothing is written; `DiskFault` where a call failed; after `NoMemory` nothing was written.
+    /// The replica of a new member, running; the disk is formatted for a file of this kind (`Made`). `Occupied` exactly where two good
+    /// copies of a superblock agree: then, and after `NoMemory`, nothing was written. `DiskFault` comes exactly where a call failed, and
+    /// the calls of the formatting were made up to that one.
     pub fn fresh<D: SectorDisk>(
         alloc: Global,
         disk: &mut D,
@@ -68,9 +69,11 @@ impl Replica {
         }
     }
 
-    /// The replica of a disk, if the disk is that of the member that is asked for: the superblock's value that opens is mended, the log is
-    /// found again, a primary's view is left, the checkpoint is loaded, what is committed is applied, and the others are told. Of another
-    /// member's disk that value is mended, and no other call is made, whatever the answer.
+    /// Where the superblock opens as the asked member's value, the opening is done: value mended, Parts recovered, a primary's view left,
+    /// `start` line, checkpoint loaded, what is committed applied. Then, where its view isn't started, start_view_change goes to all. The
+    /// replica runs, and the outputs are those of the opening alone. `Lost`: no two good copies agree, and nothing is written.
+    /// `OtherMember`, with whose it is: the value is mended, and nothing else written. `Halted`: the calls were made up to the stop, of
+    /// another's disk those of the mending alone. After every `Err` the outputs are empty.
     #[tactic(auto, using(crate::proofs::Stopped::cleared))]
     pub fn recover<D: SectorDisk>(
         alloc: Global,
@@ -96,7 +99,11 @@ impl Replica {
         }
     }
 
-    /// The replica of a disk whose file is of this version, whatever member's disk it is, recovered as `recover` does: `OtherMember` never comes.
+    /// Where the superblock opens as a value of this version, the opening is done: value mended, Parts recovered, a primary's view left,
+    /// `start` line, checkpoint loaded, what is committed applied. Then, where its view isn't started, start_view_change goes to all. The
+    /// replica, of whatever member, runs, and the outputs are those of the opening alone. `Lost`: no two good copies agree, or the file is
+    /// of another version, and nothing is written. `Halted`: the calls of the opening were made up to the stop. `OtherMember` never comes,
+    /// and after every `Err` the outputs are empty.
     #[tactic(auto, using(crate::proofs::Stopped::cleared_any))]
     pub fn recover_any<D: SectorDisk>(
         alloc: Global,
@@ -122,9 +129,11 @@ impl Replica {
         }
     }
 
-    /// The file of a disk becomes one of version 2, if the disk is that of the member that is asked for: its superblock is mended, and then, where
-    /// its file is of version 1, each slot's prepare is written at its new place, and the value is saved with the new version. Of another
-    /// member's disk the superblock is mended, and no other call is made.
+    /// Where the superblock opens as a value of the asked member, it is mended. Then, where the file is of version 1, each slot's prepare
+    /// is written at its new place, and the value is saved with version 2 and the next sequence number. `Lost`: no two good copies agree,
+    /// and nothing is written. `OtherMember`, with whose it is: the value is mended, and nothing else written. `Halted`: `DiskFault` after
+    /// the calls up to the one that failed, `NoMemory` before any, or once the value is mended; on another's disk only the mending was
+    /// begun.
     pub fn migrate<D: SectorDisk>(
         alloc: Global,
         disk: &mut D,
@@ -136,8 +145,10 @@ impl Replica {
         vr_opening::migrate(alloc, disk, config)
     }
 
-    /// The file of a disk becomes one of version 2, whatever member's disk it is, as `migrate` does it: `OtherMember` never comes. One of
-    /// version 2 is left alone.
+    /// Where the superblock opens as a value of version 1, of whatever member, it is mended. Then each slot's prepare is written at its new
+    /// place, and the value is saved with version 2 and the next sequence number. `Lost`: no two good copies agree, or the file is of
+    /// version 2, and nothing is written. `Halted`: `DiskFault` after the calls up to the one that failed, `NoMemory` before any, or once
+    /// the value is mended. `OtherMember` never comes.
     pub fn migrate_any<D: SectorDisk>(alloc: Global, disk: &mut D) -> Result<(), Refusal>
         ensures cause { CountsFault (Refusal.Halted Halt.DiskFault) (D.faults disk.old) (D.faults disk.new) result }
         ensures migrated { MigratedAny (D.told disk.old) (D.told disk.new) result }
@@ -145,10 +156,12 @@ impl Replica {
         vr_opening::migrate_any(alloc, disk)
     }
 
-    /// Handles an event in one step, which puts out what is to be sent, replied and told. After an `Err` the replica has stopped: it
-    /// puts out nothing, and takes no further step. A prepare or a start_view_change that the rules leave be, and an acknowledgement that
-    /// is counted without a quorum, make no call of the disk and take no memory. It runs on a file of version 1 or 2,
-    /// and the step is that of the rules on a file of its version.
+    /// One step, of a replica that runs: `react`, the first of the event's rules (docs/RULES.md) that holds; frozen, at the end of its
+    /// numbers, it ignores every event. After `Ok` replica, disk and outputs, those of this step alone, are what the rule says, and it runs
+    /// on. After an `Err` it runs no more, outputs are empty, and the disk has had its calls up to the stop. Its file is of version 1 or 2.
+    /// On these it answers `Ok` and leaves the very same disk: a prepare of rule `Ignored`, `PreparedBefore` or `Other`; a
+    /// start_view_change of `Ignored` or `ChangeBefore`. So on a prepare_ok that isn't counted, or after which the next op has no quorum
+    /// and nothing can be applied.
     #[tactic(auto, using(crate::proofs::Stopped::halted, vr_journal::proofs::Memory::file_version))]
     pub fn step<D: SectorDisk>(
         &mut self,
@@ -220,8 +233,9 @@ impl Replica {
         self.memory.header_at(op).is_some()
     }
 
-    /// Reads the entry of an op whose header is known. `None`: it isn't stored, or can't be read, and then it is lost. It changes nothing on
-    /// the disk, and an `Err` changes nothing.
+    /// The entry of an op whose header is known, where it is `Here` and its slot reads as the whole one of that header. Else `None`: a Part
+    /// that is `Here` and doesn't read becomes `Lost`, and nothing else changes. The disk is only read, and the replica runs on. An `Err`
+    /// is want of memory, and leaves the replica as it was.
     pub fn read<D: SectorDisk>(
         &mut self,
         alloc: Global,

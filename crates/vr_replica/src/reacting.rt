@@ -19,7 +19,10 @@ use vr_view::{
     handle_do_view_change, handle_get_view, handle_start_view, handle_start_view_change,
 };
 
-// A message arrives. Replies aren't for replicas.
+// Does what the rules of this kind of message say, on replica, disk and outputs (`on_message`); a reply does nothing. On these it answers
+// `Ok` and leaves the very same disk: a prepare of rule `Ignored`, `PreparedBefore` or `Other`; a start_view_change of `Ignored` or
+// `ChangeBefore`. So on a prepare_ok that isn't counted, or after which the next op has no quorum and nothing can be applied. After an
+// `Err` the disk has had its calls up to the stop; of replica and outputs nothing is said.
 #[tactic(auto, using(crate::proofs::Forms::forms, vr_journal::proofs::Stepping::does_quiet))]
 fn handle_message<D: SectorDisk>(
     replica: &mut Replica,
@@ -53,7 +56,10 @@ fn handle_message<D: SectorDisk>(
     }
 }
 
-// What happens, at a replica whose views and sequence numbers aren't at their end.
+// Does what the rules of this kind of event say (`on_event`): of a request, of the message that arrives, or of a tick. On these it answers
+// `Ok` and leaves the very same disk: a prepare of rule `Ignored`, `PreparedBefore` or `Other`; a start_view_change of `Ignored` or
+// `ChangeBefore`. So on a prepare_ok that isn't counted, or after which the next op has no quorum and nothing can be applied. After an
+// `Err` the disk has had its calls up to the stop; of replica and outputs nothing is said.
 fn handle<D: SectorDisk>(
     replica: &mut Replica,
     alloc: Global,
@@ -72,14 +78,17 @@ fn handle<D: SectorDisk>(
     }
 }
 
-// Whether its views or sequence numbers are at their end.
+// Whether its view is above 2^32 - 2, or the sequence number of its saved value above 2^64 - 256.
 fn is_frozen(replica: &Replica) -> bool
     ensures { result ≡ is_frozen replica.now }
 {
     LAST_VIEW < replica.view() || replica.is_spent()
 }
 
-/// The step of an event; where views or sequence numbers are at their end, every event is ignored.
+/// The step of an event, by its rule. In a view above 2^32 - 2, or with a saved sequence number above 2^64 - 256, every event is ignored:
+/// nothing is done. On these it answers `Ok` and leaves the very same disk: a prepare of rule `Ignored`, `PreparedBefore` or `Other`; a
+/// start_view_change of `Ignored` or `ChangeBefore`. So on a prepare_ok that isn't counted, or after which the next op has no quorum and
+/// nothing can be applied. After an `Err` the disk has had its calls up to the stop; of replica and outputs nothing is said.
 #[tactic(auto, using(crate::proofs::Reacts::frozen, crate::proofs::Reacts::goes, crate::proofs::Reacts::view_room, crate::proofs::Reacts::save_room))]
 pub fn react<D: SectorDisk>(
     replica: &mut Replica,

@@ -29,7 +29,8 @@ pub enum TickRule {
     TickedChanging,
 }
 
-/// Which rule applies to a tick.
+/// `TickedPrimary` where the replica leads; else `TickedBackup` where its view is started; else `TickedChanging`, and then its log view is
+/// below its view.
 #[tactic(auto, using(vr_journal::proofs::Memory::some_member, crate::proofs::Ticks::unstarted), unfolding(vr_journal::specs::Deciding::first_of))]
 pub fn decide_tick(replica: &Replica) -> TickRule
     requires { IsReady replica.now }
@@ -45,7 +46,9 @@ pub fn decide_tick(replica: &Replica) -> TickRule
     }
 }
 
-// One place of the disk is looked at, and then what is missing is asked for.
+// Unless a block is missing, one place of the disk is visited, and the cursor moves on. Then the peer whose turn it is is asked for the
+// first thing missing, if any, and the turn moves on. After an `Err` the disk has had its calls up to the stop; of replica and outputs
+// nothing is said.
 #[tactic(auto, using(vr_journal::proofs::Stepping::steps))]
 fn look_and_ask<D: SectorDisk>(
     replica: &mut Replica,
@@ -61,7 +64,7 @@ fn look_and_ask<D: SectorDisk>(
 
 // ---- at the primary
 
-// Whether an op above the commit number is known.
+// Whether the head is above the commit number.
 #[tactic(auto, using(vr_journal::proofs::Memory::window_of))]
 fn has_open(replica: &Replica) -> bool
     requires { IsReady replica.now }
@@ -70,7 +73,9 @@ fn has_open(replica: &Replica) -> bool
     replica.commit() < replica.head()
 }
 
-// The first op above the commit number is sent again, if there is one.
+// Where the head is above the commit number, and the op after the commit number is `Here`, it is read. One that reads is prepared to each
+// other replica, ascending; one that doesn't becomes `Lost`. Else nothing is done. The disk is left as it is; after an `Err` nothing is
+// said of replica and outputs.
 #[tactic(auto, using(crate::proofs::Ticks::first_told, crate::proofs::Ticks::none_told, crate::proofs::Ticks::next_fits))]
 fn tell_first<D: SectorDisk>(
     replica: &mut Replica,
@@ -90,7 +95,9 @@ fn tell_first<D: SectorDisk>(
     }
 }
 
-// The primary tells how far its log goes, sends the first open entry again, looks at a place of its disk, and asks for what is missing.
+// Rule 32, in this order: a commit goes to each other replica; the op after the commit number, up to the head, if `Here`, is read, and
+// prepared to each. One that doesn't read becomes `Lost`. Then one place of the disk is visited, and the peer whose turn it is is asked for
+// what is missing. After an `Err` the disk has had its calls up to the stop; of replica and outputs nothing is said.
 #[tactic(auto, using(vr_journal::proofs::Stepping::steps), unfolding(crate::specs::Ticks::tells_first))]
 fn tick_primary<D: SectorDisk>(
     replica: &mut Replica,
@@ -109,14 +116,15 @@ fn tick_primary<D: SectorDisk>(
 
 // ---- at a backup, and where the view isn't started
 
-// Whether it has been idle for so many ticks.
+// Whether idle is at least so many ticks.
 fn is_idle_for(replica: &Replica, ticks: u64) -> bool
     ensures { result ≡ nat_le ticks replica.now.idle }
 {
     ticks <= replica.idle()
 }
 
-// The next view is entered.
+// The view after the replica's is entered, saved, and told to each other replica by start_view_change. After the last view only idle
+// becomes 0. After an `Err` the disk has had its calls up to the stop; of replica and outputs nothing is said.
 #[tactic(auto, using(crate::proofs::Ticks::next_entered))]
 fn enter_next<D: SectorDisk>(
     replica: &mut Replica,
@@ -131,8 +139,9 @@ fn enter_next<D: SectorDisk>(
     enter(replica, alloc, disk, view, out)
 }
 
-// A backup that has heard nothing for five ticks enters the next view; before, it looks at a place of its disk, and asks
-// for what is missing.
+// Rule 33: idle is one more. At 5 the next view, if there is one, is entered, saved, and told to each other replica, and that is all.
+// Below, one place of the disk is visited, and the peer whose turn it is is asked for what is missing. After an `Err` the disk has had its
+// calls up to the stop; of replica and outputs nothing is said.
 #[tactic(auto, using(crate::proofs::Ticks::backup_due, crate::proofs::Ticks::backup_waits, crate::proofs::Ticks::ready_waits, crate::proofs::Ticks::idle_fits))]
 fn tick_backup<D: SectorDisk>(
     replica: &mut Replica,
@@ -152,7 +161,9 @@ fn tick_backup<D: SectorDisk>(
     }
 }
 
-// It tells the view that it has entered, states its log, looks at a place of its disk, and asks for what is missing.
+// In this order: a start_view_change goes to each other replica; the replica speaks; one place of the disk is visited; a peer is asked for
+// what is missing. Speaking, with a view-change quorum heard: the primary tries to begin the view, another replica sends its statement to
+// the primary. After an `Err` the disk has had its calls up to the stop; of replica and outputs nothing is said.
 #[tactic(auto, using(vr_journal::proofs::Stepping::steps))]
 fn tell_all<D: SectorDisk>(
     replica: &mut Replica,
@@ -169,7 +180,10 @@ fn tell_all<D: SectorDisk>(
     look_and_ask(replica, disk, out)
 }
 
-// A replica whose view isn't started enters the next one after ten ticks; before, it tells of this one.
+// Rule 34: idle is one more. At 10 the next view, if there is one, is entered, saved, and told to each other replica, and that is all.
+// Below, in this order: start_view_change to each; it speaks; one place of the disk is visited; a peer is asked for what is missing.
+// Speaking, with a view-change quorum heard: the primary tries to begin the view, another replica sends its statement to the primary. After
+// an `Err` the disk has had its calls up to the stop; of replica and outputs nothing is said.
 #[tactic(auto, using(crate::proofs::Ticks::changing_due, crate::proofs::Ticks::changing_waits, crate::proofs::Ticks::ready_waits, crate::proofs::Ticks::idle_fits))]
 fn tick_changing<D: SectorDisk>(
     replica: &mut Replica,
@@ -190,7 +204,11 @@ fn tick_changing<D: SectorDisk>(
     }
 }
 
-/// Time goes by.
+/// Rule 32, where the replica leads: a commit to each other replica; the first op above the commit number, if any, read and prepared to
+/// each; visit; ask. Rule 33, else where the view is started: idle is one more; at 5 the next view is entered, and nothing else; below,
+/// visit; ask. Rule 34, else: idle is one more; at 10 the next view is entered, and nothing else; below, start_view_change to each, speak,
+/// visit, ask. Visit is of one place of the disk, ask of a peer for what is missing. After an `Err` the disk has had its calls up to the
+/// stop; of replica and outputs nothing is said.
 #[tactic(auto, using(crate::proofs::Ticks::primary_ticked, crate::proofs::Ticks::backup_ticked, crate::proofs::Ticks::changing_ticked))]
 pub fn handle_tick<D: SectorDisk>(
     replica: &mut Replica,
