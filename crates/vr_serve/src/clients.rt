@@ -16,21 +16,22 @@ pub struct Client {
     pub port: u32,
 }
 
-/// The port of a client, where it is among the last ones heard.
+/// The port at this client's first place in the list; `None` where the client isn't in it.
 pub fn port_of(clients: &[Client], id: u64) -> Option<u32>
     ensures { result ≡ port_of id clients.now }
 {
     Some(clients.iter().find(|client| client.id == id)?.port)
 }
 
-/// The place of a client.
+/// The first place of this client in the list; `None` where it isn't in it.
 fn place_of(clients: &[Client], id: u64) -> Option<usize>
     ensures { result ≡ position (λ c. c.id == id) clients.now }
 {
     clients.iter().position(|client| client.id == id)
 }
 
-/// Takes the last place of a client; where it has none, that of the 64th.
+/// Takes the client out of the list, at its first place. Where it isn't in the list, all behind the first 63 go instead. The
+/// others keep their order.
 fn make_place(clients: &mut Vec<Client>, id: u64)
     ensures { clients.new.items ≡ others id clients.old.items }
 {
@@ -42,7 +43,8 @@ fn make_place(clients: &mut Vec<Client>, id: u64)
     }
 }
 
-/// A client is heard with its request: its place is the first.
+/// A request puts its client in front of the list, with this port: its earlier place goes, and where it had none all behind the
+/// 63rd. Any other event leaves the list as it is. After an `Err`, want of memory, nothing is said of the list.
 pub fn hear(clients: &mut Vec<Client>, port: u32, event: &Event) -> Result<(), AllocError>
     ensures { OnOk result (clients.new.items ≡ heard (record { port = port; event = event.now }) clients.old.items) }
 {

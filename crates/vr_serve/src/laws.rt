@@ -3,7 +3,8 @@ ghost use Rattle.vr_serve.specs.Laws.{CutsTheSame, RefusedChangeNothing, ServesT
 
 use crate::Member;
 
-/// A datagram that is refused is as if nothing had come. It does nothing.
+/// Laws alone, it does nothing: among a run's receives each datagram that is no message of this version and group may be replaced
+/// by a receive that gave nothing.
 pub fn serve_laws<M: Member>()
     // The same events come of the turns, at the same numbers of the clock.
     ensures events { RefusedChangeNothing }

@@ -31,7 +31,9 @@ pub trait Member {
     /// Whether it runs; it doesn't after a halt.
     ghost runs: { Self → Bool };
 
-    /// Handles one event whole, and puts its outputs into `out`.
+    /// Handles one event whole, and puts its outputs into `out`, which is empty before. After `Ok` member, outputs and disk are
+    /// as `does` says, and it runs on. After an `Err` member and disk are as `halts` says of that cause, and of `out` nothing is
+    /// said. At `Disk`, and only there, the disk counts one fault more.
     fn step<D: SectorDisk>(
         &mut self,
         alloc: Global,

@@ -14,7 +14,7 @@ use vr_mail::{send_bytes, send_message};
 use vr_msg::{Message, Outbox, Output, Reply};
 use vr_text::write_text;
 
-/// The number of the next message behind an output.
+/// One more behind a message that is sent, up to 2^64 - 1; the same behind any other output, a reply too.
 fn number_after(number: u64, output: &Output) -> u64
     ensures { result ≡ number_after number output.now }
 {
@@ -24,7 +24,8 @@ fn number_after(number: u64, output: &Output) -> u64
     }
 }
 
-/// Adds the lines of outputs, whose messages are numbered from here on.
+/// Adds the line of each output behind the text, in order. `number` is that of the next message: one that is sent has it in its
+/// line, and it is one more behind it, up to 2^64 - 1. After an `Err`, want of memory, nothing is said of text and number.
 #[tactic(auto, using(std::proofs::lemmas::Grind::common_steps, crate::proofs::Outputs::text_more, crate::proofs::Outputs::text_none, crate::proofs::Outputs::numbers_more, crate::proofs::Outputs::numbers_none))]
 pub fn put_text(number: &mut u64, outputs: &[Output], text: &mut ByteList) -> Result<(), AllocError>
     ensures text { OnOk result (text.new ≡ text.old ++ text_from number.old outputs.now) }
@@ -44,7 +45,7 @@ pub struct Outgoing {
     pub message: Message,
 }
 
-/// A reply goes to the port of its client, if it has one.
+/// The reply, with the port of its client; `None` where the client isn't in the list.
 fn address_reply(clients: &[Client], reply: Reply) -> Option<Outgoing>
     ensures { datagram_of result ≡ reply_for clients.now reply }
 {
@@ -60,7 +61,8 @@ fn address_reply(clients: &[Client], reply: Reply) -> Option<Outgoing>
     }
 }
 
-/// What goes out of an output.
+/// A message that is sent, with its member's number as the port, or a reply, with its client's port in the list. `None` for a
+/// reply whose client isn't in the list, and for each other output.
 fn address(clients: &[Client], output: Output) -> Option<Outgoing>
     ensures { datagram_of result ≡ datagram_for clients.now output }
 {
@@ -77,7 +79,7 @@ fn address(clients: &[Client], output: Output) -> Option<Outgoing>
     }
 }
 
-// Whether the message that was sent last is the same prepare.
+// `true` only where the message that was sent last is this one; `false` tells nothing.
 fn is_last(last: &Option<Message>, message: &Message) -> bool
     ensures { result ≡ true → last.now ≡ Some message.now }
 {
@@ -87,7 +89,10 @@ fn is_last(last: &Option<Message>, message: &Message) -> bool
     }
 }
 
-/// Sends a message to a port. A prepare is spelled once for all backups: where it was sent last, its bytes stand there already.
+/// Gives the message's bytes to the link as one datagram to its port; where the link fails to send it, it is lost, and nothing
+/// else. Before, `bytes` is the spelling of `last` where there is one; after `Ok` it is that of this message. After an `Err`,
+/// want of memory, nothing was sent. The link's receives, attaches and faults stay as they are. A prepare is spelled once for all
+/// backups: where it was sent last, its bytes stand there already.
 fn send_again<L: Link>(
     link: &mut L,
     out: &Outgoing,
@@ -105,7 +110,9 @@ fn send_again<L: Link>(
     send_message(link, out.port, &out.message, bytes)
 }
 
-/// Sends what an output says, and gives the message whose bytes are left, if it says one.
+/// Gives the output's datagram to the link, where it has one: a message's goes to its member, a reply's to its client's port in
+/// the list. After `Ok` the message that is returned, if any, is the one whose spelling `bytes` is. After an `Err`, want of
+/// memory, nothing was sent. The link's receives, attaches and faults stay as they are.
 fn send_output<L: Link>(
     link: &mut L,
     clients: &[Client],
@@ -129,7 +136,9 @@ fn send_output<L: Link>(
     }
 }
 
-/// The same for each output, in order.
+/// Gives the datagrams of all outputs to the link, in order: messages go to their members, replies to their clients' ports in the
+/// list. One that the link fails to send is lost, and the next ones are sent. After an `Err`, want of memory, a front of them was
+/// given. The link's receives, attaches and faults stay as they are.
 pub fn send_outputs<L: Link>(
     link: &mut L,
     clients: &[Client],

@@ -27,7 +27,7 @@ pub struct Post {
 impl Post {
     ghost use Rattle.vr_serve.specs.Sending.{PutsOut};
 
-    /// No message was sent and no client heard.
+    /// The next message has number 0, and no client was heard.
     pub fn new(alloc: Global) -> Result<Post, AllocError>
         ensures number { IfOk result (λ p. p.number ≡ 0) }
         ensures clients { IfOk result (λ p. p.clients.items ≡ []) }
@@ -41,7 +41,10 @@ impl Post {
         })
     }
 
-    /// Writes the text of outputs whole, and then sends their datagrams in order.
+    /// Writes the text of the outputs whole, and then sends their datagrams in order, replies to the clients heard; the number
+    /// goes on behind the messages. After an `Err` a front of that went out, no datagram before the whole text. It is `Write`,
+    /// where the sink counts one fault more, or `NoMemory`, and never `Disk` or `Link`. The clients stay, and so do the link's
+    /// receives, attaches and faults.
     #[tactic(auto, using(std::proofs::lemmas::Grind::common_steps, crate::proofs::Outputs::puts_none, crate::proofs::Outputs::puts_text, crate::proofs::Outputs::puts_sent))]
     pub fn put_out<K: Sink, L: Link>(
         &mut self,

@@ -18,7 +18,10 @@ use vr_msg::{Event, Outbox};
 /// The milliseconds from one tick to the next.
 pub const TICK: u64 = 100;
 
-/// One receive, and what comes of it.
+/// One receive. A message of this version and group that came is one event from its sender's port: the client heard, a step, its
+/// text, its datagrams; all else is as nothing. An `Err` cuts it off: at the receive, with nothing else done (`Link` only where
+/// it failed), or in the event, of whose outputs at most a front went out. After `Ok` the member runs. Disk, sink and link count
+/// one fault more where the `Err` names them, and else none; nothing is attached.
 #[tactic(auto, using(crate::proofs::Ending::causes_none, crate::proofs::Ending::causes_later, crate::proofs::Ending::causes_received))]
 fn arrive<M: Member, D: SectorDisk, K: Sink, L: Link>(
     alloc: Global,
@@ -42,7 +45,9 @@ fn arrive<M: Member, D: SectorDisk, K: Sink, L: Link>(
     }
 }
 
-/// What comes of a look at the clock. It returns the last tick after it.
+/// A look at the clock: where `now` is at least `TICK` above `last`, a tick is handled whole, as one event. It returns the last
+/// tick after that: `now` where it ticked or where `now` is below `last`, and else `last`. An `Err` cuts the tick off, and of its
+/// outputs at most a front went out. Nothing is received or attached, so it is never `Link`.
 #[tactic(auto, using(crate::proofs::Ending::causes_none, crate::proofs::Ending::causes_later, crate::proofs::Ending::causes_received))]
 fn beat<M: Member, D: SectorDisk, K: Sink, L: Link>(
     alloc: Global,
@@ -65,7 +70,10 @@ fn beat<M: Member, D: SectorDisk, K: Sink, L: Link>(
     Ok(now)
 }
 
-/// One turn. It returns the last tick after it.
+/// One receive with what comes of it, then one number of the clock, and a tick where that is at least `TICK` above `last`. It
+/// returns the last tick after it: the number where it ticked or is below `last`, and else `last`. An `Err` cuts it off at the
+/// receive or its event, where the clock wasn't asked, or at the tick, behind an event that happened whole. It is `Link` only
+/// where the receive failed; nothing is attached.
 #[tactic(auto, using(crate::proofs::Ending::causes_none, crate::proofs::Ending::causes_later, crate::proofs::Ending::causes_received))]
 fn turn<M: Member, D: SectorDisk, K: Sink, L: Link, C: Clock>(
     alloc: Global,
@@ -84,7 +92,9 @@ fn turn<M: Member, D: SectorDisk, K: Sink, L: Link, C: Clock>(
     beat(alloc, objects, post, last, now)
 }
 
-/// So many turns. It returns the last tick after them.
+/// So many turns one after another: in each a receive with its event, then one number of the clock, and a tick where one is due.
+/// It returns the last tick after them. An `Err` cuts off one turn, at its receive or at one of its events: all events before
+/// that happened whole, and no later turn was begun. It is `Link` only where the last receive failed; nothing is attached.
 #[tactic(auto, using(crate::proofs::Ending::causes_none, crate::proofs::Ending::causes_later, crate::proofs::Ending::causes_received))]
 fn take_turns<M: Member, D: SectorDisk, K: Sink, L: Link, C: Clock>(
     alloc: Global,
@@ -106,7 +116,10 @@ fn take_turns<M: Member, D: SectorDisk, K: Sink, L: Link, C: Clock>(
     Ok(after)
 }
 
-/// Puts out what came first, and then does so many turns.
+/// Puts out `first`, with messages numbered from 0 and no client heard, then takes a number of the clock as the last tick, and
+/// does so many turns. An `Err` cuts it off before the first turn, with a front of `first` put out and no step done, or in a
+/// turn, behind all events before. It is `Link` only where the last receive failed. Disk, sink and link count one fault more
+/// where the `Err` names them, and else none; nothing is attached.
 #[tactic(auto, using(crate::proofs::Ending::causes_none, crate::proofs::Ending::causes_later, crate::proofs::Ending::causes_received))]
 pub fn serve<M: Member, D: SectorDisk, K: Sink, L: Link, C: Clock>(
     alloc: Global,

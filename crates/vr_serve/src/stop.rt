@@ -49,7 +49,7 @@ impl From<AllocError> for Stop {
     }
 }
 
-/// Why a receive ends the loop.
+/// A receive that failed ends the loop as `Link`, want of memory for what came as `NoMemory`.
 pub fn received_stop(fault: ReceiveFault) -> Stop
     ensures { result ≡ received_stop fault }
 {
