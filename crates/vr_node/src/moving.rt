@@ -10,7 +10,10 @@ use vr_disk::SectorDisk;
 use vr_replica::{Halt, Refusal, Replica};
 use vr_status::Status;
 
-/// The file on a disk that is attached becomes one of version 2.
+/// Migrates the file on a disk that is attached. `Done`: its superblock was mended, and in a file of version 1 each prepare written at its new place,
+/// then the value saved as one of version 2. `SuperLost`: no value opens, and no call was made; `OtherMember`: that member's superblock was mended,
+/// and nothing else. `DiskFault`: the calls were made up to the one that failed, and it alone adds one to the disk's faults. `NoMemory`: none was
+/// made, or the mending alone.
 fn move_file<D: SectorDisk>(alloc: Global, disk: &mut D, config: &Config) -> Status
     ensures ends { MovesFile config.now (D.told disk.old) (D.told disk.new) result }
     ensures disk { D.faults disk.new ≡ disk_after result (D.faults disk.old) }
@@ -24,8 +27,10 @@ fn move_file<D: SectorDisk>(alloc: Global, disk: &mut D, config: &Config) -> Sta
     }
 }
 
-/// The file of this name becomes one of version 2, if it is that of the member that is asked for: its disk is attached, and then comes its migration.
-/// Its end has its cause: what stands on the disk, or a fault that the disk's count tells.
+/// Attaches the disk by this name, and then migrates its file, if it is that of the member that is asked for. `Done`: the superblock was mended, and
+/// in a file of version 1 each prepare written at its new place, then the value saved as one of version 2. `SuperLost` wrote nothing; `OtherMember`
+/// mended the superblock alone. `DiskFault`: the attach failed and nothing was written, or the calls were made up to the one that failed. `NoMemory`:
+/// nothing was written, or the mending alone was done.
 pub fn run_migration<D: SectorDisk>(
     alloc: Global,
     config: &Config,

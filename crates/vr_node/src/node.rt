@@ -16,7 +16,7 @@ pub struct Node {
     replica: Replica,
 }
 
-/// Why a step stopped, as the loop hears it.
+/// A failed call of the disk is `Halt::Disk` to the loop, and want of memory `Halt::NoMemory`.
 fn halt_of(why: vr_replica::Halt) -> Halt
     ensures { why ≡ why_of result }
 {
@@ -58,6 +58,9 @@ impl Member for Node {
 
     ghost runs = { λ node. node.replica.running };
 
+    // One step of the rules for this event, whole: replica, disk and outputs are then what `react` says, on a file of the replica's version, 1 or 2.
+    // After a halt the disk got the step's calls up to the one that failed, or for want of memory a front of them. Of replica and outputs nothing is
+    // said then.
     #[tactic(auto, using(crate::proofs::Halts::halts, crate::proofs::Halts::stopped))]
     fn step<D: SectorDisk>(
         &mut self,

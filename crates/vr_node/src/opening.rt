@@ -10,7 +10,9 @@ use vr_msg::Outbox;
 use vr_replica::{FreshFault, Halt, Refusal, Replica};
 use vr_status::Status;
 
-/// A member that is made anew, on a file of this kind.
+/// Formats the disk for a file of this kind, and makes the replica of a new member, which runs. `Occupied`: two good copies of a superblock agree,
+/// and nothing was written; `NoMemory`: they don't, and nothing was written. `DiskFault`: the calls of the format were made up to the one that
+/// failed, and it alone adds one to the disk's faults.
 fn make_member<D: SectorDisk>(
     alloc: Global,
     disk: &mut D,
@@ -29,7 +31,9 @@ fn make_member<D: SectorDisk>(
     }
 }
 
-/// A member that is found again on its disk.
+/// Finds a member again on its disk: its superblock is mended, its Parts are found, and it goes on from there, with what that puts out in `first`.
+/// `SuperLost`: no value opens, and no call was made; `OtherMember`: that member's superblock was mended, and nothing else. `DiskFault` adds one to
+/// the disk's faults, and no other end does: the calls were made up to the one that failed. `NoMemory`: a front of them was.
 #[tactic(auto, using(crate::proofs::Opened::found_lost, crate::proofs::Opened::found_other, crate::proofs::Opened::found_halted, crate::proofs::Opened::found_wanting))]
 fn find_member<D: SectorDisk>(
     alloc: Global,
@@ -48,7 +52,10 @@ fn find_member<D: SectorDisk>(
     }
 }
 
-/// The member of this disk, made anew as a file of this kind or found again, with what its opening puts out; an `Err` is how the run ends.
+/// With a kind, formats the disk as such a file and makes a new member; `first` stays empty. Without one, finds the disk's member again; `first` has
+/// what its opening puts out. After `Ok` it runs. A new member is refused as `Occupied`, with nothing written; one found as `SuperLost`, with no call
+/// made, or `OtherMember`, with that one's superblock mended. `DiskFault`: the calls were made up to the one that failed, and it alone adds one to
+/// the disk's faults; `NoMemory`: a front of them was made.
 #[tactic(auto, using(crate::proofs::Opened::made_out))]
 pub fn open_member<D: SectorDisk>(
     alloc: Global,

@@ -15,7 +15,7 @@ use vr_msg::Outbox;
 use vr_serve::Stop;
 use vr_status::Status;
 
-/// The status of a loop that ended early.
+/// A loop that ended for its disk, link or sink ends as `DiskFault`, `LinkFault` or `WriteFault`, and for want of memory as `NoMemory`.
 fn status_of(stop: Stop) -> Status
     ensures { result ≡ status_of stop }
 {
@@ -27,7 +27,9 @@ fn status_of(stop: Stop) -> Status
     }
 }
 
-/// Serves all turns over a link that is attached.
+/// Puts out `first`, and then serves so many turns over a link that is attached: each event is one step of the rules. `Done`: all of them happened
+/// whole. `DiskFault`, `LinkFault` (the last receive failed), `WriteFault` and `NoMemory`: a front of the run happened, no datagram before the whole
+/// text of its event. The object that the status names counts one fault more, and no other does; nothing is attached.
 #[tactic(auto, using(crate::proofs::Ends::served, crate::proofs::Ends::cut_off))]
 fn serve_turns<D: SectorDisk, L: Link, C: Clock, K: Sink>(
     alloc: Global,
@@ -49,7 +51,9 @@ fn serve_turns<D: SectorDisk, L: Link, C: Clock, K: Sink>(
     }
 }
 
-/// Attaches the link, and serves.
+/// Attaches the link once, by the member's own address and with all addresses of its role as peers; then puts out `first` and serves the role's
+/// turns. Where the attach fails the end is `LinkFault`, and nothing else was done. Else it is `Done` with all turns whole, or an early end: a front
+/// of the run happened, no datagram before the whole text of its event. The object that the status names counts one fault more, and no other does.
 #[tactic(auto, using(crate::proofs::Ends::linked, crate::proofs::Ends::own_address, crate::proofs::Ends::unlinked))]
 fn serve_group<D: SectorDisk, L: Link, C: Clock, K: Sink>(
     alloc: Global,
@@ -72,7 +76,9 @@ fn serve_group<D: SectorDisk, L: Link, C: Clock, K: Sink>(
     }
 }
 
-/// Opens the member on a disk that is attached, and serves.
+/// On a disk that is attached: the member is made or found again as its role says, its link attached, what the opening gave put out, the turns
+/// served. Where there is no member the status says why, and link, clock and sink stay as they were. Where the attach fails the end is `LinkFault`,
+/// and nothing comes after it; in the turns a front of the run happened. The object that the status names counts one fault more, and no other does.
 #[tactic(auto, using(crate::proofs::Ends::opened, crate::proofs::Ends::unopened))]
 fn open_and_serve<D: SectorDisk, L: Link, C: Clock, K: Sink>(
     alloc: Global,
@@ -103,8 +109,10 @@ fn open_and_serve<D: SectorDisk, L: Link, C: Clock, K: Sink>(
     }
 }
 
-/// A member in its role: its disk is attached, the member is made or found again, its link is attached, and it serves its turns, each
-/// event one step of the rules. Its end has its cause: what stands on the disk, or a fault that the count of its object tells.
+/// In this order the disk is attached by its file's name, the member made or found again as its role says, its link attached, its turns served. Where
+/// one of these fails, the status says why, and the next ones aren't begun: their objects stay as they were. `DiskFault` may come of the attach, the
+/// opening or a step; `LinkFault` of the attach or the last receive. In the turns each event is one step of the rules; of the last one at most a
+/// front was put out, no datagram before its whole text.
 #[tactic(auto, using(crate::proofs::Ends::attached, crate::proofs::Ends::unattached))]
 pub fn run_node<D: SectorDisk, L: Link, C: Clock, K: Sink>(
     alloc: Global,
