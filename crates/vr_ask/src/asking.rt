@@ -11,7 +11,7 @@ use vr_edge::{Link, Sink, write_whole};
 use vr_header::Operation;
 use vr_status::Status;
 
-/// The status of an ask without an answer.
+/// No answer in all turns ends as `NoAnswer`, a receive that failed as `LinkFault`, want of memory as `NoMemory`.
 fn status_of(fault: AskFault) -> Status
     ensures { result ≡ status_of fault }
 {
@@ -22,7 +22,8 @@ fn status_of(fault: AskFault) -> Status
     }
 }
 
-/// Writes the line of an answer.
+/// Writes the line of an answer whole, with its LF. After `WriteFault` the sink took a front of it, and counts one fault more; after `NoMemory` it
+/// took a front, too, and counts none. No other `Err` comes.
 #[tactic(auto, using(crate::proofs::Answers::front_none))]
 fn write_answer<K: Sink>(alloc: Global, sink: &mut K, answer: &Answer) -> Result<(), Status>
     ensures { WritesLine K.Sink answer.now sink.old sink.new result }
@@ -36,7 +37,7 @@ fn write_answer<K: Sink>(alloc: Global, sink: &mut K, answer: &Answer) -> Result
     }
 }
 
-/// After these the group knows the session no more.
+/// `Ok` exactly for an outcome. `SessionLost` for `Old`, `Gap` and `Evicted`: after these the group knows the session no more.
 fn keep_session(answer: &Answer) -> Result<(), Status>
     ensures { KeepsSession answer.now result }
 {
@@ -46,7 +47,9 @@ fn keep_session(answer: &Answer) -> Result<(), Status>
     }
 }
 
-/// Writes an answer; an `Err` is how the client ends.
+/// Writes the line of an answer whole, with its LF: `Ok` where it is an outcome, and `SessionLost` where it is `Old`, `Gap` or `Evicted`. After
+/// `WriteFault` or `NoMemory`, whatever the answer, the sink took a front of the line. The sink counts one fault more after `WriteFault`, and else
+/// none; no other `Err` comes.
 #[tactic(auto, using(crate::proofs::Answers::put_kept, crate::proofs::Answers::put_unwritten, crate::proofs::Answers::kept_counts))]
 fn put_answer<K: Sink>(alloc: Global, sink: &mut K, answer: &Answer) -> Result<(), Status>
     ensures { PutsLine K.Sink answer.now sink.old sink.new result }
@@ -57,7 +60,10 @@ fn put_answer<K: Sink>(alloc: Global, sink: &mut K, answer: &Answer) -> Result<(
     }
 }
 
-/// Asks, and writes the answer; an `Err` is how the client ends.
+/// Asks with the client's next number, and then writes the line of the answer: `Ok` where it is an outcome. After `SessionLost` the line of another
+/// answer was written whole; after `WriteFault` a front of a line, and after `NoMemory` at most one. After `NoAnswer` and `LinkFault`, a receive that
+/// failed, nothing was written. In each case the number is used up, and the client is else as it was, but for the port that it asks. Link and sink
+/// count one fault more where the status names them, and else none; nothing is attached.
 #[tactic(auto, using(crate::proofs::Answers::exchanged, crate::proofs::Answers::unanswered, crate::proofs::Answers::unanswered_counts, crate::proofs::Answers::put_links, crate::proofs::Answers::unanswered_links))]
 pub fn exchange<K: Sink, L: Link>(
     alloc: Global,

@@ -20,7 +20,7 @@ const LIMIT: u32 = 1_000_000;
 /// The most bytes of a line in front of a value: `put KEY ` with a key of 64 bytes.
 const PUT_KEY: usize = 69;
 
-/// The most bytes of a line of this version.
+/// The most bytes of a line of this version, without its end: 69, and those of the longest value. It is at most that of version 2.
 fn line_limit(version: Version) -> usize
     ensures value { result ≡ longest version }
     ensures most { result ≤ longest 2 }
@@ -28,7 +28,8 @@ fn line_limit(version: Version) -> usize
     PUT_KEY + version.value_limit()
 }
 
-/// The operation of this version that the line with this number is.
+/// The operation that a line is in this version, where its number is at most `LIMIT`. `Refused` with that number where the line is none of `put`,
+/// `get` and `del`, or its number is above `LIMIT`. `NoMemory` may come of any line, and no other `Err` comes.
 fn judge(alloc: Global, number: u32, line: &[u8], version: Version) -> Result<Operation, Status>
     ensures { Judges version number line.now result }
 {
@@ -39,7 +40,9 @@ fn judge(alloc: Global, number: u32, line: &[u8], version: Version) -> Result<Op
     }
 }
 
-/// Reads the line with this number: its operation of this version, or how the client ends.
+/// Reads the next line of the source, and gives the operation that it is in this version, where the number is at most `LIMIT`. `Refused` with that
+/// number: it is no such operation, too long for this version, or one line too many. `Done`: the source is at its end, with no byte left. After
+/// `NoMemory` the line was read. `ReadFault`: a read failed, and `lines` keeps what had come; by it alone the source counts one fault more.
 #[tactic(auto, using(crate::proofs::Exchanges::heard, crate::proofs::Exchanges::judged_counts))]
 fn next_operation<S: Source>(
     alloc: Global,
@@ -58,7 +61,10 @@ fn next_operation<S: Source>(
     }
 }
 
-/// Reads the line with this number, asks it and writes the answer; an `Err` is how the client ends.
+/// Reads the line with this number, asks its operation with that number, and writes the answer's line: `Ok` where it is an outcome. After an `Err` of
+/// the reading, `Done`, `Refused`, `ReadFault` or `NoMemory`, nothing was asked or written. Any other `Err` is an end of the ask, behind a line that
+/// was read. Source, link and sink count one fault more where the `Err` names them, and else none; nothing is attached. After `Ok` the client is as
+/// it was, but for its port and its next number.
 #[tactic(auto, using(crate::proofs::Exchanges::taken, crate::proofs::Exchanges::exchange_counts, crate::proofs::Exchanges::heard_writes, crate::proofs::Exchanges::heard_links))]
 fn take_line<S: Source, K: Sink, L: Link>(
     alloc: Global,
@@ -80,7 +86,10 @@ fn take_line<S: Source, K: Sink, L: Link>(
     }
 }
 
-/// The lines of a source, to an end.
+/// Asks the lines of the source in order, from number 1 on; each one's outcome is written before the next line is read. `Done`: the source is at its
+/// end. `Refused`: the line with that number isn't asked, being no operation of this version, too long, or above `LIMIT`. Else an ask or a read ends
+/// it: all lines before have their outcomes written, and nothing is read or asked after it. Source, link and sink count one fault more where the
+/// status names them, and else none; nothing is attached.
 #[tactic(auto, using(std::proofs::lemmas::Grind::common_steps, crate::proofs::Exchanges::midst_begins, crate::proofs::Exchanges::midst_more, crate::proofs::Exchanges::ends_at, crate::proofs::Exchanges::stops_later, crate::proofs::Exchanges::one_too_many, crate::proofs::Exchanges::heard_writes, crate::proofs::Exchanges::heard_links))]
 pub fn ask_lines<S: Source, K: Sink, L: Link>(
     alloc: Global,

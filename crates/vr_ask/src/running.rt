@@ -15,7 +15,9 @@ use vr_header::Operation;
 use vr_lines::Lines;
 use vr_status::Status;
 
-/// Registers, and then asks the lines of the source.
+/// Registers with number 0 and writes the answer; behind an outcome it asks the lines of the source in order, from number 1 on, and writes each
+/// outcome. Any other end of the register ends all, with nothing read. Source, link and sink count one fault more where the status names them, and
+/// else none; nothing is attached.
 #[tactic(auto, using(crate::proofs::Runs::unregistered, crate::proofs::Runs::registered))]
 fn ask_all<S: Source, K: Sink, L: Link>(
     alloc: Global,
@@ -35,7 +37,9 @@ fn ask_all<S: Source, K: Sink, L: Link>(
     }
 }
 
-/// Makes the client, and asks all.
+/// Makes the client, over a link that is attached; it registers, then asks the lines of the source in order, and writes each answer. Where memory is
+/// short for the client itself, the end is `NoMemory`, and nothing was read, asked or written. Source, link and sink count one fault more where the
+/// status names them, and else none; nothing is attached.
 #[tactic(auto, using(crate::proofs::Runs::ran, crate::proofs::Runs::unmade))]
 fn ask_made<S: Source, K: Sink, L: Link>(
     alloc: Global,
@@ -60,8 +64,10 @@ fn ask_made<S: Source, K: Sink, L: Link>(
     ask_all(alloc, &mut core, &mut lines, source, link, sink, turns)
 }
 
-/// The client `id` of a group whose members have these addresses and files of this version: it registers, asks each line of its source, and writes each answer. Its end has its
-/// cause: a line that is none of a client's of this version, no answer in its turns, a session that the group knows no more, or a fault that the count of its object tells.
+/// The link is attached once, with these addresses as peers and no own one; then the client `id` registers, and asks each line of its source in
+/// order. Each answer's line is written before the next line is read. `LinkFault`: the attach failed, and nothing came after it, or the last receive
+/// did. It ends as `Done` at the source's end, as `Refused` at a line that is none of this version, and else by an ask, a read or a write. Source,
+/// link and sink count one fault more where the status names them, and else none.
 #[tactic(auto, using(crate::proofs::Runs::linked, crate::proofs::Runs::unlinked))]
 pub fn run_client<S: Source, K: Sink, L: Link>(
     alloc: Global,

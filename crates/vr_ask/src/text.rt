@@ -9,7 +9,8 @@ use vr_header::Operation;
 use vr_lines::parse_operation;
 use vr_text::put_outcome;
 
-/// The operation of this version that a line is, without its end: `put KEY VALUE`, `get KEY` or `del KEY`.
+/// The operation that the words of a line are in this version: `put KEY VALUE`, `get KEY` or `del KEY`. `None` for every other line, `register` among
+/// them: a client registers by itself.
 #[tactic(auto, unfolding(crate::specs::Text::operation_of))]
 pub fn read_line(
     alloc: Global,
@@ -24,7 +25,8 @@ pub fn read_line(
     }
 }
 
-/// Adds an answer at the end of a text.
+/// Adds an answer behind the text, without an end of line: the words of its outcome, or `old`, `gap` or `evicted`. After an `Err`, want of memory,
+/// nothing is said of the text.
 fn put_answer(to: &mut ByteList, answer: &Answer) -> Result<(), AllocError>
     ensures { OnOk result (to.new ≡ to.old ++ answer_words answer.now) }
 {
@@ -36,7 +38,7 @@ fn put_answer(to: &mut ByteList, answer: &Answer) -> Result<(), AllocError>
     }
 }
 
-/// The line of an answer.
+/// The line of an answer: the words of its outcome, or `old`, `gap` or `evicted`, and an LF.
 #[tactic(auto, unfolding(crate::specs::Text::answer_text))]
 pub fn answer_text(alloc: Global, answer: &Answer) -> Result<ByteList, AllocError>
     ensures { IfOk result (λ text. text ≡ answer_text answer.now) }
