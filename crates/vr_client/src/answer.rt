@@ -63,7 +63,8 @@ pub enum Heed {
     Answered(Answer),
 }
 
-/// What it makes of a reply to its request, in a group of `n`.
+/// What it makes of a reply to its request, in a group of `n`: an outcome, `Old`, `Gap` and `Evicted` are its answer, and `Busy`
+/// is ignored. A redirect moves it to the primary of this view, `view` modulo `n`.
 fn heed_kind(n: u8, view: u32, kind: ReplyKind) -> Heed
     requires { 0 < n }
     ensures { result ≡ heed_kind n view kind }
@@ -78,7 +79,8 @@ fn heed_kind(n: u8, view: u32, kind: ReplyKind) -> Heed
     }
 }
 
-/// What it makes of a reply, which may be to another request.
+/// A reply to a request of another name is ignored. One to this request is the answer, or ignored where it says busy; a redirect
+/// moves the client to the primary of its view, the view modulo `n`.
 fn heed_reply(n: u8, name: &Sum, reply: Reply) -> Heed
     requires { 0 < n }
     ensures { result ≡ heed_reply n name.now reply }
@@ -91,7 +93,8 @@ fn heed_reply(n: u8, name: &Sum, reply: Reply) -> Heed
     }
 }
 
-/// What it makes of what a receive brought.
+/// Heeds a reply to the request of this name alone: it is the answer, or ignored where it says busy, and a redirect moves to the
+/// view modulo `n`. Nothing, any other message and any other reply are ignored. A port that it moves to is below `n`.
 pub fn heed_letter(n: u8, name: &Sum, letter: Option<Letter>) -> Heed
     requires { 0 < n }
     ensures value { result ≡ heed n name.now letter }

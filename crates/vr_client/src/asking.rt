@@ -21,7 +21,7 @@ use vr_msg::{Message, Request, RequestFields};
 /// The turns without an answer after which a client goes on to the next member.
 pub const PATIENCE: u64 = 50;
 
-/// Puts the bytes of a request in the place of what is there.
+/// Puts the bytes of a request in the place of what is there. After an `Err`, want of memory, nothing is said of them.
 fn spell(fields: RequestFields, bytes: &mut Vec<u8>) -> Result<(), AllocError>
     requires { IsRequest fields }
     ensures { OnOk result (bytes.new.items ≡ spelling (frame.Request fields)) }
@@ -31,7 +31,9 @@ fn spell(fields: RequestFields, bytes: &mut Vec<u8>) -> Result<(), AllocError>
 }
 
 impl ClientCore {
-    /// Makes the next request, and returns its name.
+    /// Makes the request for this operation with the client's next number: its bytes are kept, and its name is returned. The
+    /// number is used up, after an `Err` too. Version, group, id and port stay in each case; after an `Err`, want of memory,
+    /// nothing is said of the bytes.
     fn write_request(&mut self, operation: &Operation) -> Result<Sum, AllocError>
         requires { MayAsk self.old operation.now }
         ensures { Writes operation.now self.old self.new result }
@@ -49,7 +51,9 @@ impl ClientCore {
         Ok(sum_at(self.bytes.as_slice(), 0))
     }
 
-    /// Sends the request to a port, which is the one that it asks from then on.
+    /// Gives the link the bytes of the last request, as one datagram to this port, which is the client's from then on. Where the
+    /// link fails to send it, it is lost, and nothing else. All else of the client stays, but for its room for what comes; and so
+    /// do the link's receives, faults and attaches.
     #[tactic(auto, using(std::proofs::lemmas::Grind::common_steps, crate::proofs::Keeping::keeps_same, crate::proofs::Keeping::keeps_later, crate::proofs::Keeping::no_requests, vr_mail::proofs::Sent::sends_nil))]
     fn ask_at<L: Link>(&mut self, link: &mut L, port: u32)
         requires { port < self.old.n }
@@ -59,7 +63,9 @@ impl ClientCore {
         send_bytes(link, port, self.bytes.as_slice());
     }
 
-    /// One receive, and what it makes of that.
+    /// One receive, and what it makes of it: all but a reply to the request of this name is ignored. `Link`: the receive failed,
+    /// and by that alone the link counts one fault more. `NoMemory`: there was none for a message of this version and group that
+    /// came. Nothing is sent or attached, and the client keeps its port, its number and its request.
     #[tactic(auto, using(std::proofs::lemmas::Grind::common_steps, crate::proofs::Keeping::keeps_same, crate::proofs::Keeping::keeps_later, crate::proofs::Keeping::cause_heard, crate::proofs::Keeping::no_requests, vr_mail::proofs::Sent::sends_nil))]
     fn hear<L: Link>(&mut self, link: &mut L, name: &Sum) -> Result<Heed, AskFault>
         ensures { HearsOnce L.Link name.now self.old self.new link.old link.new result }
@@ -68,7 +74,9 @@ impl ClientCore {
         Ok(heed_letter(self.n, name, letter))
     }
 
-    /// Goes where it was told to; what it heard may be the answer.
+    /// `Answered` gives the answer, and all else `None`. Where it heard `Moved`, it sends the request to that port, and is there
+    /// from then on. Else nothing is sent, and the port stays. Nothing is received or attached, and no fault of the link is
+    /// counted.
     #[tactic(auto, using(std::proofs::lemmas::Grind::common_steps, crate::proofs::Keeping::keeps_same, crate::proofs::Keeping::keeps_later, crate::proofs::Keeping::no_requests, vr_mail::proofs::Sent::sends_nil))]
     fn follow<L: Link>(&mut self, link: &mut L, heard: Heed) -> Option<Answer>
         requires { MovesWithin self.old.n heard }
@@ -85,7 +93,9 @@ impl ClientCore {
         }
     }
 
-    /// After each `PATIENCE` turns, if turns are left, it asks the next member.
+    /// Where `done + 1` is a multiple of `PATIENCE` and below `turns`, it sends the request to the next port, modulo `n`, and is
+    /// there from then on. Else nothing is sent, and the port stays. Nothing is received or attached, and no fault of the link is
+    /// counted.
     #[tactic(auto, using(std::proofs::lemmas::Grind::common_steps, crate::proofs::Keeping::keeps_same, crate::proofs::Keeping::keeps_later, crate::proofs::Keeping::no_requests, vr_mail::proofs::Sent::sends_nil))]
     fn go_on<L: Link>(&mut self, link: &mut L, turns: u64, done: u64)
         requires { done < turns }
@@ -96,7 +106,10 @@ impl ClientCore {
         }
     }
 
-    /// One turn, behind so many others.
+    /// One receive, behind `done` turns. Where it brings the answer to the request of this name, that is returned, nothing is
+    /// sent, and the port stays. Else it goes first where a redirect says, and then, where `done + 1` is a multiple of `PATIENCE`
+    /// and below `turns`, to the next port: the request is sent to each. After an `Err` the receive failed (`Link`, by which
+    /// alone the link counts one fault more) or memory was short for its message; nothing was sent.
     #[tactic(auto, using(std::proofs::lemmas::Grind::common_steps, crate::proofs::Keeping::keeps_same, crate::proofs::Keeping::keeps_later, crate::proofs::Keeping::cause_later, crate::proofs::Turns::turned_none, crate::proofs::Turns::turned_answer))]
     fn turn<L: Link>(
         &mut self,
@@ -116,7 +129,10 @@ impl ClientCore {
         Ok(None)
     }
 
-    /// Asks, and waits so many turns.
+    /// Sends the request to the client's port, and then takes turns, of one receive each, until one brings its answer. A turn
+    /// without it sends the request on, where a redirect or `PATIENCE` says so. `NoAnswer`: all `turns` passed without it; `Link`
+    /// and `NoMemory` end it at the last receive. By `Link` alone the link counts one fault more; the client keeps all but its
+    /// port, and nothing is attached.
     #[tactic(auto, using(std::proofs::lemmas::Grind::common_steps, crate::proofs::Keeping::keeps_later, crate::proofs::Keeping::cause_later, crate::proofs::Waits::waited_all))]
     fn wait<L: Link>(&mut self, link: &mut L, name: &Sum, turns: u64) -> Result<Answer, AskFault>
         ensures { Waits L.Link name.now turns self.old self.new link.old link.new result }
@@ -130,8 +146,11 @@ impl ClientCore {
         Err(AskFault::NoAnswer)
     }
 
-    /// Asks for an operation of its version: `Register` first, with number 0, and then any other, each with the next number. It waits
-    /// for so many receives, and hears the answer to this request alone. Whatever it answers, the number is used up.
+    /// Asks for an operation of its version with the client's next number: `Register` with number 0, any other with a later one.
+    /// It sends the request and waits for at most so many receives; only a reply to this request is its answer. `NoAnswer`: all
+    /// passed without it; `Link`: the last receive failed, and by that alone the link counts one fault more. `NoMemory`: at the
+    /// last receive, or for the request itself, and then nothing was sent or received. In each case the number is used up, and
+    /// all but the port is as it was.
     pub fn ask<L: Link>(
         &mut self,
         link: &mut L,

@@ -31,8 +31,8 @@ pub struct ClientCore {
 impl ClientCore {
     ghost use Rattle.vr_client.specs.Acts.{IsNew};
 
-    /// The client `id` of a group of `n` whose files are of this version: it asks in frames of that version, the member with port 0
-    /// first, and its next request is its first.
+    /// The client `id` of a group of `n`, before its first ask: it asks in frames of this version, first the member with port 0,
+    /// and its next request has number 0.
     #[tactic(auto, using(std::proofs::lemmas::Grind::common_steps, crate::proofs::Sizes::asks_one))]
     pub fn new(
         alloc: Global,

@@ -1,8 +1,8 @@
 //! The law of asks.
 ghost use Rattle.vr_client.specs.Laws.{RefusedChangeNothing};
 
-/// A datagram that is refused is to an ask as if nothing had come: of each ask, with its requests, its answer and the
-/// port that it leaves. It does nothing.
+/// A law alone, it does nothing: before an ask's last receive each datagram that is no message of its version and group may be
+/// replaced by a receive that gave nothing. The requests, the answer and the port stay the same.
 pub fn ask_laws()
     ensures { RefusedChangeNothing }
 {}
