@@ -24,7 +24,8 @@ pub struct Course {
 }
 
 impl Course {
-    /// Nothing was asked, and no member runs.
+    /// A course before its first step: its client is client 1 of the plan's group, which has as many members as the plan has addresses.
+    /// It asks in frames of version 1, port 0 first, and its next request has number 0. No member runs.
     #[tactic(auto, using(std::proofs::lemmas::Grind::common_steps, vr_base::proofs::Members::is_sized))]
     pub fn new(alloc: Global, plan: &Plan) -> Result<Course, NoMemory>
         requires least { 2 ≤ vec_len plan.now.peers }
@@ -41,14 +42,15 @@ impl Course {
         })
     }
 
-    /// The number of a member that runs.
+    /// The number that the spawner gave this member, while it runs; `None` where it doesn't, or where there is no such member.
     pub fn running_at(&self, member: u8) -> Option<u32>
         ensures { result ≡ running_at self.now.running member }
     {
         self.running.get(usize::from(member))?
     }
 
-    /// From now on a member runs, or not.
+    /// From now on this member runs by that number, or with `None` not at all. All else stays, and all of it where there is no such
+    /// member.
     #[tactic(auto, using(std::proofs::lemmas::Grind::common_steps, crate::proofs::Courses::set_past))]
     pub fn set_running(&mut self, member: u8, id: Option<u32>)
         ensures { self.new ≡ record self.old { running = slice_set self.old.running member id } }

@@ -12,7 +12,7 @@ use vr_edge::{Sink, write_whole};
 use vr_header::{Key, Operation, Value};
 use vr_status::Status;
 
-/// The line that says what became of a member.
+/// The line that says what became of a member: this word, a space, its number in decimal digits, and an LF.
 #[tactic(auto, using(std::proofs::lemmas::Grind::common_steps), unfolding(crate::specs::Told::member_line))]
 fn member_line(alloc: Global, what: &str, member: u8) -> Result<String, AllocError>
     ensures { IfOk result (λ line. string_bytes line ≡ member_line what.now member) }
@@ -20,7 +20,8 @@ fn member_line(alloc: Global, what: &str, member: u8) -> Result<String, AllocErr
     Ok(format!(in alloc; "{what} {member}\n")?)
 }
 
-/// Writes what became of a member.
+/// Writes the line of this word and this member whole, as `started 0`, with its LF. After `WriteFault` the sink took a front of it, and
+/// counts one fault more. After `NoMemory` it took a front, too, and counts none; no other `Err` comes.
 #[tactic(auto, using(std::proofs::lemmas::Grind::common_steps, crate::proofs::Writing::cut_none, crate::proofs::Writing::cut_write))]
 pub fn write_line<K: Sink>(
     alloc: Global,
@@ -39,7 +40,7 @@ pub fn write_line<K: Sink>(
     }
 }
 
-/// The key with a number.
+/// `k` and the number in decimal digits, which is a key of each version.
 #[tactic(auto, using(std::proofs::lemmas::Grind::common_steps, crate::proofs::Texts::key_text))]
 fn key(alloc: Global, number: u8) -> Result<Key, AllocError>
     ensures value { IfOk result (λ k. k ≡ key number) }
@@ -49,7 +50,7 @@ fn key(alloc: Global, number: u8) -> Result<Key, AllocError>
     Key::from_bytes(alloc, text.as_bytes())
 }
 
-/// The value with a number.
+/// `v` and the number in decimal digits, which is a value of each version.
 #[tactic(auto, using(std::proofs::lemmas::Grind::common_steps, crate::proofs::Texts::value_text, crate::proofs::Texts::value_fits))]
 fn value(alloc: Global, number: u8) -> Result<Value, AllocError>
     ensures value { IfOk result (λ v. v ≡ value number) }
@@ -59,7 +60,8 @@ fn value(alloc: Global, number: u8) -> Result<Value, AllocError>
     Value::from_bytes(alloc, text.as_bytes())
 }
 
-/// The operation of a question, one of any version.
+/// The operation of a question, which is one of each version: `Register`; for `Put(N)` a put of value `vN` at key `kN`; for `Get(N)` a
+/// get of key `kN`.
 pub fn operation_of(alloc: Global, question: Question) -> Result<Operation, AllocError>
     ensures value { IfOk result (λ operation. operation ≡ operation_of question) }
     ensures fits { (version : ℕ) → IfOk result (λ operation. IsOperation version operation) }

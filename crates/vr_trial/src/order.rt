@@ -48,7 +48,9 @@ const STOPS: [Step; 6] = [
     Step::Stop(5),
 ];
 
-/// The steps of a trial of a group of `n`.
+/// The steps of a trial of `n` members, in order. Each is started; the client attaches its link, registers, and puts keys 1 to 8. Member
+/// 0 is stopped and started again with its file; the client gets keys 1 to 8; each member is stopped. Starts and stops go from member 0
+/// upwards.
 pub fn script(alloc: Global, n: usize) -> Result<Seq<Step>, AllocError>
     requires { n ≤ 6 }
     ensures { IfOk result (λ steps. steps ≡ script n) }

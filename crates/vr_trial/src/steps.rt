@@ -15,7 +15,9 @@ use vr_spawn::Spawner;
 use vr_status::Status;
 
 impl Course {
-    /// Has a member started.
+    /// Has the spawner start a member by its words, those of a new file where `is_fresh`; after `Ok` it runs by the number that it was
+    /// given. `NoMemory`: the spawner wasn't called. `SpawnFault`: the start failed, and by it alone the spawner counts one fault more.
+    /// After an `Err` the same members run as before; the client stays in each case.
     #[tactic(auto, using(std::proofs::lemmas::Grind::common_steps, crate::proofs::Stepping::started_with, crate::proofs::Stepping::unstarted, crate::proofs::Stepping::uncalled))]
     fn start<P: Spawner>(
         &mut self,
@@ -36,7 +38,10 @@ impl Course {
         Ok(())
     }
 
-    /// Starts a member, and says so.
+    /// Has the spawner start a member, with a new file where `is_fresh`, and then writes the line `started R`. Where it isn't started,
+    /// for `SpawnFault` or `NoMemory`, the same members run as before, and nothing is written. Where the line isn't written, for
+    /// `WriteFault` or `NoMemory`, the member runs, and the sink took a front of it. Spawner and sink count one fault more where the
+    /// `Err` names them, and else none; the client stays.
     #[tactic(auto, using(std::proofs::lemmas::Grind::common_steps, crate::proofs::Stepping::told, crate::proofs::Stepping::told_in_part, crate::proofs::Stepping::untold, crate::proofs::Telling::line_spawns, crate::proofs::Telling::call_writes))]
     fn begin<K: Sink, P: Spawner>(
         &mut self,
@@ -54,7 +59,9 @@ impl Course {
         }
     }
 
-    /// Has a member stopped that runs.
+    /// Has the spawner stop a member, where it runs; where it doesn't, the spawner isn't called. After `Ok` it doesn't run. After an
+    /// `Err` the same members count as running as before: `SpawnFault` is a stop that failed, by which alone the spawner counts one fault
+    /// more. The client stays in each case.
     #[tactic(auto, using(std::proofs::lemmas::Grind::common_steps, crate::proofs::Stepping::stopped_one, crate::proofs::Stepping::stopped_none, crate::proofs::Stepping::unstopped, vr_mail::proofs::Growing::grows_nil))]
     fn stop<P: Spawner>(&mut self, member: u8, spawner: &mut P) -> Result<(), Status>
         ensures { StopsOne P.Spawner member self.old self.new spawner.old spawner.new result }
@@ -68,7 +75,10 @@ impl Course {
         Ok(())
     }
 
-    /// Stops a member, and says so.
+    /// Has the spawner stop a member, where it runs, and then writes the line `stopped R`. Where the stop fails, the same members count
+    /// as running as before, and nothing is written. Where the line isn't written, for `WriteFault` or `NoMemory`, the member doesn't
+    /// run, and the sink took a front of it. Spawner and sink count one fault more where the `Err` names them, and else none; the client
+    /// stays.
     #[tactic(auto, using(std::proofs::lemmas::Grind::common_steps, crate::proofs::Stepping::told, crate::proofs::Stepping::told_in_part, crate::proofs::Stepping::untold, crate::proofs::Telling::line_spawns, crate::proofs::Telling::call_writes))]
     fn end<K: Sink, P: Spawner>(
         &mut self,
@@ -84,7 +94,9 @@ impl Course {
         }
     }
 
-    /// The client takes its link.
+    /// Attaches the client's link once, without an own address and with those of all members as peers. `LinkFault`: the attach failed,
+    /// and by it alone the link counts one fault more; no other `Err` comes. The course stays in each case, and so do the link's sends
+    /// and receives.
     #[tactic(auto, using(std::proofs::lemmas::Grind::common_steps, crate::proofs::Writing::rose_one))]
     fn attach<L: Link>(&mut self, plan: &Plan, link: &mut L) -> Result<(), Status>
         ensures { Attaches L.Link (trial_of plan.now) self.old self.new link.old link.new result }
@@ -95,7 +107,10 @@ impl Course {
         }
     }
 
-    /// The client asks, and writes the answer.
+    /// The client asks the question with its next number, and then writes the line of the answer: `Ok` where that is an outcome, and the
+    /// number goes up by one. `SessionLost`: the line of another answer was written; `WriteFault` and `NoMemory`: a front of a line at
+    /// most; `NoAnswer` and `LinkFault`: nothing. The same members run, and the client stays but for port and number. Link and sink count
+    /// one fault more where the `Err` names them, and else none; nothing is attached.
     #[tactic(auto, using(std::proofs::lemmas::Grind::common_steps, crate::proofs::Stepping::untried))]
     fn ask<K: Sink, L: Link>(
         &mut self,
@@ -113,7 +128,10 @@ impl Course {
         }
     }
 
-    /// Takes a step; an `Err` is how the trial ends.
+    /// Takes the step that the course has come to: a start, a restart or a stop with its line, the attach of the client's link, or an ask
+    /// with its answer's line. After `Ok` it was done whole, and after an ask the number of the next request is one more. After an `Err`
+    /// it ends the trial there, with what it did before that. An ask and the attach leave the members; starts and stops leave link and
+    /// client. Link, sink and spawner count one fault more where the `Err` names them, and else none.
     #[tactic(auto, using(std::proofs::lemmas::Grind::common_steps, crate::proofs::Taking::has_started, crate::proofs::Taking::cant_start, crate::proofs::Taking::has_stopped, crate::proofs::Taking::cant_stop, crate::proofs::Taking::attached, crate::proofs::Taking::unattached, crate::proofs::Taking::has_asked, crate::proofs::Taking::cant_ask, crate::proofs::Telling::attach_writes, crate::proofs::Telling::attach_spawns, crate::proofs::Telling::ask_spawns, crate::proofs::Causes::start_links, crate::proofs::Causes::stop_links))]
     pub fn take<K: Sink, L: Link, P: Spawner>(
         &mut self,

@@ -13,7 +13,9 @@ use vr_edge::{Link, Sink};
 use vr_spawn::Spawner;
 use vr_status::Status;
 
-/// Takes steps one after another; an `Err` is how one of them ends the trial.
+/// Takes these steps in order; after `Ok` each went well. An `Err` is that of the first one that didn't: those before it were done whole,
+/// and none after it is begun. No member is stopped for it. Link, sink and spawner count one fault more where the `Err` names them, and
+/// else none.
 #[tactic(auto, using(std::proofs::lemmas::Grind::common_steps, crate::proofs::Runs::next_here))]
 fn take_all<K: Sink, L: Link, P: Spawner>(
     course: &mut Course,
@@ -32,7 +34,9 @@ fn take_all<K: Sink, L: Link, P: Spawner>(
     Ok(())
 }
 
-/// Takes the steps of a trial; where one ends it, the members that run are stopped.
+/// Takes these steps in order: `Done` where each went well, with nothing done after them. Else the status is that of the first one that
+/// didn't, and each member that runs then is stopped once, in the order of their numbers. A stop that fails only adds one to the
+/// spawner's faults. Link and sink count one fault more where the status names them, and else none.
 #[tactic(auto, using(std::proofs::lemmas::Grind::common_steps, crate::proofs::Runs::went_through))]
 fn take_or_end<K: Sink, L: Link, P: Spawner>(
     course: &mut Course,
@@ -54,8 +58,10 @@ fn take_or_end<K: Sink, L: Link, P: Spawner>(
     }
 }
 
-/// A trial of a group whose members have these addresses: they are started, a client asks, member 0 is stopped and started again with the
-/// disk that it has, the client asks on, and all are stopped. Where a step ends the trial, the members that run are stopped.
+/// A trial of a group with these addresses: its members are started, and a client puts 8 keys; member 0 is stopped, and started with its
+/// file. Then the client gets the keys, and all members are stopped: `Done` where each step went well. Else the status is that of the
+/// step that didn't; none comes after it, and the members that run are stopped, whatever comes of that. `NoMemory` before the first step:
+/// no object was called. Link and sink count one fault more where the status names them, and else none.
 #[tactic(auto, using(std::proofs::lemmas::Grind::common_steps, crate::proofs::Runs::ends_short, crate::proofs::Numbering::script_next))]
 pub fn run_trial<K: Sink, L: Link, P: Spawner>(
     alloc: Global,

@@ -6,7 +6,7 @@ ghost use Rattle.vr_trial.specs.Told.{fresh_words, member_words, start_words, tr
 use crate::plan::Plan;
 use std::alloc::{AllocError, Global};
 
-/// A word at the end.
+/// Adds this word at the end. After an `Err`, want of memory, nothing is said of the words.
 fn put_word(alloc: Global, words: &mut Vec<String>, word: &str) -> Result<(), AllocError>
     ensures { OnOk result (texts_of words.new.items ≡ texts_of words.old.items ++ word.now ∷ []) }
 {
@@ -14,7 +14,7 @@ fn put_word(alloc: Global, words: &mut Vec<String>, word: &str) -> Result<(), Al
     Ok(())
 }
 
-/// Words at the end.
+/// Adds these words at the end, in order. After an `Err`, want of memory, nothing is said of the words.
 #[tactic(auto, using(std::proofs::lemmas::Grind::common_steps, crate::proofs::Wording::put_more))]
 fn put_words(alloc: Global, words: &mut Vec<String>, more: &Vec<String>) -> Result<(), AllocError>
     ensures { OnOk result (texts_of words.new.items ≡ texts_of words.old.items ++ texts_of more.now.items) }
@@ -25,7 +25,8 @@ fn put_words(alloc: Global, words: &mut Vec<String>, more: &Vec<String>) -> Resu
     Ok(())
 }
 
-/// The words up to the addresses.
+/// `node CLUSTER REPLICA FILE TURNS`: the plan's group, the member's number, the plan's `files` with that number at its end, and
+/// `1000000`.
 #[tactic(auto, unfolding(crate::specs::Told::member_words))]
 fn member_words(alloc: Global, plan: &Plan, member: u8) -> Result<Vec<String>, AllocError>
     ensures { IfOk result (λ words. texts_of words.items ≡ member_words (trial_of plan.now) member) }
@@ -39,7 +40,8 @@ fn member_words(alloc: Global, plan: &Plan, member: u8) -> Result<Vec<String>, A
     Ok(vec![in alloc; node, cluster, replica, file, turns]?)
 }
 
-/// The words with which a member is started.
+/// The words with which a member is started: `node CLUSTER REPLICA FILE 1000000`, the addresses of all members, and `--fresh` behind them
+/// where it is made anew. FILE is the plan's `files` with the member's number at its end.
 pub fn start_words(
     alloc: Global,
     plan: &Plan,
