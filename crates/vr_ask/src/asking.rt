@@ -62,8 +62,8 @@ fn put_answer<K: Sink>(alloc: Global, sink: &mut K, answer: &Answer) -> Result<(
 
 /// Asks with the client's next number, and then writes the line of the answer: `Ok` where it is an outcome. After `SessionLost` the line of another
 /// answer was written whole; after `WriteFault` a front of a line, and after `NoMemory` at most one. After `NoAnswer` and `LinkFault`, a receive that
-/// failed, nothing was written. In each case the number is used up, and the client is else as it was, but for the port that it asks. Link and sink
-/// count one fault more where the status names them, and else none; nothing is attached.
+/// failed, nothing was written. In each case the number is used up, and the client keeps its version, group and id. Link and sink count one fault
+/// more where the status names them, and else none; nothing is attached.
 #[tactic(auto, using(crate::proofs::Answers::exchanged, crate::proofs::Answers::unanswered, crate::proofs::Answers::unanswered_counts, crate::proofs::Answers::put_links, crate::proofs::Answers::unanswered_links))]
 pub fn exchange<K: Sink, L: Link>(
     alloc: Global,

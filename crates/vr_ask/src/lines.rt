@@ -63,8 +63,8 @@ fn next_operation<S: Source>(
 
 /// Reads the line with this number, asks its operation with that number, and writes the answer's line: `Ok` where it is an outcome. After an `Err` of
 /// the reading, `Done`, `Refused`, `ReadFault` or `NoMemory`, nothing was asked or written. Any other `Err` is an end of the ask, behind a line that
-/// was read. Source, link and sink count one fault more where the `Err` names them, and else none; nothing is attached. After `Ok` the client is as
-/// it was, but for its port and its next number.
+/// was read. Source, link and sink count one fault more where the `Err` names them, and else none; nothing is attached. After `Ok` the next number is
+/// one more, and the client keeps its version, group and id.
 #[tactic(auto, using(crate::proofs::Exchanges::taken, crate::proofs::Exchanges::exchange_counts, crate::proofs::Exchanges::heard_writes, crate::proofs::Exchanges::heard_links))]
 fn take_line<S: Source, K: Sink, L: Link>(
     alloc: Global,

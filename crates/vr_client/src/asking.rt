@@ -107,9 +107,9 @@ impl ClientCore {
     }
 
     /// One receive, behind `done` turns. Where it brings the answer to the request of this name, that is returned, nothing is
-    /// sent, and the port stays. Else it goes first where a redirect says, and then, where `done + 1` is a multiple of `PATIENCE`
-    /// and below `turns`, to the next port: the request is sent to each. After an `Err` the receive failed (`Link`, by which
-    /// alone the link counts one fault more) or memory was short for its message; nothing was sent.
+    /// sent, and the port stays. Else it sends the request where a redirect says, and then, where `done + 1` is a multiple of
+    /// `PATIENCE` and below `turns`, to the next port. After an `Err` the receive failed (`Link`, by which alone the link counts
+    /// one fault more) or memory was short for its message; nothing was sent.
     #[tactic(auto, using(std::proofs::lemmas::Grind::common_steps, crate::proofs::Keeping::keeps_same, crate::proofs::Keeping::keeps_later, crate::proofs::Keeping::cause_later, crate::proofs::Turns::turned_none, crate::proofs::Turns::turned_answer))]
     fn turn<L: Link>(
         &mut self,
@@ -150,7 +150,7 @@ impl ClientCore {
     /// It sends the request and waits for at most so many receives; only a reply to this request is its answer. `NoAnswer`: all
     /// passed without it; `Link`: the last receive failed, and by that alone the link counts one fault more. `NoMemory`: at the
     /// last receive, or for the request itself, and then nothing was sent or received. In each case the number is used up, and
-    /// all but the port is as it was.
+    /// version, group and id stay.
     pub fn ask<L: Link>(
         &mut self,
         link: &mut L,

@@ -31,7 +31,7 @@ pub struct ClientCore {
 impl ClientCore {
     ghost use Rattle.vr_client.specs.Acts.{IsNew};
 
-    /// The client `id` of a group of `n`, before its first ask: it asks in frames of this version, first the member with port 0,
+    /// The client `id` of a group of `n`, before its first ask. It asks in frames of this version, first the member with port 0,
     /// and its next request has number 0.
     #[tactic(auto, using(std::proofs::lemmas::Grind::common_steps, crate::proofs::Sizes::asks_one))]
     pub fn new(

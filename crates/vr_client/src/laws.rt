@@ -1,8 +1,8 @@
 //! The law of asks.
 ghost use Rattle.vr_client.specs.Laws.{RefusedChangeNothing};
 
-/// A law alone, it does nothing: before an ask's last receive each datagram that is no message of its version and group may be
-/// replaced by a receive that gave nothing. The requests, the answer and the port stay the same.
+/// A law alone, it does nothing. Before an ask's last receive each datagram that is no message of its version and group may be
+/// replaced by a receive that gave nothing: requests, answer and port stay.
 pub fn ask_laws()
     ensures { RefusedChangeNothing }
 {}

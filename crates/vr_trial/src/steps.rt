@@ -109,7 +109,7 @@ impl Course {
 
     /// The client asks the question with its next number, and then writes the line of the answer: `Ok` where that is an outcome, and the
     /// number goes up by one. `SessionLost`: the line of another answer was written; `WriteFault` and `NoMemory`: a front of a line at
-    /// most; `NoAnswer` and `LinkFault`: nothing. The same members run, and the client stays but for port and number. Link and sink count
+    /// most; `NoAnswer` and `LinkFault`: nothing. The same members run, and the client keeps version, group and id. Link and sink count
     /// one fault more where the `Err` names them, and else none; nothing is attached.
     #[tactic(auto, using(std::proofs::lemmas::Grind::common_steps, crate::proofs::Stepping::untried))]
     fn ask<K: Sink, L: Link>(
@@ -128,10 +128,10 @@ impl Course {
         }
     }
 
-    /// Takes the step that the course has come to: a start, a restart or a stop with its line, the attach of the client's link, or an ask
-    /// with its answer's line. After `Ok` it was done whole, and after an ask the number of the next request is one more. After an `Err`
-    /// it ends the trial there, with what it did before that. An ask and the attach leave the members; starts and stops leave link and
-    /// client. Link, sink and spawner count one fault more where the `Err` names them, and else none.
+    /// Takes this step: a start, a restart or a stop with its line, the attach of the client's link, or an ask with its answer's line.
+    /// After `Ok` it was done whole, and after an ask the number of the next request is one more. After an `Err` it ends the trial there,
+    /// with what it did before that. An ask and the attach leave the members; starts and stops leave link and client. Link, sink and
+    /// spawner count one fault more where the `Err` names them, and else none.
     #[tactic(auto, using(std::proofs::lemmas::Grind::common_steps, crate::proofs::Taking::has_started, crate::proofs::Taking::cant_start, crate::proofs::Taking::has_stopped, crate::proofs::Taking::cant_stop, crate::proofs::Taking::attached, crate::proofs::Taking::unattached, crate::proofs::Taking::has_asked, crate::proofs::Taking::cant_ask, crate::proofs::Telling::attach_writes, crate::proofs::Telling::attach_spawns, crate::proofs::Telling::ask_spawns, crate::proofs::Causes::start_links, crate::proofs::Causes::stop_links))]
     pub fn take<K: Sink, L: Link, P: Spawner>(
         &mut self,
