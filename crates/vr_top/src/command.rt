@@ -19,7 +19,9 @@ use vr_status::Status;
 use vr_trial::run_trial;
 use vr_words::{Command, WordsFault, parse};
 
-/// Does what a command asks for.
+/// Does what a command asks for: a replay, a soak, a member, a client, a trial or a migration. The status is one that this command may have. It has
+/// its cause: the source, sink, disk or link that it names counts one fault more, the others none. Objects that the command has no use for are
+/// unchanged: the spawner has one in a trial alone.
 #[tactic(auto, using(crate::proofs::Coming::replays, crate::proofs::Coming::soaks, crate::proofs::Coming::moves, crate::proofs::Coming::node_size, crate::proofs::Coming::node_member, crate::proofs::Coming::node_fits, crate::proofs::Coming::client_size, crate::proofs::Coming::client_named, crate::proofs::Coming::trial_least, crate::proofs::Coming::trial_most))]
 fn obey<S: Source, K: Sink, D: SectorDisk, L: Link, C: Clock, P: Spawner>(
     alloc: Global,
@@ -61,8 +63,9 @@ fn obey<S: Source, K: Sink, D: SectorDisk, L: Link, C: Clock, P: Spawner>(
     }
 }
 
-/// Does what the words of the command line ask for: `replay` plays the schedule of the source, `soak` one that a number makes, `node` serves as a
-/// member of a group, `client` asks one, `trial` starts one and tries it, and `migrate` makes a member's file one of version 2.
+/// Does what the words of the command line ask for. `replay` plays the source's schedule, `soak` one that a number makes; `node` serves as a member
+/// of a group, `client` asks one. `trial` starts a group and tries it, and `migrate` makes a member's file one of version 2. Other words end as
+/// `Usage`, and want of memory for the words as `NoMemory`, with nothing done.
 #[tactic(auto, using(crate::proofs::Good::asked_good, crate::proofs::Coming::ends_by, crate::proofs::Coming::ends_none, crate::proofs::Coming::ends_short, crate::proofs::Coming::tries_by, crate::proofs::Coming::tries_none, crate::proofs::Coming::tries_short, crate::proofs::OneLog::words_have_one_log))]
 pub fn run<S: Source, K: Sink, D: SectorDisk, L: Link, C: Clock, P: Spawner>(
     alloc: Global,

@@ -7,7 +7,8 @@ use vr_node::Role;
 use vr_trial::Plan;
 use vr_words::{NodeWords, TrialWords};
 
-/// The role of a member with these words.
+/// The role of a member with these words: their group, number, file, turns and addresses, and the kind that its file is made as, if any. The group
+/// has as many members as there are addresses.
 #[tactic(auto, using(crate::proofs::Coming::node_most, crate::proofs::Coming::node_config))]
 pub fn role_of(words: NodeWords) -> Role
     requires { IsGood (Node (node_says words)) }
@@ -26,7 +27,7 @@ pub fn role_of(words: NodeWords) -> Role
     }
 }
 
-/// What a trial with these words is of.
+/// The plan of a trial with these words: their group, turns, addresses and beginning of the disks' names.
 #[tactic(auto, using(crate::proofs::Coming::planned))]
 pub fn plan_of(words: TrialWords) -> Plan
     ensures { IsPlanOf words result }

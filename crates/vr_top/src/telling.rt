@@ -7,7 +7,8 @@ use std::alloc::{AllocError, Global};
 use vr_edge::{Sink, write_whole};
 use vr_status::{Status, code, status_line};
 
-/// The line of a status that is the same each time; of one without a text nothing.
+/// The line of a status, with its LF; the empty text of `Done`, which has none. `None` only for `Refused` and `OtherMember`, whose lines name a
+/// number or members.
 fn fixed_line(status: &Status) -> Option<&'static str>
     ensures { MatchOption result (takes_memory status.now ≡ true) (λ line. line.now ≡ line_of status.now) }
 {
@@ -29,7 +30,7 @@ fn fixed_line(status: &Status) -> Option<&'static str>
     }
 }
 
-/// The line of a status, of one without a text nothing.
+/// The text of a status and an LF; nothing for `Done`, which has no text.
 fn line_for(alloc: Global, status: &Status) -> Result<String, AllocError>
     ensures { IfOk result (λ line. string_bytes line ≡ line_of status.now) }
 {
@@ -40,7 +41,8 @@ fn line_for(alloc: Global, status: &Status) -> Result<String, AllocError>
     Ok(line)
 }
 
-/// Writes the line of a status: a front of it where a write fails, and nothing where memory is taken for it and short.
+/// Writes the line of a status: whole where no write fails, and else a front of it; nothing for `Done`, which has none. Only the lines of `Refused`
+/// and `OtherMember` take memory: where that is short, the sink may be left unchanged instead.
 #[tactic(auto, using(crate::proofs::Lines::no_front, crate::proofs::Lines::front_by, crate::proofs::Lines::whole_by))]
 fn tell<K: Sink>(alloc: Global, status: &Status, errors: &mut K)
     ensures { Tells K.Sink status.now errors.old errors.new }
@@ -55,7 +57,7 @@ fn tell<K: Sink>(alloc: Global, status: &Status, errors: &mut K)
     let _ = write_whole(errors, line.as_bytes());
 }
 
-/// Writes the line of a status, and gives its code.
+/// Writes the line of a status, and gives its code, whatever became of the line.
 pub fn finish<K: Sink>(alloc: Global, status: &Status, errors: &mut K) -> u8
     ensures code { result ≡ code_of status.now }
 

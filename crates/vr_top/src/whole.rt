@@ -8,7 +8,8 @@ use std::alloc::{AllocError, Global};
 use vr_edge::Sink;
 use vr_status::Status;
 
-/// The words after the program's name. Where one of them is no text, there are none: no words are no command.
+/// The words behind the program's name, none where that isn't there. Where one of them is no text (`NoText`), there are none: no words are no
+/// command. An `Err` exactly where telling them wanted memory.
 fn words_of(alloc: Global, told: Result<Vec<String>, Untold>) -> Result<Vec<String>, AllocError>
     ensures { KnowsWords told result }
 {
@@ -24,7 +25,7 @@ fn words_of(alloc: Global, told: Result<Vec<String>, Untold>) -> Result<Vec<Stri
     }
 }
 
-/// Where the program stands, `None` where that isn't told.
+/// Where the program stands; `None` where there is no path, or it is no text (`NoText`). An `Err` exactly where telling it wanted memory.
 fn path_of<T>(told: Result<T, Untold>) -> Result<Option<T>, AllocError>
     ensures { KnowsPath told result }
 {
@@ -35,7 +36,9 @@ fn path_of<T>(told: Result<T, Untold>) -> Result<Option<T>, AllocError>
     }
 }
 
-/// Has the objects of the outside made, and runs over them. It has a frame of its own, which is a large one.
+/// Has the maker give, each at most once and in this order: words, source, sink, disk, link, clock, path, spawner. Then it runs over these, with the
+/// words behind the program's name, and gives the run's status. Where memory is short for words, disk, link or path, nothing is made after it and
+/// nothing is run: that is `NoMemory`. An `Err` says the same as `NoMemory`. It has a frame of its own, which is a large one.
 #[inline(never)]
 fn make_and_run<M: Program>(alloc: Global, maker: &mut M) -> Result<Status, AllocError>
     ensures { Made M.Source.Source M.Sink.Sink M.Disk.SectorDisk M.Link.Link M.Clock.Clock M.Spawner.Spawner M.made maker.old maker.new result }
@@ -60,7 +63,10 @@ fn make_and_run<M: Program>(alloc: Global, maker: &mut M) -> Result<Status, Allo
     ))
 }
 
-/// Runs a program over what a maker makes, and tells the status that it comes to: its line on the sink for errors, and its code. Nothing is made before what a run stands on is there.
+/// Takes first what a run stands on; where that isn't all there, nothing is made or run, and the status is `NoMemory`. Else the maker gives, in this
+/// order, words, source, sink, disk, link, clock, path and spawner, and the program runs over them. Where memory is short for one of them, none is
+/// made after it, nothing is run, and the status is `NoMemory`. At last the status's line goes to `errors`, a front of it where a write fails, and
+/// its code is returned.
 pub fn run_outside<M: Program, E: Sink>(alloc: Global, maker: &mut M, errors: &mut E) -> u8
     ensures { IsTold M.Source.Source M.Sink.Sink M.Disk.SectorDisk M.Link.Link M.Clock.Clock M.Spawner.Spawner M.made E.Sink maker.old maker.new errors.old errors.new result }
 {
