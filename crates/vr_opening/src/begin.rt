@@ -16,7 +16,9 @@ use vr_disk::SectorDisk;
 use vr_journal::{Halt, LAST_VIEW, Replica, apply, load, save};
 use vr_msg::Outbox;
 
-// Saves what the replica now is.
+// Saves what the replica now is: the old value is mended on the disk, the new one written, with the next sequence number, and kept as its saved one.
+// Nothing is put out. After `Ok` it is ready, with nothing applied above its checkpoint, and its sequence number is one more at most. After an `Err`
+// the disk got these calls up to the one that failed, or a front of them; of the replica nothing is said.
 #[tactic(auto, using(crate::proofs::Begins::opened_saved, vr_journal::proofs::Loads::ready_opened))]
 fn save_opened<D: SectorDisk>(
     replica: &mut Replica,
@@ -37,7 +39,10 @@ fn save_opened<D: SectorDisk>(
     }
 }
 
-// A primary that comes back doesn't lead its old view again.
+// A replica that leads, the primary of a started view, goes to the next view and saves that: it doesn't lead its old view again. Any other replica
+// stays as it is, and makes no call of the disk. Nothing is put out. After `Ok` it is ready, with nothing applied above its checkpoint, and its
+// sequence number is one more at most. After an `Err` the disk got the save's calls up to the one that failed, or a front of them; of the replica
+// nothing is said.
 #[tactic(auto, using(crate::proofs::Begins::leave_then, crate::proofs::Begins::leave_none, crate::proofs::Begins::next_fits, crate::proofs::Begins::opened_next, crate::proofs::Begins::opened_member))]
 fn leave_view<D: SectorDisk>(
     replica: &mut Replica,
@@ -62,7 +67,8 @@ fn leave_view<D: SectorDisk>(
 
 // ---- the others hear of it
 
-// Tells all of the view that it is in, unless that is past the last view.
+// Puts out a `start_view_change` of its view to each other replica, ascending; past the last view, nothing. After an `Err`, want of memory, nothing
+// is said of the outputs.
 fn tell_view(replica: &Replica, out: &mut Outbox) -> Result<(), AllocError>
     ensures { OnOk result (out.new ≡ out.old ++ (if nat_le replica.now.view last_view then send_to_all start_view_change replica.now else [])) }
 {
@@ -73,7 +79,8 @@ fn tell_view(replica: &Replica, out: &mut Outbox) -> Result<(), AllocError>
     }
 }
 
-// The others hear of a view that isn't started.
+// A replica whose view isn't started sends each other one a `start_view_change` of it, unless it is past the last view; before that it counts itself
+// alone as heard. One whose view is started does nothing. No call of the disk is made. After `Ok` it is ready.
 #[tactic(auto, using(crate::proofs::Begins::announce_then, crate::proofs::Begins::announce_none, crate::proofs::Begins::ready_heard, vr_journal::proofs::Stepping::does_no_memory))]
 fn announce<D: SectorDisk>(
     replica: &mut Replica,
@@ -92,7 +99,9 @@ fn announce<D: SectorDisk>(
     }
 }
 
-// The checkpoint is loaded, what is committed is applied, and the others are told.
+// In this order: the checkpoint, where there is one, is loaded; committed entries are applied and put out, with a checkpoint where one is due. Of a
+// view that isn't started the others are told at last. While blocks of the checkpoint can't be read, they count as missing, and nothing is applied.
+// After `Ok` it is ready.
 #[tactic(auto, using(vr_journal::proofs::Stepping::steps, vr_journal::proofs::Loads::ready_opened))]
 fn load_on<D: SectorDisk>(
     replica: &mut Replica,
@@ -109,7 +118,8 @@ fn load_on<D: SectorDisk>(
     announce(replica, disk, out)
 }
 
-// What comes of an opening: a primary leaves its view, the checkpoint is loaded, what is committed is applied, and the others are told.
+// In this order: a replica that leads goes to the next view and saves that; the start line is put out. Then its checkpoint is loaded, committed
+// entries are applied, and of a view that isn't started the others are told. After `Ok` it is ready.
 #[tactic(auto, using(vr_journal::proofs::Stepping::steps, vr_journal::proofs::Loads::ready_opened))]
 fn go_on<D: SectorDisk>(
     replica: &mut Replica,
@@ -126,7 +136,9 @@ fn go_on<D: SectorDisk>(
     load_on(replica, alloc, disk, out)
 }
 
-// Goes on with the opening, unless sequence numbers are at their end: then nothing is written any more, and nothing sent.
+// Where sequence numbers are at their end, above 2^64 - 256, the start line is put out, and nothing is written or sent. Else a replica that leads
+// goes to the next view and saves that; the start line comes next. Then its checkpoint is loaded, committed entries are applied, and of a view that
+// isn't started the others are told. After `Ok` it is ready.
 #[tactic(auto, using(crate::proofs::Begins::resumed, crate::proofs::Begins::spent, crate::proofs::Begins::unspent_room, vr_journal::proofs::Loads::ready_opened, vr_journal::proofs::Stepping::wants))]
 fn resume<D: SectorDisk>(
     replica: &mut Replica,
@@ -145,7 +157,10 @@ fn resume<D: SectorDisk>(
     }
 }
 
-/// All that a replica does as it opens, behind the mending of its superblock.
+/// Opens a replica whose superblock is mended already. First its Parts are found, and header sectors written again where that is needed. Where
+/// sequence numbers are at their end, only the start line is put out behind that. Else a replica that leads leaves its view and saves that; the start
+/// line is put out, the checkpoint loaded, and committed entries are applied. Of a view that isn't started the others are told at last; after `Ok` it
+/// is ready.
 #[tactic(auto, using(vr_journal::proofs::Stepping::steps))]
 pub fn open_mended<D: SectorDisk>(
     replica: &mut Replica,

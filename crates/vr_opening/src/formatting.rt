@@ -19,7 +19,7 @@ use vr_header::{Command, Header, Size};
 use vr_rings::sector_of;
 use vr_super::Super;
 
-// The first sector of the prepares of a file of this version.
+// The first sector of the prepares of a file of this version; it is at most `SECTORS`.
 fn prepares_begin(version: Version) -> u32
     ensures place { result ≡ prepare_place version 0 }
     ensures within { result ≤ SECTORS }
@@ -27,7 +27,7 @@ fn prepares_begin(version: Version) -> u32
     prepare_place(0, version)
 }
 
-// The sector behind them.
+// The sector behind the prepares of a file of this version; it is at most `SECTORS`.
 #[tactic(auto, using(crate::proofs::Calls::prepares_within))]
 fn prepares_end(version: Version) -> u32
     ensures place { result ≡ prepares_end version }
@@ -36,7 +36,8 @@ fn prepares_end(version: Version) -> u32
     prepares_begin(version) + SLOTS * prepare_sectors(version)
 }
 
-// Writes zeros to them.
+// Writes zeros to each sector of the prepares of a file of this version, ascending, and makes no sync. An `Err` is a write that failed: those before
+// it were made, and none after it. It adds one to the disk's faults; an `Ok` leaves them.
 #[tactic(auto, using(crate::proofs::Calls::zeros_begin, crate::proofs::Calls::zeros_go, crate::proofs::Calls::zeros_stop, crate::proofs::Calls::zeros_end))]
 fn zero_prepares<D: SectorDisk>(disk: &mut D, version: Version) -> Result<(), DiskFailed>
     ensures runs { Runs (zero_prepares version) (D.told disk.old) (D.told disk.new) (is_ok result) }
@@ -48,7 +49,8 @@ fn zero_prepares<D: SectorDisk>(disk: &mut D, version: Version) -> Result<(), Di
     Ok(())
 }
 
-// The header of a slot that has no entry yet, in a file of this version, where the name of no bytes is known.
+// The header of a slot that has no entry yet, in a file of this version and group: its command is `Reserved`, its op the slot, its size 128. Its body
+// is the name of no bytes, and all else is 0.
 fn reserved_header(version: Version, cluster: u64, slot: u32, body: Sum) -> Header
     requires { body.0 ≡ name_of [] }
     ensures { result ≡ reserved_header version cluster slot }
@@ -73,7 +75,8 @@ fn reserved_header(version: Version, cluster: u64, slot: u32, body: Sum) -> Head
     }
 }
 
-// Writes the header of a slot that has no entry yet.
+// Writes to the header sector of this slot the header that says that it has no entry yet; it makes no sync. An `Err` is that write failing, which
+// adds one to the disk's faults; an `Ok` leaves them.
 fn reserve<D: SectorDisk>(
     disk: &mut D,
     version: Version,
@@ -90,7 +93,8 @@ fn reserve<D: SectorDisk>(
     disk.write(header_place(slot), &sector)
 }
 
-// Writes the headers of all slots.
+// Writes to the header sector of each of the 64 slots, from slot 0 on, the header that says that it has no entry yet; it makes no sync. An `Err` is a
+// write that failed: those before it were made, and none after it. It adds one to the disk's faults; an `Ok` leaves them.
 #[tactic(auto, using(crate::proofs::Calls::headers_begin, crate::proofs::Calls::headers_go, crate::proofs::Calls::headers_stop, crate::proofs::Calls::headers_end))]
 fn reserve_all<D: SectorDisk>(
     disk: &mut D,
@@ -107,8 +111,9 @@ fn reserve_all<D: SectorDisk>(
     Ok(())
 }
 
-/// Formats the disk of a member of a new group, whose first value this is, for a file of the value's version: zeros to the prepares, a
-/// header to each slot, one sync, and the four copies of the value.
+/// Formats the disk of a member of a new group, whose first value this is, for a file of the value's version. In this order: zeros to the prepares, a
+/// header to each slot that says that it has no entry, one sync, and the four copies of the value, each synced. An `Err` is a call that failed: those
+/// before it were made, and none after it. It adds one to the disk's faults; an `Ok` leaves them.
 #[tactic(auto, using(vr_disk::proofs::Running::Runs_then, vr_disk::proofs::Running::Runs_stopped))]
 pub fn format<D: SectorDisk>(disk: &mut D, config: &Config, value: &Super) -> Result<(), DiskFault>
     requires { value.now ≡ first_value (file_kind value.now.fields) config.now.cluster config.now.n config.now.replica }

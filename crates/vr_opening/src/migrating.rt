@@ -17,7 +17,7 @@ use vr_journal::Halt;
 use vr_rings::move_slots;
 use vr_super::{Fields, Super};
 
-// The numbers that are saved in the end.
+// The numbers that are saved in the end: version 2, and the next sequence number, up to 2^64 - 1; all else as they were.
 fn migrated_fields(old: Fields) -> Fields
     ensures { result ≡ (migrated (record { fields = old; headers = [] })).fields }
 {
@@ -28,7 +28,7 @@ fn migrated_fields(old: Fields) -> Fields
     }
 }
 
-// The value that is saved in the end.
+// The value that is saved in the end: version 2, the next sequence number, up to 2^64 - 1, and all else, the headers too, as in the old one.
 fn migrated(alloc: Global, old: &Super) -> Result<Super, NoMemory>
     ensures { IfOk result (λ v. v ≡ migrated old.now) }
 {
@@ -38,7 +38,8 @@ fn migrated(alloc: Global, old: &Super) -> Result<Super, NoMemory>
     Super::new(alloc, fields, headers)
 }
 
-// Writes the prepares at their new places, and saves the value.
+// Writes the prepare of each slot at its new place, and syncs once; then mends the old value, and writes the new one's four copies. An `Err` is a
+// call that failed: those before it were made, and none after it. It adds one to the disk's faults; an `Ok` leaves them.
 #[tactic(auto, using(crate::proofs::Moves::moved_then, crate::proofs::Moves::moved_stopped))]
 fn move_over<D: SectorDisk>(disk: &mut D, old: &Super, new: &Super) -> Result<(), DiskFault>
     ensures runs { RunsFrom (moving_calls old.now new.now) (D.told disk.old) (D.told disk.new) (is_ok result) }
@@ -51,7 +52,9 @@ fn move_over<D: SectorDisk>(disk: &mut D, old: &Super, new: &Super) -> Result<()
     }
 }
 
-// The file of a value that is mended. Memory is taken for the new value alone, before a call is made.
+// The file of this value, whose copies are mended, becomes one of version 2. One of version 2 is left as it is, and no call is made. Else each slot's
+// prepare is written at its new place, and then the value saved with the new version. `DiskFault`: the calls were made up to the one that failed, and
+// it alone adds one to the disk's faults. `NoMemory`: none was made.
 #[tactic(auto, using(crate::proofs::Moves::over_moved, crate::proofs::Moves::over_nothing))]
 fn migrate_mended<D: SectorDisk>(alloc: Global, disk: &mut D, value: &Super) -> Result<(), Halt>
     ensures cause { Caused (D.faults disk.old) (D.faults disk.new) result }
@@ -69,9 +72,10 @@ fn migrate_mended<D: SectorDisk>(alloc: Global, disk: &mut D, value: &Super) -> 
     }
 }
 
-/// The file of a disk becomes one of version 2, if the disk is that of the member that is asked for: its superblock is mended, and then, where its
-/// file is of version 1, each slot's prepare is written at its new place, and the value is saved with the new version. Of another member's disk
-/// the superblock is mended, and no other call is made.
+/// The file of a disk becomes one of version 2, if that is the disk of the member that is asked for. Its superblock is mended; in a file of version 1
+/// each slot's prepare is written at its new place, and then the value saved as one of version 2. `Lost`: no value opens, and no call is made;
+/// `OtherMember`: that member's superblock is mended, and no other call made. `Halted`: the calls were made up to the one that failed, which alone
+/// adds one to the disk's faults; for want of memory none was, or the mending's alone.
 #[tactic(auto, using(crate::proofs::Moves::migrated_well, crate::proofs::Moves::migration_halted, crate::proofs::Recovers::other_member))]
 pub fn migrate<D: SectorDisk>(alloc: Global, disk: &mut D, asked: &Config) -> Result<(), Refusal>
     ensures cause { CountsFault (Refusal.Halted Halt.DiskFault) (D.faults disk.old) (D.faults disk.new) result }
@@ -93,7 +97,10 @@ pub fn migrate<D: SectorDisk>(alloc: Global, disk: &mut D, asked: &Config) -> Re
     }
 }
 
-/// The file of a disk becomes one of version 2, whatever member's disk it is: `OtherMember` never comes. One of version 2 is left alone.
+/// The file of a disk, of version 1, becomes one of version 2, whatever member's disk it is: `OtherMember` never comes. Its superblock is mended,
+/// each slot's prepare written at its new place, and then the value saved as one of version 2. `Lost`: no two good copies agree, or the file is of
+/// version 2, and all copies are called good; no call is made. `Halted`: the calls were made up to the one that failed, which alone adds one to the
+/// disk's faults; for want of memory none was, or the mending's alone.
 #[tactic(auto, using(crate::proofs::Moves::any_well, crate::proofs::Moves::any_halted))]
 pub fn migrate_any<D: SectorDisk>(alloc: Global, disk: &mut D) -> Result<(), Refusal>
     ensures cause { CountsFault (Refusal.Halted Halt.DiskFault) (D.faults disk.old) (D.faults disk.new) result }

@@ -31,7 +31,7 @@ pub enum FreshFault {
     NoMemory,
 }
 
-// Whether two good copies of a superblock agree.
+// `true` exactly where two good copies of a superblock agree. The disk is at most read.
 #[tactic(auto, using(crate::proofs::Makes::found_opened))]
 fn is_occupied<D: SectorDisk>(disk: &mut D) -> bool
     ensures untouched { Untouched D.SectorDisk disk.old disk.new }
@@ -40,7 +40,7 @@ fn is_occupied<D: SectorDisk>(disk: &mut D) -> bool
     opens(disk).is_some()
 }
 
-// The replica, before its disk is formatted.
+// The replica of a member of a new group, for a file of this kind, before its disk is formatted; it is ready.
 #[tactic(auto, using(crate::proofs::Makes::fresh_ready))]
 fn make_member(alloc: Global, config: Config, kind: Kind) -> Result<Replica, NoMemory>
     requires size { is_size kind.version config.n ≡ true }
@@ -52,7 +52,8 @@ fn make_member(alloc: Global, config: Config, kind: Kind) -> Result<Replica, NoM
     Replica::blank(alloc, value)
 }
 
-// Formats its disk.
+// Formats the disk of this new member. In this order: zeros to the prepares, a header to each slot, one sync, and the four copies of its first value.
+// An `Err` is a call that failed: those before it were made, and none after it. It adds one to the disk's faults; an `Ok` leaves them.
 #[tactic(auto, using(crate::proofs::Makes::fresh_value))]
 fn write_format<D: SectorDisk>(
     disk: &mut D,
@@ -66,8 +67,9 @@ fn write_format<D: SectorDisk>(
     format(disk, config, replica.saved())
 }
 
-/// The replica of a member of a new group, whose disk is formatted for a file of this kind: `Occupied` exactly where two good copies
-/// of a superblock agree, and then nothing is written.
+/// Formats the disk for a file of this kind, and makes the replica of a member of a new group, which is ready. `Occupied` exactly where two good
+/// copies of a superblock agree, and then nothing is written. `NoMemory`: nothing was written, either. `DiskFault`: the calls of the format were made
+/// up to the one that failed, and it alone adds one to the disk's faults.
 #[tactic(auto, using(crate::proofs::Makes::occupied, crate::proofs::Makes::wanted, crate::proofs::Makes::fresh_so))]
 pub fn fresh<D: SectorDisk>(
     alloc: Global,

@@ -7,7 +7,8 @@ use std::alloc::Global;
 use vr_base::{Config, Kind, NoMemory, Seq, Sum};
 use vr_super::{Fields, Super};
 
-// Its numbers, for a file of this kind.
+// The numbers of the value with which this member begins, on a file of this kind: sequence number 1, its config, version and mode, and all else 0. It
+// also says that the kind's version is 1 or 2, and that the numbers fit their widths.
 fn first_fields(config: Config, kind: Kind) -> Fields
     ensures value { result ≡ (first_value kind config.cluster config.n config.replica).fields }
     ensures kind { IsKind kind }
@@ -32,7 +33,8 @@ fn first_fields(config: Config, kind: Kind) -> Fields
     }
 }
 
-/// The superblock's value of a member of a new group, on a file of this kind.
+/// The superblock's value of a member of a new group, on a file of this kind: sequence number 1, its config, version and mode, no header, and all
+/// else 0.
 #[tactic(auto, using(crate::proofs::First::first_good))]
 pub fn first_value(alloc: Global, config: &Config, kind: Kind) -> Result<Super, NoMemory>
     requires size { is_size kind.version config.now.n ≡ true }

@@ -15,7 +15,7 @@ use vr_header::{Entry, Header, Part};
 use vr_journal::{Halt, Replica, find_entry};
 use vr_msg::Outbox;
 
-// An op of the checkpoint is here where its entry was found, and lost otherwise.
+// The Part of an op of the checkpoint with this header: `Here` where its entry was found, and else `Lost`.
 fn old_part(header: &Header, found: &Option<Entry>) -> Part
     ensures { result ≡ old_part header.now found.now }
 {
@@ -25,7 +25,7 @@ fn old_part(header: &Header, found: &Option<Entry>) -> Part
     }
 }
 
-// Whether an entry was stored, readable or not.
+// Whether an entry was stored, readable or not: `true` of `Here` and `Lost` alone.
 fn was_stored(part: &Part) -> bool
     ensures { result ≡ was_stored part.now }
 {
@@ -35,7 +35,8 @@ fn was_stored(part: &Part) -> bool
     }
 }
 
-// Finds what is known of an op of the checkpoint, of which the value has this header.
+// Looks for the entry of this header, whose op is at most the checkpoint: its Part is `Here` where its slot has it, and else `Lost`. Nothing is
+// written or put out. After `Ok` one header more of the value's list is done, and the saved value is as it was.
 #[tactic(auto, using(crate::proofs::Olds::old_then, crate::proofs::Olds::old_window, crate::proofs::Olds::opening_old, vr_journal::proofs::Stepping::does_no_memory))]
 fn recover_old<D: SectorDisk>(
     replica: &mut Replica,
@@ -59,21 +60,21 @@ fn recover_old<D: SectorDisk>(
     Ok(())
 }
 
-// Whether the op of a header is one of the checkpoint.
+// Whether the op of a header is at most the checkpoint of the value.
 fn is_old(replica: &Replica, header: &Header) -> bool
     ensures { result ≡ nat_le header.now.op replica.now.saved.fields.checkpoint }
 {
     header.op <= replica.saved().fields().checkpoint
 }
 
-// How many headers the value has.
+// How many headers the value names.
 fn header_count(replica: &Replica) -> usize
     ensures { result ≡ length replica.now.saved.headers }
 {
     replica.saved().headers().len()
 }
 
-// The header at a place of the value's.
+// The header at this place of the value's list.
 fn named(replica: &Replica, i: usize) -> Header
     requires { i < length replica.now.saved.headers }
     ensures { slice_get replica.now.saved.headers i ≡ Some result }
@@ -81,7 +82,7 @@ fn named(replica: &Replica, i: usize) -> Header
     replica.saved().headers()[i]
 }
 
-// The op at a place of the window.
+// The op at this place of the window, whose place 0 is the op behind the checkpoint.
 #[tactic(auto, using(crate::proofs::Olds::nth_fits))]
 fn op_at(replica: &Replica, i: u64) -> u64
     requires opening { IsOpening (replica.now.saved.fields.checkpoint + i) replica.now }
@@ -91,7 +92,9 @@ fn op_at(replica: &Replica, i: u64) -> u64
     replica.saved().fields().checkpoint + 1 + i
 }
 
-// Finds what is known of the op of a header that the value names, where it is one of the checkpoint.
+// Where the op of this header is at most the checkpoint, its Part is `Here` where its slot has its entry, and else `Lost`. Any other header is passed
+// over, and the replica stays. Nothing is written or put out. After `Ok` one header more of the value's list is done, and the saved value is as it
+// was.
 #[tactic(auto, using(vr_journal::proofs::Stepping::does_quiet, crate::proofs::Olds::old_skipped))]
 fn recover_listed<D: SectorDisk>(
     replica: &mut Replica,
@@ -115,7 +118,9 @@ fn recover_listed<D: SectorDisk>(
     }
 }
 
-// Finds what is known of the op of the header at this place of the value's, where it is one of the checkpoint.
+// Takes the header at this place of the value's list. Where its op is at most the checkpoint, its Part is `Here` where its slot has its entry, and
+// else `Lost`; otherwise the replica stays. Nothing is written or put out. After `Ok` one header more of the list is done, and the saved value is as
+// it was.
 #[tactic(auto, using(crate::proofs::Olds::one_header))]
 fn recover_at<D: SectorDisk>(
     replica: &mut Replica,
@@ -135,7 +140,8 @@ fn recover_at<D: SectorDisk>(
     recover_listed(replica, alloc, disk, i, &header, out)
 }
 
-// Finds what is known of the ops of the checkpoint that the value names.
+// Takes each header that the value names, in order, whose op is at most the checkpoint: its Part is `Here` where its slot has its entry, and else
+// `Lost`. Nothing is written or put out. After `Ok` the Parts up to the checkpoint are found, and the saved value is as it was.
 #[tactic(auto, using(vr_journal::proofs::Stepping::going_begins, crate::proofs::Olds::olds_at, crate::proofs::Olds::olds_end, crate::proofs::Olds::olds_stopped, crate::proofs::Olds::olds_found))]
 fn recover_olds<D: SectorDisk>(
     replica: &mut Replica,
@@ -156,7 +162,8 @@ fn recover_olds<D: SectorDisk>(
     Ok(())
 }
 
-// An op of the window by its place there.
+// Finds the op at this place of the window: its Part is what its slot says of it. Where that needs it, the header sector is written again and synced
+// first. Nothing is put out. After `Ok` the Parts up to this op are found, and the saved value is as it was.
 #[tactic(auto, using(crate::proofs::Olds::nth_before, crate::proofs::Olds::nth_after, crate::proofs::Olds::nth_step, crate::proofs::Olds::nth_fits))]
 fn recover_nth<D: SectorDisk>(
     replica: &mut Replica,
@@ -176,7 +183,9 @@ fn recover_nth<D: SectorDisk>(
     recover_op(replica, disk, op, buffer, out)
 }
 
-// Finds what is known of the ops of the window.
+// Finds the 64 ops above the checkpoint, ascending: each one's Part is what its slot says of it, and where that needs it, the header sector is
+// written again. Nothing is put out. After `Ok` all Parts of the window are found, and the saved value is as it was. A fault ends it there: no slot
+// after it is written.
 #[tactic(auto, using(vr_journal::proofs::Stepping::going_begins, vr_journal::proofs::Stepping::going_ends, crate::proofs::Olds::ops_at, crate::proofs::Olds::ops_stopped, crate::proofs::Olds::ops_begin, crate::proofs::Olds::window_length))]
 fn recover_window<D: SectorDisk>(
     replica: &mut Replica,
@@ -199,7 +208,9 @@ fn recover_window<D: SectorDisk>(
     Ok(())
 }
 
-// Finds what is known of the ops of the window, with a buffer of its own to read into.
+// Finds the 64 ops above the checkpoint, ascending, with a buffer of its own to read into. Each one's Part is what its slot says of it, and where
+// that needs it, the header sector is written again. Nothing is put out. After `Ok` all Parts of the window are found, and the saved value is as it
+// was.
 #[tactic(auto, using(vr_journal::proofs::Stepping::does_no_memory))]
 fn recover_ops<D: SectorDisk>(
     replica: &mut Replica,
@@ -217,7 +228,7 @@ fn recover_ops<D: SectorDisk>(
     recover_window(replica, disk, &mut buffer, out)
 }
 
-// Whether something is stored at a place.
+// Whether the Part at this place is `Here` or `Lost`, so that something is stored; past the last place it is `false`.
 #[tactic(auto, using(vr_journal::proofs::Lists::past_is, vr_journal::proofs::Lists::found_is))]
 fn is_stored(replica: &Replica, at: usize) -> bool
     ensures { result ≡ was_stored (slice_index_or replica.now.parts at Nothing) }
@@ -228,7 +239,7 @@ fn is_stored(replica: &Replica, at: usize) -> bool
     }
 }
 
-// Whether something is stored from a place on.
+// Whether any Part from this place on is `Here` or `Lost`; from past the last place none is.
 #[tactic(auto, using(crate::proofs::Clouds::any_more, crate::proofs::Clouds::any_found, crate::proofs::Clouds::any_past))]
 fn is_stored_from(replica: &Replica, at: usize) -> bool
     ensures { result ≡ list_any was_stored (drop at replica.now.parts) }
@@ -241,8 +252,8 @@ fn is_stored_from(replica: &Replica, at: usize) -> bool
     false
 }
 
-// The Part at a place: an op above the value's head that nothing was found of is unknown where one above it was stored, since its entry may
-// have been stored as well.
+// The Part that this place is to have. A `Nothing` above the value's head is `Unknown` where a later place has `Here` or `Lost`: an entry may have
+// been stored there, too. Each other Part stays, and so do all up to the head.
 fn cloud_by(replica: &Replica, at: usize) -> Part
     requires fits { replica.now.first + at < 2 ^ 63 }
     ensures { result ≡ cloud_by replica.now.saved replica.now.first replica.now.parts at }
@@ -271,7 +282,8 @@ fn places(replica: &Replica) -> usize
     replica.parts().len()
 }
 
-// Gives a place its Part, as above.
+// Makes the Part at this place `Unknown`, where it is `Nothing`, its op is above the value's head, and a later place has `Here` or `Lost`. Else it
+// stays; all else of the replica stays.
 fn cloud_one(replica: &mut Replica, at: usize)
     requires fits { replica.old.first + at < 2 ^ 63 }
     requires within { at < length replica.old.parts }
@@ -281,7 +293,8 @@ fn cloud_one(replica: &mut Replica, at: usize)
     replica.replace_part(at, part);
 }
 
-// Nothing is denied of an op above the value's head and below one that was stored.
+// Makes each Part `Unknown` that is `Nothing`, of an op above the value's head and below one that is `Here` or `Lost`. So nothing is denied there.
+// All else of the replica stays.
 #[tactic(auto, using(crate::proofs::Clouds::cloud_none, crate::proofs::Clouds::cloud_more, crate::proofs::Clouds::cloud_all, crate::proofs::Clouds::cloud_room, crate::proofs::Clouds::cloud_within, crate::proofs::Clouds::cloud_saved))]
 fn cloud(replica: &mut Replica)
     requires { HasWindow replica.old }
@@ -293,7 +306,10 @@ fn cloud(replica: &mut Replica)
     }
 }
 
-/// Finds its Parts again.
+/// Finds its Parts again by what the slots say. In this order: the ops up to the checkpoint that the value names, without a write; the 64 ops of the
+/// window, with header sectors written again where needed. Then above the value's head nothing is denied below an op that was stored, and ops 64 or
+/// more below the head are forgotten. Nothing is put out. After `Ok` it is ready, with nothing applied above its checkpoint, and the saved value is
+/// as it was.
 #[tactic(auto, using(crate::proofs::Clouds::parts_then, crate::proofs::Clouds::parts_stopped, crate::proofs::Clouds::parts_halted, crate::proofs::Clouds::window_opening, crate::proofs::Clouds::window_clouded, crate::proofs::Clouds::opened_ready))]
 pub fn recover_parts<D: SectorDisk>(
     replica: &mut Replica,

@@ -20,7 +20,7 @@ use vr_journal::{Halt, Replica};
 use vr_msg::Outbox;
 use vr_super::{CopyVerdict, FindFault, FoundValue, Super, find, mend_found};
 
-// The replica of a value that makes a good copy, before it looks at its disk.
+// The replica of a value that makes a good copy, which knows nothing of any op yet. An `Err` is `NoMemory`.
 #[tactic(auto, using(crate::proofs::Begins::opening_blank))]
 fn begun(alloc: Global, value: Super) -> Result<Replica, Halt>
     ensures blank { IfOk result (λ r. r ≡ blank value) }
@@ -34,7 +34,9 @@ fn begun(alloc: Global, value: Super) -> Result<Replica, Halt>
     }
 }
 
-// The replica of a value that is mended.
+// Opens the replica of a value whose copies are mended. Its Parts are found; then, unless sequence numbers are at their end, it goes on: a view that
+// it led is left, the start line put out, the checkpoint loaded. Committed entries are applied, and the others told. After `Ok` it is ready. After a
+// fault, which adds one to the disk's faults, the disk got these calls up to the one that failed; after want of memory a front of them.
 #[tactic(auto, using(crate::proofs::Recovers::begun_wanted, crate::proofs::Recovers::begun_stopped, crate::proofs::Recovers::begun_then))]
 fn open_value<D: SectorDisk>(
     alloc: Global,
@@ -78,7 +80,7 @@ pub enum NoValue {
     Halted(Halt),
 }
 
-// The member that a value names.
+// The member that a value names: its group, its number there, and the group's size.
 pub(crate) fn config_of(value: &Super) -> Config
     ensures { result ≡ config_of value.now }
 {
@@ -90,7 +92,9 @@ pub(crate) fn config_of(value: &Super) -> Config
     }
 }
 
-// The value that was found, mended. The copies of one that is left alone aren't mended.
+// The value that was found, with each copy mended that doesn't read as it. `OtherVersion`: it is left alone, its file being of another version than
+// is asked for, and no call is made. `Halted`: a call of the mending failed, those before it were made, and the disk counts one fault more. Each
+// other answer leaves that count.
 #[tactic(auto, using(crate::proofs::Recovers::left_alone, crate::proofs::Recovers::mended, crate::proofs::Recovers::mend_faulted))]
 fn mended_value<D: SectorDisk>(
     disk: &mut D,
@@ -110,7 +114,8 @@ fn mended_value<D: SectorDisk>(
     }
 }
 
-// Why a disk gives no value on which none was found. One that there was no memory for is left alone by its version.
+// `Lost` stays `Lost`, with its verdicts. A value that there was no memory for is `OtherVersion` where its file is of another version than is asked
+// for, and else `Halted` for want of memory.
 #[tactic(auto, unfolding(crate::specs::Recovering::not_found))]
 fn not_found(fault: FindFault, wanted: &Option<Version>) -> NoValue
     ensures { result ≡ not_found wanted.now fault }
@@ -127,7 +132,7 @@ fn not_found(fault: FindFault, wanted: &Option<Version>) -> NoValue
     }
 }
 
-// Why a disk without a value gives no replica: of a file of another version all copies are called good.
+// `Lost` and `Halted` stay what they are. A value whose file is of another version is `Lost`, too, with all four copies called good.
 #[tactic(auto, unfolding(crate::specs::Recovering::refusal_of))]
 pub(crate) fn refusal_of(why: NoValue) -> Refusal
     ensures { result ≡ refusal_of why }
@@ -139,7 +144,9 @@ pub(crate) fn refusal_of(why: NoValue) -> Refusal
     }
 }
 
-// The superblock's value, mended, in a file of the version that is asked for; or why there is none.
+// The superblock's value, in a file of the version that is asked for, if one is; each copy that doesn't read as it is mended. `Lost`: no two good
+// copies agree; `OtherVersion`: they do, but the file is of another version. Neither makes a call. `Halted`: a call of the mending failed, which
+// alone adds one to the disk's faults, or for want of memory none was made.
 pub(crate) fn find_value<D: SectorDisk>(
     alloc: Global,
     disk: &mut D,
@@ -154,7 +161,7 @@ pub(crate) fn find_value<D: SectorDisk>(
     }
 }
 
-// Whether two members are one.
+// `true` exactly where both have the same group, number in it, and size of it.
 pub(crate) fn is_same(found: &Config, asked: &Config) -> bool
     ensures same { result ≡ true → found.now ≡ asked.now }
     ensures other { result ≡ false → found.now ≢ asked.now }
@@ -162,8 +169,10 @@ pub(crate) fn is_same(found: &Config, asked: &Config) -> bool
     *found == *asked
 }
 
-/// The replica of a disk, if the disk is that of the member that is asked for. Of another member's disk the superblock is mended, and no
-/// other call is made, whatever the answer.
+/// The replica of a disk, if that is the disk of the member that is asked for. Its superblock is mended, its Parts are found, and it goes on from
+/// there; after `Ok` it is ready. `Lost`: no two good copies agree, and no call is made; `OtherMember`: that member's superblock is mended, and no
+/// other call made. `Halted`: the calls were made up to the one that failed, which alone adds one to the disk's faults; or a front of them, for want
+/// of memory. Of another member's disk these are the mending's alone.
 #[tactic(auto, using(crate::proofs::Recovers::recovered, crate::proofs::Recovers::halted, crate::proofs::Recovers::other_member))]
 pub fn recover<D: SectorDisk>(
     alloc: Global,
@@ -191,7 +200,10 @@ pub fn recover<D: SectorDisk>(
     }
 }
 
-/// The replica of a disk whose file is of this version, whatever member's disk it is: `OtherMember` never comes.
+/// The replica of a disk whose file is of this version, whatever member's disk it is: `OtherMember` never comes. Its superblock is mended, its Parts
+/// are found, and it goes on from there; after `Ok` it is ready. `Lost`: no two good copies agree, or the file is of another version, and all copies
+/// are called good; no call is made. `Halted`: the calls were made up to the one that failed, which alone adds one to the disk's faults; or a front
+/// of them, for want of memory.
 #[tactic(auto, using(crate::proofs::Recovers::recovered_any, crate::proofs::Recovers::halted_any, crate::proofs::Recovers::refused_any))]
 pub fn recover_any<D: SectorDisk>(
     alloc: Global,

@@ -5,7 +5,7 @@ ghost use Rattle.vr_opening.specs.Recovering.{is_left, is_other};
 use vr_base::Version;
 use vr_super::Super;
 
-/// Whether a version is another one than that which is asked for, where one is.
+/// `true` exactly where a version is asked for, and this is another one.
 pub fn is_other(version: Version, wanted: &Option<Version>) -> bool
     ensures { result ≡ is_other wanted.now version }
 {
@@ -15,7 +15,7 @@ pub fn is_other(version: Version, wanted: &Option<Version>) -> bool
     }
 }
 
-/// Whether a value is left alone.
+/// Whether a value is left alone: exactly where a version is asked for, and its file is of another one.
 pub fn is_left(value: &Super, wanted: &Option<Version>) -> bool
     ensures { result ≡ is_left wanted.now value.now }
 {
