@@ -74,9 +74,9 @@ impl ClientCore {
         Ok(heed_letter(self.n, name, letter))
     }
 
-    /// `Answered` gives the answer, and all else `None`. Where it heard `Moved`, it sends the request to that port, and is there
-    /// from then on. Else nothing is sent, and the port stays. Nothing is received or attached, and no fault of the link is
-    /// counted.
+    /// `Answered` gives the answer, and all else `None`. Where it heard `Moved`, it sends the request to that port, once, and is
+    /// there from then on; else nothing is sent, and the port stays. All else of the client stays. Nothing is received or
+    /// attached, and no fault of the link is counted.
     #[tactic(auto, using(std::proofs::lemmas::Grind::common_steps, crate::proofs::Keeping::keeps_same, crate::proofs::Keeping::keeps_later, crate::proofs::Keeping::no_requests, vr_mail::proofs::Sent::sends_nil))]
     fn follow<L: Link>(&mut self, link: &mut L, heard: Heed) -> Option<Answer>
         requires { MovesWithin self.old.n heard }
@@ -94,8 +94,8 @@ impl ClientCore {
     }
 
     /// Where `done + 1` is a multiple of `PATIENCE` and below `turns`, it sends the request to the next port, modulo `n`, and is
-    /// there from then on. Else nothing is sent, and the port stays. Nothing is received or attached, and no fault of the link is
-    /// counted.
+    /// there from then on. Else nothing is sent, and the port stays. All else of the client stays. Nothing is received or
+    /// attached, and no fault of the link is counted.
     #[tactic(auto, using(std::proofs::lemmas::Grind::common_steps, crate::proofs::Keeping::keeps_same, crate::proofs::Keeping::keeps_later, crate::proofs::Keeping::no_requests, vr_mail::proofs::Sent::sends_nil))]
     fn go_on<L: Link>(&mut self, link: &mut L, turns: u64, done: u64)
         requires { done < turns }
@@ -106,10 +106,11 @@ impl ClientCore {
         }
     }
 
-    /// One receive, behind `done` turns. Where it brings the answer to the request of this name, that is returned, nothing is
-    /// sent, and the port stays. Else it sends the request where a redirect says, and then, where `done + 1` is a multiple of
-    /// `PATIENCE` and below `turns`, to the next port. After an `Err` the receive failed (`Link`, by which alone the link counts
-    /// one fault more) or memory was short for its message; nothing was sent.
+    /// One receive, behind `done` turns, of which all but a reply to the request of this name is ignored. The answer is returned,
+    /// with nothing sent and the port as it was. Else the request is sent where a redirect says, and then, where `done + 1` is a
+    /// multiple of `PATIENCE` below `turns`, to the next port; each becomes its port. After `Link` the receive failed, and by
+    /// that alone the link counts one fault more; after `NoMemory` there was none for its message; nothing was sent then. All but
+    /// the port of the client stays, and nothing is attached.
     #[tactic(auto, using(std::proofs::lemmas::Grind::common_steps, crate::proofs::Keeping::keeps_same, crate::proofs::Keeping::keeps_later, crate::proofs::Keeping::cause_later, crate::proofs::Turns::turned_none, crate::proofs::Turns::turned_answer))]
     fn turn<L: Link>(
         &mut self,
@@ -129,8 +130,9 @@ impl ClientCore {
         Ok(None)
     }
 
-    /// Sends the request to the client's port, and then takes turns, of one receive each, until one brings its answer. A turn
-    /// without it sends the request on, where a redirect or `PATIENCE` says so. `NoAnswer`: all `turns` passed without it; `Link`
+    /// Sends the request to the client's port, and then takes turns, of one receive each, until one brings a reply to the request
+    /// of this name that is its answer. A turn without it may move the client: where a redirect says, and after each `PATIENCE`
+    /// turns, if turns are left, to the next port; the request goes to each. `NoAnswer`: all `turns` passed without it; `Link`
     /// and `NoMemory` end it at the last receive. By `Link` alone the link counts one fault more; the client keeps all but its
     /// port, and nothing is attached.
     #[tactic(auto, using(std::proofs::lemmas::Grind::common_steps, crate::proofs::Keeping::keeps_later, crate::proofs::Keeping::cause_later, crate::proofs::Waits::waited_all))]

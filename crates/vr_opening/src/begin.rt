@@ -67,8 +67,8 @@ fn leave_view<D: SectorDisk>(
 
 // ---- the others hear of it
 
-// Puts out a `start_view_change` of its view to each other replica, ascending; past the last view, nothing. After an `Err`, want of memory, nothing
-// is said of the outputs.
+// Puts out a `start_view_change` of its view to each other replica, ascending, behind what there is; past the last view, nothing. After an `Err`,
+// want of memory, nothing is said of the outputs.
 fn tell_view(replica: &Replica, out: &mut Outbox) -> Result<(), AllocError>
     ensures { OnOk result (out.new ≡ out.old ++ (if nat_le replica.now.view last_view then send_to_all start_view_change replica.now else [])) }
 {
@@ -80,7 +80,7 @@ fn tell_view(replica: &Replica, out: &mut Outbox) -> Result<(), AllocError>
 }
 
 // A replica whose view isn't started sends each other one a `start_view_change` of it, unless it is past the last view; before that it counts itself
-// alone as heard. One whose view is started does nothing. No call of the disk is made. After `Ok` it is ready.
+// alone as heard. One whose view is started stays as it is. All else of the replica stays, and no call of the disk is made. After `Ok` it is ready.
 #[tactic(auto, using(crate::proofs::Begins::announce_then, crate::proofs::Begins::announce_none, crate::proofs::Begins::ready_heard, vr_journal::proofs::Stepping::does_no_memory))]
 fn announce<D: SectorDisk>(
     replica: &mut Replica,

@@ -169,10 +169,11 @@ pub(crate) fn is_same(found: &Config, asked: &Config) -> bool
     *found == *asked
 }
 
-/// The replica of a disk, if that is the disk of the member that is asked for. Its superblock is mended, its Parts are found, and it goes on from
-/// there; after `Ok` it is ready. `Lost`: no two good copies agree, and no call is made; `OtherMember`: that member's superblock is mended, and no
-/// other call made. `Halted`: the calls were made up to the one that failed, which alone adds one to the disk's faults; or a front of them, for want
-/// of memory. Of another member's disk these are the mending's alone.
+/// The replica of a disk, if that is the disk of the member that is asked for; after `Ok` it is ready. Its superblock is mended and its Parts found;
+/// then, unless sequence numbers are at their end, it leaves a view that it led, loads, applies, and tells the others. `Lost`: no two good copies
+/// agree, and no call is made; `OtherMember`: that member's superblock is mended, and no other call made. `Halted`: the calls were made up to the one
+/// that failed, which alone adds one to the disk's faults; or a front of them, for want of memory. Of another member's disk these are the mending's
+/// alone.
 #[tactic(auto, using(crate::proofs::Recovers::recovered, crate::proofs::Recovers::halted, crate::proofs::Recovers::other_member))]
 pub fn recover<D: SectorDisk>(
     alloc: Global,
@@ -200,10 +201,10 @@ pub fn recover<D: SectorDisk>(
     }
 }
 
-/// The replica of a disk whose file is of this version, whatever member's disk it is: `OtherMember` never comes. Its superblock is mended, its Parts
-/// are found, and it goes on from there; after `Ok` it is ready. `Lost`: no two good copies agree, or the file is of another version, and all copies
-/// are called good; no call is made. `Halted`: the calls were made up to the one that failed, which alone adds one to the disk's faults; or a front
-/// of them, for want of memory.
+/// The replica of a disk whose file is of this version, whatever member's disk it is: `OtherMember` never comes. Its superblock is mended and its
+/// Parts found; then, unless sequence numbers are at their end, it leaves a view that it led, loads, applies, and tells the others. After `Ok` it is
+/// ready. `Lost`: no two good copies agree, or the file is of another version, and all copies are called good; no call is made. `Halted`: the calls
+/// were made up to the one that failed, which alone adds one to the disk's faults; or a front of them, for want of memory.
 #[tactic(auto, using(crate::proofs::Recovers::recovered_any, crate::proofs::Recovers::halted_any, crate::proofs::Recovers::refused_any))]
 pub fn recover_any<D: SectorDisk>(
     alloc: Global,

@@ -24,8 +24,8 @@ fn number_after(number: u64, output: &Output) -> u64
     }
 }
 
-/// Adds the line of each output behind the text, in order. `number` is that of the next message: one that is sent has it in its
-/// line, and it is one more behind it, up to 2^64 - 1. After an `Err`, want of memory, nothing is said of text and number.
+/// Adds the line of each output behind the text, in order. A message that is sent has `number` in its line, which goes up by one
+/// behind it, to 2^64 - 1 at most; other outputs leave it. After an `Err`, want of memory, nothing is said of text and number.
 #[tactic(auto, using(std::proofs::lemmas::Grind::common_steps, crate::proofs::Outputs::text_more, crate::proofs::Outputs::text_none, crate::proofs::Outputs::numbers_more, crate::proofs::Outputs::numbers_none))]
 pub fn put_text(number: &mut u64, outputs: &[Output], text: &mut ByteList) -> Result<(), AllocError>
     ensures text { OnOk result (text.new ≡ text.old ++ text_from number.old outputs.now) }

@@ -45,9 +45,9 @@ fn arrive<M: Member, D: SectorDisk, K: Sink, L: Link>(
     }
 }
 
-/// A look at the clock: where `now` is at least `TICK` above `last`, a tick is handled whole, as one event. It returns the last
-/// tick after that: `now` where it ticked or where `now` is below `last`, and else `last`. An `Err` cuts the tick off, and of its
-/// outputs at most a front went out. Nothing is received or attached, so it is never `Link`.
+/// A look at the clock: where `now` is at least `TICK` above `last`, a tick is one event: a step, its text, its datagrams. It
+/// returns the last tick after that: `now` where it ticked or where `now` is below `last`, and else `last`. An `Err` cuts the
+/// tick off, and of its outputs at most a front went out. Nothing is received or attached, so it is never `Link`.
 #[tactic(auto, using(crate::proofs::Ending::causes_none, crate::proofs::Ending::causes_later, crate::proofs::Ending::causes_received))]
 fn beat<M: Member, D: SectorDisk, K: Sink, L: Link>(
     alloc: Global,
@@ -70,10 +70,11 @@ fn beat<M: Member, D: SectorDisk, K: Sink, L: Link>(
     Ok(now)
 }
 
-/// One receive with what comes of it, then one number of the clock, and a tick where that is at least `TICK` above `last`. It
-/// returns the last tick after it: the number where it ticked or is below `last`, and else `last`. An `Err` cuts it off at the
-/// receive or its event, where the clock wasn't asked, or at the tick, behind an event that happened whole. It is `Link` only
-/// where the receive failed; nothing is attached.
+/// One receive with its event, then one number of the clock, and a tick where that is at least `TICK` above `last`: each event a
+/// step, its text, then its datagrams. It returns the last tick after it: the number where it ticked or is below `last`, and else
+/// `last`. An `Err` cuts it off at the receive or its event, where the clock wasn't asked, or at the tick, behind an event that
+/// happened whole. It is `Link` only where the receive failed. Disk, sink and link count one fault more where the `Err` names
+/// them, and else none; nothing is attached.
 #[tactic(auto, using(crate::proofs::Ending::causes_none, crate::proofs::Ending::causes_later, crate::proofs::Ending::causes_received))]
 fn turn<M: Member, D: SectorDisk, K: Sink, L: Link, C: Clock>(
     alloc: Global,
@@ -94,7 +95,8 @@ fn turn<M: Member, D: SectorDisk, K: Sink, L: Link, C: Clock>(
 
 /// So many turns one after another: in each a receive with its event, then one number of the clock, and a tick where one is due.
 /// It returns the last tick after them. An `Err` cuts off one turn, at its receive or at one of its events: all events before
-/// that happened whole, and no later turn was begun. It is `Link` only where the last receive failed; nothing is attached.
+/// that happened whole, and no later turn was begun. It is `Link` only where the last receive failed. Disk, sink and link count
+/// one fault more where the `Err` names them, and else none; nothing is attached.
 #[tactic(auto, using(crate::proofs::Ending::causes_none, crate::proofs::Ending::causes_later, crate::proofs::Ending::causes_received))]
 fn take_turns<M: Member, D: SectorDisk, K: Sink, L: Link, C: Clock>(
     alloc: Global,
