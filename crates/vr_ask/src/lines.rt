@@ -87,9 +87,9 @@ fn take_line<S: Source, K: Sink, L: Link>(
 }
 
 /// Asks the lines of the source in order, from number 1 on; each one's outcome is written before the next line is read. `Done`: the source is at its
-/// end. `Refused`: the line with that number isn't asked, being no operation of this version, too long, or above `LIMIT`. Else an ask or a read ends
-/// it: all lines before have their outcomes written, and nothing is read or asked after it. Source, link and sink count one fault more where the
-/// status names them, and else none; nothing is attached.
+/// end. `Refused`: the line with that number isn't asked, being no operation of this version, too long, or above `LIMIT`. Else the read, the ask or
+/// the write of one line ends it, and nothing of a later one is done; after `SessionLost` alone its answer is written whole. Source, link and sink
+/// count one fault more where the status names them, and else none; nothing is attached.
 #[tactic(auto, using(std::proofs::lemmas::Grind::common_steps, crate::proofs::Exchanges::midst_begins, crate::proofs::Exchanges::midst_more, crate::proofs::Exchanges::ends_at, crate::proofs::Exchanges::stops_later, crate::proofs::Exchanges::one_too_many, crate::proofs::Exchanges::heard_writes, crate::proofs::Exchanges::heard_links))]
 pub fn ask_lines<S: Source, K: Sink, L: Link>(
     alloc: Global,

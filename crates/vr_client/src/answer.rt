@@ -79,8 +79,8 @@ fn heed_kind(n: u8, view: u32, kind: ReplyKind) -> Heed
     }
 }
 
-/// A reply to a request of another name is ignored. One to this request is the answer, or ignored where it says busy; a redirect
-/// moves the client to the primary of its view, the view modulo `n`.
+/// A reply to a request of another name is ignored. Of one to this request an outcome, `Old`, `Gap` or `Evicted` is the answer,
+/// busy is ignored, and a redirect moves the client to the primary of its view, the view modulo `n`.
 fn heed_reply(n: u8, name: &Sum, reply: Reply) -> Heed
     requires { 0 < n }
     ensures { result ≡ heed_reply n name.now reply }
@@ -93,8 +93,9 @@ fn heed_reply(n: u8, name: &Sum, reply: Reply) -> Heed
     }
 }
 
-/// Heeds a reply to the request of this name alone: it is the answer, or ignored where it says busy, and a redirect moves to the
-/// view modulo `n`. Nothing, any other message and any other reply are ignored. A port that it moves to is below `n`.
+/// Heeds only a reply to the request of this name. An outcome, `Old`, `Gap` or `Evicted` is the answer, busy is ignored, and a
+/// redirect moves the client to the primary of its view, the view modulo `n`. Nothing, any other message and any other reply are
+/// ignored. A port that it moves to is below `n`.
 pub fn heed_letter(n: u8, name: &Sum, letter: Option<Letter>) -> Heed
     requires { 0 < n }
     ensures value { result ≡ heed n name.now letter }

@@ -31,9 +31,10 @@ fn make_member<D: SectorDisk>(
     }
 }
 
-/// Finds a member again on its disk: its superblock is mended, its Parts are found, and the rules' opening is done, with what that puts out in
-/// `first`. `SuperLost`: no value opens, and no call was made; `OtherMember`: that member's superblock was mended, and nothing else. `DiskFault` adds
-/// one to the disk's faults, and no other end does: the calls were made up to the one that failed. `NoMemory`: a front of them was.
+/// Finds a member again on its disk, which runs: its superblock is mended and its Parts found. Then, unless sequence numbers are at their end, it
+/// leaves a view that it led, loads, applies, and tells the others; `first` has what that puts out. `SuperLost`: no value opens, and no call was
+/// made; `OtherMember`: that member's superblock was mended, and nothing else. `DiskFault` adds one to the disk's faults, and no other end does: the
+/// calls were made up to the one that failed. `NoMemory`: a front of them was.
 #[tactic(auto, using(crate::proofs::Opened::found_lost, crate::proofs::Opened::found_other, crate::proofs::Opened::found_halted, crate::proofs::Opened::found_wanting))]
 fn find_member<D: SectorDisk>(
     alloc: Global,

@@ -40,7 +40,8 @@ fn is_occupied<D: SectorDisk>(disk: &mut D) -> bool
     opens(disk).is_some()
 }
 
-// The replica of a member of a new group, for a file of this kind, before its disk is formatted; it is ready.
+// The replica of a member of a new group, for a file of this kind, before its disk is formatted. It has its first value, knows `Nothing` of every op,
+// and is ready.
 #[tactic(auto, using(crate::proofs::Makes::fresh_ready))]
 fn make_member(alloc: Global, config: Config, kind: Kind) -> Result<Replica, NoMemory>
     requires size { is_size kind.version config.n ≡ true }

@@ -162,8 +162,9 @@ fn recover_olds<D: SectorDisk>(
     Ok(())
 }
 
-// Finds the op at this place of the window: its Part is what its slot says of it. Where that needs it, the header sector is written again and synced
-// first. Nothing is put out. After `Ok` the Parts up to this op are found, and the saved value is as it was.
+// Finds the op at this place of the window. It is `Here` where its slot's prepare is its entry; a header sector that doesn't fit beside that is first
+// written again, and synced. Else it is `Lost`, `Wanted`, `Nothing` or `Unknown`, by the table of `verdict`, and nothing is written. Nothing is put
+// out. After `Ok` the Parts up to this op are found, and the saved value is as it was.
 #[tactic(auto, using(crate::proofs::Olds::nth_before, crate::proofs::Olds::nth_after, crate::proofs::Olds::nth_step, crate::proofs::Olds::nth_fits))]
 fn recover_nth<D: SectorDisk>(
     replica: &mut Replica,
@@ -183,9 +184,9 @@ fn recover_nth<D: SectorDisk>(
     recover_op(replica, disk, op, buffer, out)
 }
 
-// Finds the 64 ops above the checkpoint, ascending: each one's Part is what its slot says of it, and where that needs it, the header sector is
-// written again. Nothing is put out. After `Ok` all Parts of the window are found, and the saved value is as it was. A fault ends it there: no slot
-// after it is written.
+// Finds the 64 ops above the checkpoint, ascending. One is `Here` where its slot's prepare is its entry; a header sector that doesn't fit beside that
+// is first written again, and synced. Else it is `Lost`, `Wanted`, `Nothing` or `Unknown`, by the table of `verdict`. Nothing is put out; a fault
+// ends it, and no slot after it is written. After `Ok` all Parts of the window are found, and the saved value is as it was.
 #[tactic(auto, using(vr_journal::proofs::Stepping::going_begins, vr_journal::proofs::Stepping::going_ends, crate::proofs::Olds::ops_at, crate::proofs::Olds::ops_stopped, crate::proofs::Olds::ops_begin, crate::proofs::Olds::window_length))]
 fn recover_window<D: SectorDisk>(
     replica: &mut Replica,
@@ -208,9 +209,9 @@ fn recover_window<D: SectorDisk>(
     Ok(())
 }
 
-// Finds the 64 ops above the checkpoint, ascending, with a buffer of its own to read into. Each one's Part is what its slot says of it, and where
-// that needs it, the header sector is written again. Nothing is put out. After `Ok` all Parts of the window are found, and the saved value is as it
-// was.
+// Finds the 64 ops above the checkpoint, ascending, with a buffer of its own to read into. One is `Here` where its slot's prepare is its entry; a
+// header sector that doesn't fit beside that is first written again, and synced. Else it is `Lost`, `Wanted`, `Nothing` or `Unknown`, by the table of
+// `verdict`. Nothing is put out. After `Ok` all Parts of the window are found, and the saved value is as it was.
 #[tactic(auto, using(vr_journal::proofs::Stepping::does_no_memory))]
 fn recover_ops<D: SectorDisk>(
     replica: &mut Replica,
@@ -306,10 +307,10 @@ fn cloud(replica: &mut Replica)
     }
 }
 
-/// Finds its Parts again by what the slots say. In this order: the ops up to the checkpoint that the value names, without a write; the 64 ops of the
-/// window, with header sectors written again where needed. Then above the value's head nothing is denied below an op that was stored, and ops 64 or
-/// more below the head are forgotten. Nothing is put out. After `Ok` it is ready, with nothing applied above its checkpoint, and the saved value is
-/// as it was.
+/// Finds its Parts again. First those of the ops up to the checkpoint that the value names, `Here` where the slot has the entry, else `Lost`, without
+/// a write; then the window's, with header sectors written again where needed. Then each `Nothing` above the value's head and below a `Here` or
+/// `Lost` becomes `Unknown`, and ops 64 or more below the head are forgotten. Nothing is put out. After `Ok` it is ready, with nothing applied above
+/// its checkpoint, and the saved value is as it was.
 #[tactic(auto, using(crate::proofs::Clouds::parts_then, crate::proofs::Clouds::parts_stopped, crate::proofs::Clouds::parts_halted, crate::proofs::Clouds::window_opening, crate::proofs::Clouds::window_clouded, crate::proofs::Clouds::opened_ready))]
 pub fn recover_parts<D: SectorDisk>(
     replica: &mut Replica,

@@ -70,11 +70,10 @@ fn beat<M: Member, D: SectorDisk, K: Sink, L: Link>(
     Ok(now)
 }
 
-/// One receive with its event, then one number of the clock, and a tick where that is at least `TICK` above `last`: each event a
-/// step, its text, then its datagrams. It returns the last tick after it: the number where it ticked or is below `last`, and else
-/// `last`. An `Err` cuts it off at the receive or its event, where the clock wasn't asked, or at the tick, behind an event that
-/// happened whole. It is `Link` only where the receive failed. Disk, sink and link count one fault more where the `Err` names
-/// them, and else none; nothing is attached.
+/// One receive with its event, then one number of the clock, and a tick where that is at least `TICK` above `last`. It returns
+/// the last tick after it: the number where it ticked or is below `last`, and else `last`. An `Err` cuts it off at the receive or
+/// its event, where the clock wasn't asked, or at the tick, behind an event that happened whole. It is `Link` only where the
+/// receive failed. Disk, sink and link count one fault more where the `Err` names them, and else none; nothing is attached.
 #[tactic(auto, using(crate::proofs::Ending::causes_none, crate::proofs::Ending::causes_later, crate::proofs::Ending::causes_received))]
 fn turn<M: Member, D: SectorDisk, K: Sink, L: Link, C: Clock>(
     alloc: Global,

@@ -19,9 +19,9 @@ use vr_status::Status;
 use vr_trial::run_trial;
 use vr_words::{Command, WordsFault, parse};
 
-/// Does what a command asks for: a replay, a soak, a member, a client, a trial or a migration. The status is one that this command may have. It has
-/// its cause: the source, sink, disk or link that it names counts one fault more, the others none. Objects that the command has no use for are
-/// unchanged: the spawner has one in a trial alone.
+/// Does what a command asks for, over the objects that it has a use for. A replay has one for source and sink, a soak for the sink, a member for
+/// sink, disk, link and clock, a client for source, sink and link. A trial has one for sink, link and spawner, a migration for the disk; all others
+/// are unchanged. The status is one that this command may have: a source, sink, disk or link that it names counts one fault more, the others none.
 #[tactic(auto, using(crate::proofs::Coming::replays, crate::proofs::Coming::soaks, crate::proofs::Coming::moves, crate::proofs::Coming::node_size, crate::proofs::Coming::node_member, crate::proofs::Coming::node_fits, crate::proofs::Coming::client_size, crate::proofs::Coming::client_named, crate::proofs::Coming::trial_least, crate::proofs::Coming::trial_most))]
 fn obey<S: Source, K: Sink, D: SectorDisk, L: Link, C: Clock, P: Spawner>(
     alloc: Global,

@@ -15,7 +15,7 @@ use vr_spawn::Spawner;
 use vr_status::Status;
 
 impl Course {
-    /// Has the spawner start a member by its words, those of a new file where `is_fresh`; after `Ok` it runs by the number that it was
+    /// Has the spawner start a member by its words, those of a new file where `is_fresh`. After `Ok` it runs by the number that it was
     /// given, and the others as before. `NoMemory`: the spawner wasn't called. `SpawnFault`: the start failed, and by it alone the
     /// spawner counts one fault more. After an `Err` the same members run as before; the client stays in each case.
     #[tactic(auto, using(std::proofs::lemmas::Grind::common_steps, crate::proofs::Stepping::started_with, crate::proofs::Stepping::unstarted, crate::proofs::Stepping::uncalled))]

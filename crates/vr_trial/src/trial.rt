@@ -58,9 +58,9 @@ fn take_or_end<K: Sink, L: Link, P: Spawner>(
     }
 }
 
-/// In this order: the members are started with new files, client 1 attaches its link, registers and puts keys 1 to 8, member 0 is stopped
-/// and started with its file. Then the client gets keys 1 to 8, and all members are stopped. Each start, stop and answer has its line in
-/// the sink: `Done` where each step went well. Else the status is that of the step that didn't; none comes after it, and the members that
+/// In this order: the members are started with new files, client 1 attaches its link, registers and puts keys 1 to 8, and member 0 is
+/// stopped and started again. Then the client gets keys 1 to 8, and all members are stopped: `Done` where each went well. Each start,
+/// stop and answer has its line in the sink. Else the status is that of the step that didn't; none comes after it, and the members that
 /// run are stopped, whatever comes of that. `NoMemory` before the first step: no object was called; link and sink count one fault more
 /// where the status names them, and else none.
 #[tactic(auto, using(std::proofs::lemmas::Grind::common_steps, crate::proofs::Runs::ends_short, crate::proofs::Numbering::script_next))]
