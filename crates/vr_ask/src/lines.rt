@@ -61,10 +61,11 @@ fn next_operation<S: Source>(
     }
 }
 
-/// Reads the line with this number, asks its operation with that number, and writes the answer's line: `Ok` where it is an outcome. After an `Err` of
-/// the reading, `Done`, `Refused`, `ReadFault` or `NoMemory`, nothing was asked or written. Any other `Err` is an end of the ask, behind a line that
-/// was read. Source, link and sink count one fault more where the `Err` names them, and else none; nothing is attached. After `Ok` the next number is
-/// one more, and the client keeps its version, group and id.
+/// Reads the line with this number, asks its operation with that number, and writes the answer's line: `Ok` where it is an outcome. After `Done`,
+/// `Refused` and `ReadFault` nothing was asked or written; `NoMemory` may come before the ask, or in it. The other ends come of the ask: after
+/// `SessionLost` the answer's line is written, after `WriteFault` or `NoMemory` a front of it at most. Source, link and sink count one fault more
+/// where the `Err` names them, and else none; nothing is attached. After `Ok` the next number is one more, and the client keeps its version, group
+/// and id.
 #[tactic(auto, using(crate::proofs::Exchanges::taken, crate::proofs::Exchanges::exchange_counts, crate::proofs::Exchanges::heard_writes, crate::proofs::Exchanges::heard_links))]
 fn take_line<S: Source, K: Sink, L: Link>(
     alloc: Global,

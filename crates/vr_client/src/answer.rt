@@ -80,7 +80,7 @@ fn heed_kind(n: u8, view: u32, kind: ReplyKind) -> Heed
 }
 
 /// A reply to a request of another name is ignored. Of one to this request an outcome, `Old`, `Gap` or `Evicted` is the answer,
-/// busy is ignored, and a redirect moves the client to the primary of its view, the view modulo `n`.
+/// and busy is ignored. A redirect moves the client to the primary of the reply's view, the view modulo `n`.
 fn heed_reply(n: u8, name: &Sum, reply: Reply) -> Heed
     requires { 0 < n }
     ensures { result ≡ heed_reply n name.now reply }

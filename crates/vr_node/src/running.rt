@@ -109,10 +109,10 @@ fn open_and_serve<D: SectorDisk, L: Link, C: Clock, K: Sink>(
     }
 }
 
-/// In this order: its disk is attached by its file's name, the member made or found again as its role says, its link attached, what it puts out first
-/// sent, its turns served. Where one of these fails, the status says why, and the next ones aren't begun: their objects stay as they were.
-/// `DiskFault` may come of the attach, the opening or a step; `LinkFault` of the attach or the last receive. In the turns each event is one step of
-/// the rules; of the last one at most a front was put out, no datagram before its whole text.
+/// In this order: its disk is attached by its file's name, the member made or found again as its role says, its link attached, its turns served.
+/// Where one of these fails, the status says why, and the next ones aren't begun: their objects stay as they were. `DiskFault` may come of the
+/// attach, the opening or a step; `LinkFault` of the attach or the last receive. The opening's outputs go out before the first turn. Each event is
+/// one step of the rules; of the last one at most a front was put out, no datagram before its whole text.
 #[tactic(auto, using(crate::proofs::Ends::attached, crate::proofs::Ends::unattached))]
 pub fn run_node<D: SectorDisk, L: Link, C: Clock, K: Sink>(
     alloc: Global,

@@ -307,10 +307,10 @@ fn cloud(replica: &mut Replica)
     }
 }
 
-/// Finds its Parts again. First those of the ops up to the checkpoint that the value names, `Here` where the slot has the entry, else `Lost`, without
-/// a write; then the window's, with header sectors written again where needed. Then each `Nothing` above the value's head and below a `Here` or
-/// `Lost` becomes `Unknown`, and ops 64 or more below the head are forgotten. Nothing is put out. After `Ok` it is ready, with nothing applied above
-/// its checkpoint, and the saved value is as it was.
+/// Finds its Parts again. An op up to the checkpoint that the value names is `Here` where its slot has the entry, and else `Lost`, without a write.
+/// Then come the window's, with header sectors written again where needed. Then each `Nothing` above the value's head and below a `Here` or `Lost`
+/// becomes `Unknown`, and ops 64 or more below the head are forgotten. Nothing is put out; after `Ok` it is ready, with nothing applied above its
+/// checkpoint, and the saved value is as it was.
 #[tactic(auto, using(crate::proofs::Clouds::parts_then, crate::proofs::Clouds::parts_stopped, crate::proofs::Clouds::parts_halted, crate::proofs::Clouds::window_opening, crate::proofs::Clouds::window_clouded, crate::proofs::Clouds::opened_ready))]
 pub fn recover_parts<D: SectorDisk>(
     replica: &mut Replica,
