@@ -1,5 +1,5 @@
-//! The commands over the outside that is handed in, each by its words: a replay, a summary, a member, a client, a trial, and a file's migration; and how a program says
-//! its end.
+//! The commands over the outside that is handed in, each by its words: a replay, a summary, a member, a client, a trial, and a file's migration.
+//! And how a program says its end.
 #![tactic(auto)]
 
 mod command;
