@@ -3,6 +3,8 @@ use Rattle.std.proofs.Common.{ℕ, ◌≡◌, ◌⊎◌, inl, inr, refl, sym, ap
 use Rattle.std.specs.Prelude.{Err}
 use Rattle.vr_base.specs.declared.table.Config.{Config}
 use Rattle.vr_disk.specs.DiskState.{Disk, Face, Sync, after}
+use Rattle.vr_disk.specs.declared.fault.Halt.{Halt}
+use Rattle.vr_disk.specs.declared.fault.Halt.TheVariants as halt
 use Rattle.vr_msg.specs.declared.event.Event.{Event}
 use Rattle.vr_world.specs.Group.{Arrival, opening_script}
 use Rattle.vr_world.specs.Lying.{Lying, lying}
@@ -14,12 +16,9 @@ use Rattle.vr_node.specs.Replica.{Replica, version}
 use Rattle.vr_node.specs.Rules.{react}
 use Rattle.vr_node.specs.Sectors.{script_calls, sectors_by}
 use Rattle.vr_node.specs.Opening.{Opens}
-use Rattle.vr_node.specs.Steps.{steps, stops, why_of}
+use Rattle.vr_node.specs.Steps.{steps, stops}
 use Rattle.vr_node.specs.declared.node.Node.{Node}
-use Rattle.vr_replica.specs.Halt as replica
-use Rattle.vr_replica.specs.Halt.TheVariants as halt
 use Rattle.vr_serve.specs.Runs.{Did, IsRun}
-use Rattle.vr_serve.specs.declared.member.Halt.{Halt}
 use Rattle.vr_lying.proofs.Versions.{blank_by}
 use Rattle.law_7_members.specs.Ends.{EndsAs, FoundRunsEnd, MadeRunsEnd, TellsAgain, step_calls}
 use Rattle.law_7_members.specs.Files as files
@@ -34,7 +33,7 @@ use Rattle.law_7_members.proofs.Whole.{TellsFace, did_own, face_all, opened_as, 
 -- ---- a step that stopped
 
 -- a stop of a step, by a call that failed or for want of memory
-pub halt_left : (n : ℕ) (s : Step) (r : Replica) (d : Disk) (d' : Option Disk) (h : replica.Halt) → d.face.waiting ≡ [] → LeftBy n s r d d' [] [] (Err h) → HasStopped (script_calls n s.script d.face) d.face d'
+pub halt_left : (n : ℕ) (s : Step) (r : Replica) (d : Disk) (d' : Option Disk) (h : Halt) → d.face.waiting ≡ [] → LeftBy n s r d d' [] [] (Err h) → HasStopped (script_calls n s.script d.face) d.face d'
 halt_left n s r d d' halt.DiskFault e x = failed_stopped (script_calls n s.script d.face) d d' e x
 halt_left n s r d d' halt.NoMemory e x = front_stopped (script_calls n s.script d.face) d d' e x
 
@@ -43,7 +42,7 @@ step_stopped : (file : Lying) (node last : Node) (e : Event) (h : Halt) (d : Dis
 step_stopped file node last e h d d' tells rests own stopped =
     let r = node.replica.memory in
     let n = version r in
-    let made = halt_left n (react e (sectors_by n) r d.face) last.replica.memory d d' (why_of h) (ap (λ (f : Face). f.waiting) tells ∙ rests) (stopped.told d refl) in
+    let made = halt_left n (react e (sectors_by n) r d.face) last.replica.memory d d' h (ap (λ (f : Face). f.waiting) tells ∙ rests) (stopped.told d refl) in
     let here = subst (λ n. HasStopped (script_calls n (react e (sectors_by n) r d.face).script d.face) d.face d') own made in
     subst (λ f. HasStopped (script_calls file.version (react e (sectors_by file.version) r f).script f) f d') tells here
 

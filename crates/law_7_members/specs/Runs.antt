@@ -3,13 +3,13 @@ use Rattle.std.specs.Prelude.{ℕ, ◌≡◌, ◌⊎◌, ◌++◌, List, Option}
 use Rattle.vr_base.specs.declared.kind.Kind.{Kind}
 use Rattle.vr_base.specs.declared.table.Config.{Config}
 use Rattle.vr_disk.specs.DiskState.{Disk}
+use Rattle.vr_disk.specs.declared.fault.Halt.{Halt}
 use Rattle.vr_edge.specs.Told.{AppendsFront}
 use Rattle.vr_msg.specs.declared.event.Event.{Event}
 use Rattle.vr_msg.specs.declared.output.Output.{Output}
 use Rattle.vr_serve.specs.Causes.{Counts}
 use Rattle.vr_serve.specs.Outputs.{numbers_after, text_from}
 use Rattle.vr_serve.specs.Runs.{Did, IsRun, texts_of}
-use Rattle.vr_serve.specs.declared.member.Halt.{Halt}
 use Rattle.vr_node.specs.Opening.{Opens}
 use Rattle.vr_node.specs.Running.{Outside, Ran}
 use Rattle.vr_node.specs.Steps.{steps, stops}

@@ -4,10 +4,10 @@ use Rattle.std.specs.Option.{option_and_then}
 use Rattle.vr_disk.specs.DiskState.{Call, Disk, Sync, Face, Runs}
 use Rattle.vr_disk.specs.Regions.{block_place}
 use Rattle.vr_disk.specs.Sectors.{together, writes}
+use Rattle.vr_disk.specs.declared.fault.Halt.{Halt}
+use Rattle.vr_disk.specs.declared.fault.Halt.TheVariants as halt
 use Rattle.vr_ckpt.specs.Blocks.{Content, named}
 use Rattle.vr_ckpt.specs.Places.{grid_size}
-use Rattle.vr_ckpt.specs.declared.fault.CkptFault.{CkptFault}
-use Rattle.vr_ckpt.specs.declared.fault.CkptFault.TheVariants as fault
 use Rattle.vr_ckpt.specs.declared.name.Name.{Name}
 
 -- what the eight sectors of a block read as together, None where one of them can't be read
@@ -33,7 +33,7 @@ pub record IsWhole (name : Name) (bytes : List ℕ) (payload : ℕ) : Type 0 whe
   pub size : length content.payload ≡ payload
 
 -- what these calls leave, by the answer: want of memory comes before the first of them
-abbrev pub Leaves : {T : Type 0} → List Call → Option Disk → Option Disk → Result T CkptFault → Type 0
+abbrev pub Leaves : {T : Type 0} → List Call → Option Disk → Option Disk → Result T Halt → Type 0
 Leaves cs old new (Ok x) = Runs cs old new true
-Leaves cs old new (Err fault.DiskFault) = Runs cs old new false
-Leaves cs old new (Err fault.NoMemory) = new ≡ old
+Leaves cs old new (Err halt.DiskFault) = Runs cs old new false
+Leaves cs old new (Err halt.NoMemory) = new ≡ old

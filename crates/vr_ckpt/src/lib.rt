@@ -4,7 +4,6 @@
 
 mod block;
 mod check;
-mod fault;
 mod found;
 mod grid;
 mod laws;
@@ -22,7 +21,6 @@ mod view;
 mod writing;
 
 pub use block::{BLOCK_SIZE, Block, DATA, PAYLOAD_AT, PAYLOAD_SIZE, ROOT};
-pub use fault::CkptFault;
 pub use found::Load;
 pub use grid::grid_laws;
 pub use laws::checkpoint_laws;
@@ -34,5 +32,6 @@ pub use reading::read_block;
 pub use saving::{SavedCheckpoint, save};
 pub use table::{Payload, PayloadTable};
 pub use view::{BlockView, view_of};
+pub use vr_disk::Halt as CkptFault;
 pub use vr_state::{ReplyBody, SessionAnswer, State, StateFault, Texts};
 pub use writing::{put_block, write_at, write_block};

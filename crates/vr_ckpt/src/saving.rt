@@ -2,7 +2,7 @@
 ghost use Rattle.std.specs.Prelude.{◌≡◌, ◌++◌, OnOk, IfOk, IfSome, is_ok, [], ◌∷◌};
 ghost use Rattle.std.specs.List.{All};
 ghost use Rattle.vr_base.specs.Causes.{HasCause};
-ghost use Rattle.vr_disk.specs.Counts.{CountsFault};
+ghost use Rattle.vr_disk.specs.Counts.{Caused};
 ghost use Rattle.vr_disk.specs.DiskState.{Runs, Sync};
 ghost use Rattle.vr_state.specs.StateTexts.{FitsPayloads};
 ghost use Rattle.vr_ckpt.specs.Grid.{Leaves};
@@ -14,10 +14,10 @@ use crate::places::Places;
 use crate::plan::{Run, plan_text};
 use crate::root::root_block;
 use crate::writing::note_block;
-use crate::{Block, CkptFault, Name, PayloadTable, write_at};
+use crate::{Block, Name, PayloadTable, write_at};
 use std::alloc::Global;
 use vr_base::{NoMemory, Seq};
-use vr_disk::{DiskFailed, SectorDisk};
+use vr_disk::{DiskFailed, Halt, SectorDisk};
 use vr_state::Texts;
 
 /// A checkpoint that was saved: the name of its root, and what it has in its blocks.
@@ -129,12 +129,12 @@ pub fn save<D: SectorDisk>(
     texts: &Texts,
     op: u64,
     old: &PayloadTable,
-) -> Result<SavedCheckpoint, CkptFault>
+) -> Result<SavedCheckpoint, Halt>
     requires op { IsCheckpoint op }
     requires texts { FitsPayloads texts.now }
     ensures saved { IfOk result (λ s. s ≡ saved_checkpoint cluster texts.now op old.now) }
     ensures runs { Leaves (save_calls cluster texts.now op old.now) (D.told disk.old) (D.told disk.new) result }
-    ensures cause { CountsFault CkptFault.DiskFault (D.faults disk.old) (D.faults disk.new) result }
+    ensures cause { Caused (D.faults disk.old) (D.faults disk.new) result }
     ensures others { D.read_faults disk.new ≡ D.read_faults disk.old }
 
     // Over a table that the disk holds it loads at the end as it was saved.
@@ -144,11 +144,7 @@ pub fn save<D: SectorDisk>(
     ensures stop { IfSome (D.told disk.old) (λ d. d.face.waiting ≡ [] → SaveKeeps cluster texts.now op old.now d.face) }
 {
     let mut blocks = Seq::new(alloc);
-    match plan(alloc, cluster, texts, op, old, &mut blocks) {
-        Err(_) => Err(CkptFault::NoMemory),
-        Ok(saved) => match write_synced(disk, blocks.as_slice()) {
-            Err(_) => Err(CkptFault::DiskFault),
-            Ok(()) => Ok(saved),
-        },
-    }
+    let saved = plan(alloc, cluster, texts, op, old, &mut blocks)?;
+    write_synced(disk, blocks.as_slice())?;
+    Ok(saved)
 }

@@ -1,17 +1,18 @@
 //! Blocks written to their addresses.
 ghost use Rattle.std.specs.Prelude.{◌≡◌, ◌≤◌, ◌<◌, [], length, IfOk, IfSome, is_ok, is_some, true};
 ghost use Rattle.vr_base.specs.Causes.{HasCause};
-ghost use Rattle.vr_disk.specs.Counts.{CountsFault};
+ghost use Rattle.vr_disk.specs.Counts.{Caused};
 ghost use Rattle.vr_disk.specs.DiskState.{Runs};
 ghost use Rattle.vr_ckpt.specs.Blocks.{block_bytes, block_name, content_of, is_kind, named};
 ghost use Rattle.vr_ckpt.specs.Grid.{Leaves, block_calls, put_calls};
 ghost use Rattle.vr_ckpt.specs.GridLaws.{PutLeaves};
 
-use crate::{Block, CkptFault, Name};
+use crate::{Block, Name};
 use std::alloc::Global;
 use vr_base::{sum_at, u32_at, u64_at};
 use vr_disk::{
-    BLOCK_SECTORS, BLOCKS, DiskFailed, DiskFault, Room, SectorDisk, block_place, write_sectors,
+    BLOCK_SECTORS, BLOCKS, DiskFailed, DiskFault, Halt, Room, SectorDisk, block_place,
+    write_sectors,
 };
 
 /// Writes the eight sectors of a block; it takes no memory.
@@ -50,22 +51,18 @@ pub fn write_block<D: SectorDisk>(
     op: u64,
     kind: u8,
     payload: &[u8],
-) -> Result<Name, CkptFault>
+) -> Result<Name, Halt>
     requires address { address < BLOCKS }
     requires kind { is_kind kind ≡ true }
     requires payload { length payload.now ≤ 3968 }
     ensures name { IfOk result (λ n. n ≡ block_name (record { cluster = cluster; address = address; op = op; kind = kind; payload = payload.now })) }
     ensures runs { Leaves (block_calls address (block_bytes (record { cluster = cluster; address = address; op = op; kind = kind; payload = payload.now }))) (D.told disk.old) (D.told disk.new) result }
-    ensures cause { CountsFault CkptFault.DiskFault (D.faults disk.old) (D.faults disk.new) result }
+    ensures cause { Caused (D.faults disk.old) (D.faults disk.new) result }
     ensures others { D.read_faults disk.new ≡ D.read_faults disk.old }
 {
-    match Block::new(alloc, cluster, address, op, kind, payload) {
-        Err(_) => Err(CkptFault::NoMemory),
-        Ok(block) => match write_at(disk, address, block.bytes.as_slice()) {
-            Err(_) => Err(CkptFault::DiskFault),
-            Ok(()) => Ok(block.name),
-        },
-    }
+    let block = Block::new(alloc, cluster, address, op, kind, payload)?;
+    write_at(disk, address, block.bytes.as_slice())?;
+    Ok(block.name)
 }
 
 /// Puts a whole block of 4,096 bytes, which `is_block_of` tells, to the address of its name, and syncs it; it takes no memory.

@@ -13,7 +13,7 @@ mod sectors;
 
 pub use buffer::Buffer;
 pub use disk::{DiskFailed, NAME_MOST, SectorDisk};
-pub use fault::{DiskFault, Faulty};
+pub use fault::{DiskFault, Faulty, Halt};
 pub use laws::disk_laws;
 pub use memo::{Memo, Room};
 pub use none::NoDisk;

@@ -7,7 +7,7 @@ use Rattle.vr_msg.specs.declared.output.Output.{Output}
 use Rattle.vr_memory.specs.Replica.{Replica, part_at}
 use Rattle.vr_memory.specs.Outputs.{commit_line, applied_reply}
 use Rattle.vr_memory.specs.Words.{applied, apply_entry, apply_next, with_entry, with_entry_at, is_loaded, is_checkpoint, make_checkpoint}
-use Rattle.vr_step.specs.declared.halt.Halt.{Halt}
+use Rattle.vr_disk.specs.declared.fault.Halt.{Halt}
 use Rattle.vr_step.specs.Does.{Does}
 use Rattle.vr_memory.specs.Ready.{due}
 use Rattle.vr_step.proofs.Stepping.{says_by_then, change_by_then, does_by, does_quiet}

@@ -6,7 +6,7 @@ use Rattle.vr_msg.specs.declared.output.Output.{Output}
 use Rattle.vr_msg.specs.Choice.{ops}
 use Rattle.vr_memory.specs.Replica.{Replica}
 use Rattle.vr_memory.specs.Steps.{Word, each}
-use Rattle.vr_step.specs.declared.halt.Halt.{Halt}
+use Rattle.vr_disk.specs.declared.fault.Halt.{Halt}
 use Rattle.vr_step.specs.Does.{Does, Going}
 use Rattle.vr_journal.specs.Telling.{each_to}
 use Rattle.vr_step.proofs.Stepping.{does_by, going_begins, going_ends, going_goes, going_stops}

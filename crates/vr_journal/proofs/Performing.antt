@@ -1,6 +1,8 @@
 -- What the calls of the storage crates are as effects.
 use Rattle.std.proofs.Common.{ℕ, ◌≡◌, refl, List, Bool, true, false, Option, Some, None, Result, Ok, Err}
 use Rattle.vr_disk.specs.DiskState.{Call, Disk, Runs, RunsFrom}
+use Rattle.vr_disk.specs.declared.fault.Halt.{Halt}
+use Rattle.vr_disk.specs.declared.fault.Halt.TheVariants.{DiskFault, NoMemory}
 use Rattle.vr_header.specs.Made.{Whole}
 use Rattle.vr_rings.specs.Calls.{again_calls, new_calls, header_calls}
 use Rattle.vr_ckpt.specs.Grid.{put_calls}
@@ -18,16 +20,12 @@ use Rattle.vr_ckpt.specs.declared.table.PayloadTable.{PayloadTable}
 use Rattle.vr_ckpt.specs.declared.saving.SavedCheckpoint as checkpoint
 use Rattle.vr_ckpt.specs.Saves.{save_calls, saved_checkpoint}
 use Rattle.vr_ckpt.specs.Grid.{Leaves}
-use Rattle.vr_ckpt.specs.declared.fault.CkptFault.{CkptFault}
-use Rattle.vr_ckpt.specs.declared.fault.CkptFault.TheVariants as fault
 use Rattle.vr_msg.specs.declared.output.Output.{Output}
 use Rattle.vr_memory.specs.Steps.{◌⨾◌, change, does}
 use Rattle.vr_memory.specs.Words.{checkpoints, checkpoint_of, with_checkpoint, make_checkpoint, save}
-use Rattle.vr_step.specs.declared.halt.Halt.{Halt}
-use Rattle.vr_step.specs.declared.halt.Halt.TheVariants.{DiskFault, NoMemory}
 use Rattle.vr_step.proofs.Stepping.{performs_ok, performs_fault, performs_want, performed, performs_halted, does_by, does_reading, does_then, does_no_memory, change_by_then}
 use Rattle.vr_memory.proofs.Versions.{checkpoint_stays}
-use Rattle.vr_step.specs.Does.{Does, Finds, Performs, PerformsTo}
+use Rattle.vr_step.specs.Does.{Does, Finds, Performs, PerformsTo, done}
 
 -- calls that don't depend on what the disk holds
 pub runs_from : (cs : List Call) (d d' : Option Disk) (ok : Bool) → Runs cs d d' ok → RunsFrom (λ f. cs) d d' ok
@@ -53,22 +51,18 @@ put_is name block r d d' ok k = record { silent = refl; ran = runs_from (put_cal
 
 -- ---- a checkpoint
 
-module _ (r : Replica) (cluster op : ℕ) (state : State) (texts : Texts) (table : PayloadTable) (d d' : Option Disk) (res : Result checkpoint.SavedCheckpoint CkptFault) (h : Leaves (save_calls cluster texts op table) d d' res)
-    (t : texts ≡ texts_of state) (s : state ≡ r.state) (i : cluster ≡ r.cluster) (j : op ≡ r.applied) (b : table ≡ r.table) where
-  pub checkpoint_ok : (c : checkpoint.SavedCheckpoint) → res ≡ Ok c → PerformsTo checkpoints r d d' (Ok tt)
-  checkpoint_ok c e =
-      let k : Runs (save_calls r.cluster (texts_of r.state) r.applied r.table) d d' true = rw (e, t, s, i, j, b) at h in
-      performs_ok checkpoints r d d' (record { silent = refl; ran = runs_from (save_calls r.cluster (texts_of r.state) r.applied r.table) d d' true k })
-
-  pub checkpoint_fault : res ≡ Err fault.DiskFault → PerformsTo checkpoints r d d' (Err DiskFault)
-  checkpoint_fault e =
-      let k : Runs (save_calls r.cluster (texts_of r.state) r.applied r.table) d d' false = rw (e, t, s, i, j, b) at h in
-      performs_fault checkpoints r d d' (record { silent = refl; ran = runs_from (save_calls r.cluster (texts_of r.state) r.applied r.table) d d' false k })
-
-  pub checkpoint_want : res ≡ Err fault.NoMemory → PerformsTo checkpoints r d d' (Err NoMemory)
-  checkpoint_want e =
-      let k : d' ≡ d = rw e at h in
-      rw k (performs_want checkpoints r d refl)
+-- a saved one is the effect, however the save ended
+pub checkpoint_left : (r : Replica) (cluster op : ℕ) (state : State) (texts : Texts) (table : PayloadTable) (d d' : Option Disk) (res : Result checkpoint.SavedCheckpoint Halt)
+    → Leaves (save_calls cluster texts op table) d d' res → texts ≡ texts_of state → state ≡ r.state → cluster ≡ r.cluster → op ≡ r.applied → table ≡ r.table → PerformsTo checkpoints r d d' (done res)
+checkpoint_left r cluster op state texts table d d' (Ok c) h t s i j b =
+    let k : Runs (save_calls r.cluster (texts_of r.state) r.applied r.table) d d' true = rw (t, s, i, j, b) at h in
+    performs_ok checkpoints r d d' (record { silent = refl; ran = runs_from (save_calls r.cluster (texts_of r.state) r.applied r.table) d d' true k })
+checkpoint_left r cluster op state texts table d d' (Err DiskFault) h t s i j b =
+    let k : Runs (save_calls r.cluster (texts_of r.state) r.applied r.table) d d' false = rw (t, s, i, j, b) at h in
+    performs_fault checkpoints r d d' (record { silent = refl; ran = runs_from (save_calls r.cluster (texts_of r.state) r.applied r.table) d d' false k })
+checkpoint_left r cluster op state texts table d d' (Err NoMemory) h t s i j b =
+    let k : d' ≡ d = h in
+    rw k (performs_want checkpoints r d refl)
 
 -- before anything is written
 pub checkpoint_none : (r : Replica) (d : Option Disk) → PerformsTo checkpoints r d d (Err NoMemory)
@@ -101,4 +95,4 @@ checkpoint_wanted r q d d1 o o' p =
     does_by _ r q d d1 o o' (Err NoMemory) (does_reading (checkpoint_of r) _ v r q d d d1 o o' (Err NoMemory) (checkpoint_found r d)
     (does_then (does checkpoints) (change (with_checkpoint v) ⨾ save) r r q d d1 d1 o o o' (Err NoMemory) (performed checkpoints r r d d1 o p) (does_no_memory (change (with_checkpoint v) ⨾ save) r q d1 o o')))
 
-pub ruleset checkpoint_made = (checkpoint_ok, checkpoint_fault, checkpoint_want, checkpoint_none)
+pub ruleset checkpoint_made = (checkpoint_left, checkpoint_none)

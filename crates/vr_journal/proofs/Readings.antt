@@ -13,7 +13,7 @@ use Rattle.vr_memory.specs.Replica.{Replica, is_here, part_at, version}
 use Rattle.vr_memory.specs.Outputs.{prepare, send_to_all}
 use Rattle.vr_memory.specs.Steps.{Word, says}
 use Rattle.vr_memory.specs.Words.{entry_of, lost, prepare_again, with_entry, with_entry_at}
-use Rattle.vr_step.specs.declared.halt.Halt.{Halt}
+use Rattle.vr_disk.specs.declared.fault.Halt.{Halt}
 use Rattle.vr_step.specs.Does.{Does, Finds}
 use Rattle.vr_step.proofs.Stepping.{does_by, does_quiet, found_then, found_lost, says_by}
 

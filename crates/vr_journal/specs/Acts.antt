@@ -7,7 +7,7 @@ use Rattle.vr_memory.specs.Replica.{Replica, last_view}
 use Rattle.vr_memory.specs.Steps.{Word}
 use Rattle.vr_msg.specs.declared.output.Output.{Output}
 use Rattle.vr_step.specs.Does.{Caused, Does}
-use Rattle.vr_step.specs.declared.halt.Halt.{Halt}
+use Rattle.vr_disk.specs.declared.fault.Halt.{Halt}
 
 -- It is ready, and its value can be saved so many times more.
 pub record MayAct (saves : ℕ) (r : Replica) : Type 0 where

@@ -6,7 +6,7 @@ use Rattle.vr_msg.specs.declared.output.Output.{Output}
 use Rattle.vr_memory.specs.Replica.{Replica}
 use Rattle.vr_memory.specs.Steps.{Word}
 use Rattle.vr_memory.specs.Words.{with_entry_at}
-use Rattle.vr_step.specs.declared.halt.Halt.{Halt}
+use Rattle.vr_disk.specs.declared.fault.Halt.{Halt}
 use Rattle.vr_step.specs.Does.{Does}
 
 -- The entry of an op was read, or there was none to be had: what a word does with it then, it does with the entry of that op.

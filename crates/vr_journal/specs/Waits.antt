@@ -5,7 +5,7 @@ use Rattle.vr_memory.specs.Words.{has_quorum, is_loaded}
 use Rattle.vr_memory.specs.Rule.{Rule}
 use Rattle.vr_memory.specs.Rule.TheVariants.{Ignored, PreparedBefore, Other, ChangeBefore}
 use Rattle.vr_memory.specs.Sound.{IsCaughtUp}
-use Rattle.vr_step.specs.declared.halt.Halt.{Halt}
+use Rattle.vr_disk.specs.declared.fault.Halt.{Halt}
 
 -- the next op hasn't its quorum, and all that can be is applied, as it is at each replica that runs
 pub record Waits (r : Replica) : Type 0 where

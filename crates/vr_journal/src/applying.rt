@@ -12,12 +12,11 @@ ghost use Rattle.vr_journal.specs.Acts.{Acts, MayAct, Spends};
 use crate::reading::find_entry;
 use crate::words::save;
 use std::alloc::Global;
-use vr_ckpt::{CkptFault, SavedCheckpoint};
-use vr_disk::SectorDisk;
+use vr_ckpt::SavedCheckpoint;
+use vr_disk::{Halt, SectorDisk};
 use vr_header::{Entry, Header, Part};
 use vr_memory::Replica;
 use vr_msg::Outbox;
-use vr_step::Halt;
 
 // Writes the checkpoint of the op just applied: the blocks that changed since the table before, then the root, then one sync. `Ok` gives
 // the new root's name and the new table. `HasApplied`: an entry was just applied, and nothing done since. After an `Err` the disk has had
@@ -36,18 +35,14 @@ fn put_checkpoint<D: SectorDisk>(
 {
     let texts = replica.state().encode_state()?;
     let table = replica.table();
-    match vr_ckpt::save(
+    vr_ckpt::save(
         alloc,
         disk,
         replica.cluster(),
         &texts,
         replica.applied(),
         table,
-    ) {
-        Ok(saved) => Ok(saved),
-        Err(CkptFault::DiskFault) => Err(Halt::DiskFault),
-        Err(CkptFault::NoMemory) => Err(Halt::NoMemory),
-    }
+    )
 }
 
 // In this order: the checkpoint of the op just applied is written, the window moves up to it, and the replica saves. Of the ops that come

@@ -7,10 +7,9 @@ ghost use Rattle.vr_journal.specs.Acts.{Acts, MayAct};
 
 use crate::applying::apply;
 use std::alloc::Global;
-use vr_disk::SectorDisk;
+use vr_disk::{Halt, SectorDisk};
 use vr_memory::{Replica, is_here};
 use vr_msg::Outbox;
-use vr_step::Halt;
 
 // Whether no block is missing, applied is below the commit number, and the Part of the op after applied is `Here`. Whether it reads isn't
 // looked at.

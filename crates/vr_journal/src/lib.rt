@@ -19,6 +19,6 @@ pub use effects::{put_block, rewrite_header};
 pub use loading::load;
 pub use preparing::prepare_again;
 pub use reading::{find_entry, read_entry};
+pub use vr_disk::Halt;
 pub use vr_memory::{LAST_VIEW, Log, Replica, Window, is_here, primary, valued};
-pub use vr_step::Halt;
 pub use words::{accept, enter, save, write};

@@ -9,10 +9,9 @@ ghost use Rattle.vr_journal.specs.Acts.{Acts, Keeps, Untouched};
 use std::alloc::Global;
 use vr_base::NoMemory;
 use vr_ckpt::Load;
-use vr_disk::SectorDisk;
+use vr_disk::{Halt, SectorDisk};
 use vr_memory::Replica;
 use vr_msg::Outbox;
-use vr_step::Halt;
 
 // What the disk has of the checkpoint with the replica's root: its texts and table, or what is missing. Missing is the root alone, where
 // that doesn't read, else the data blocks that don't. The disk is only read. An `Err` is want of memory.

@@ -7,10 +7,9 @@ ghost use Rattle.vr_journal.specs.Acts.{Acts, Keeps};
 
 use crate::reading::read_entry;
 use std::alloc::Global;
-use vr_disk::SectorDisk;
+use vr_disk::{Halt, SectorDisk};
 use vr_memory::Replica;
 use vr_msg::Outbox;
-use vr_step::Halt;
 
 /// Where the Part of this op is `Here` and its entry reads, one prepare of it goes to each other replica, ascending. Where it is `Here` and
 /// doesn't read, it becomes `Lost`; where it isn't `Here`, nothing is done. The disk is left as it is; after an `Err` nothing is said of

@@ -9,11 +9,10 @@ ghost use Rattle.vr_journal.specs.Acts.{Acts, Keeps, MayAct, Spends};
 
 use crate::effects::{save_value, write_entry};
 use std::alloc::Global;
-use vr_disk::SectorDisk;
+use vr_disk::{Halt, SectorDisk};
 use vr_header::Entry;
 use vr_memory::{LAST_VIEW, Replica, is_here};
 use vr_msg::Outbox;
-use vr_step::Halt;
 use vr_super::Super;
 
 // Saves this value, which is the present one: copies of the superblock that don't read as the value last saved are mended, then all four

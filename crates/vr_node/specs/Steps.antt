@@ -4,22 +4,13 @@ use Rattle.vr_node.specs.declared.node.Node.{Node}
 use Rattle.vr_replica.specs.Replica.{version}
 use Rattle.vr_replica.specs.Rules.{react}
 use Rattle.vr_serve.specs.Runs.{Doing, Halting}
-use Rattle.vr_serve.specs.declared.member.Halt.{Halt}
-use Rattle.vr_serve.specs.declared.member.Halt.TheVariants.{Disk, NoMemory}
 use Rattle.vr_replica.specs.Does.{Does}
-use Rattle.vr_replica.specs.Halt as replica
-use Rattle.vr_replica.specs.Halt.TheVariants as halt
 
 -- one step of the rules, whole, on a file of the replica's version, which is 1 or 2: replica, disk and outputs are those that the rules give
 abbrev pub steps : Doing Node
 steps node disk event outputs node' disk' =
     ((1 ≤ version node.replica.memory) × (version node.replica.memory ≤ 2)) × Does (react event) node.replica.memory node'.replica.memory disk disk' [] outputs (Ok tt)
 
--- why a replica's step stopped, by what the loop hears
-abbrev pub why_of : Halt → replica.Halt
-why_of Disk = halt.DiskFault
-why_of NoMemory = halt.NoMemory
-
 -- one that stopped: the disk is as a front of its calls left it, and as the next one did where that failed
 abbrev pub stops : Halting Node
-stops node disk event why node' disk' = Does (react event) node.replica.memory node'.replica.memory disk disk' [] [] (Err (why_of why))
+stops node disk event why node' disk' = Does (react event) node.replica.memory node'.replica.memory disk disk' [] [] (Err why)

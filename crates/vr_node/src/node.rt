@@ -1,29 +1,18 @@
 //! A replica as the loop of turns takes it.
 ghost use Rattle.std.specs.Prelude.{◌≡◌};
-ghost use Rattle.vr_node.specs.Steps.{why_of};
 ghost use Rattle.vr_replica.specs.Replica.{version};
 
 use std::alloc::Global;
 use vr_base::Version;
-use vr_disk::SectorDisk;
+use vr_disk::{Halt, SectorDisk};
 use vr_msg::{Event, Outbox};
 use vr_replica::Replica;
-use vr_serve::{Halt, Member};
+use vr_serve::Member;
 
 /// A replica that runs.
 #[derive(Drop)]
 pub struct Node {
     replica: Replica,
-}
-
-/// A failed call of the disk is `Halt::Disk` to the loop, and want of memory `Halt::NoMemory`.
-fn halt_of(why: vr_replica::Halt) -> Halt
-    ensures { why ≡ why_of result }
-{
-    match why {
-        vr_replica::Halt::DiskFault => Halt::Disk,
-        vr_replica::Halt::NoMemory => Halt::NoMemory,
-    }
 }
 
 impl Node {
@@ -61,7 +50,7 @@ impl Member for Node {
     // One step of the rules for this event, whole: replica, disk and outputs are then what `react` says, on a file of the replica's version, 1 or 2.
     // After a halt the disk got the step's calls up to the one that failed, or for want of memory a front of them. Of replica and outputs nothing is
     // said then.
-    #[tactic(auto, using(crate::proofs::Halts::halts, crate::proofs::Halts::stopped))]
+    #[tactic(auto, using(crate::proofs::Halts::went, crate::proofs::Halts::runs_on, crate::proofs::Halts::stopped))]
     fn step<D: SectorDisk>(
         &mut self,
         alloc: Global,
@@ -69,9 +58,6 @@ impl Member for Node {
         event: &Event,
         out: &mut Outbox,
     ) -> Result<(), Halt> {
-        match self.replica.step(alloc, disk, event, out) {
-            Ok(()) => Ok(()),
-            Err(halt) => Err(halt_of(halt)),
-        }
+        self.replica.step(alloc, disk, event, out)
     }
 }

@@ -1,6 +1,7 @@
 -- Early ends, one piece after another.
 use Rattle.std.proofs.Common.{◌≡◌, ◌≢◌, ◌⊎◌, List, [], ◌∷◌, ◌++◌, ℕ, Option, None, Result, Ok, Err, IfErr, OnErr, OnOk, refl, subst, sym, inl, inr}
 use Rattle.vr_disk.specs.DiskState.{Disk}
+use Rattle.vr_disk.specs.declared.fault.Halt.{Halt}
 use Rattle.vr_edge.specs.Datagrams.{Arrival}
 use Rattle.vr_mail.specs.Letters.{Gives}
 use Rattle.vr_mail.specs.declared.receiving.ReceiveFault.{ReceiveFault}
@@ -11,7 +12,6 @@ use Rattle.vr_serve.specs.Causes.{received_stop, stop_of}
 use Rattle.vr_serve.specs.Events.{AtReceive, Begins, Come}
 use Rattle.vr_serve.specs.Outputs.{datagrams_for, heard, text_from}
 use Rattle.vr_serve.specs.Runs.{At, Cut, Doing, End, EndsBehindStep, EndsBetween, EndsInStep, Halting, Passed, PutsFront, end_at}
-use Rattle.vr_serve.specs.declared.member.Halt.{Halt}
 use Rattle.vr_serve.specs.declared.stop.Stop.TheVariants as stop
 use Rattle.vr_serve.proofs.Running.{passed_none, passed_trans}
 

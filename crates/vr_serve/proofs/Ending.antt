@@ -1,14 +1,15 @@
 -- Causes of an early end, one call after another.
 use Rattle.std.proofs.Common.{ℕ, ◌≡◌, ◌≢◌, ◌∙◌, List, [], ◌∷◌, Option, Result, Ok, Err, arith, ap, refl, subst}
 use Rattle.vr_base.specs.Causes.{one_more}
+use Rattle.vr_disk.specs.Counts.{Caused}
+use Rattle.vr_disk.specs.declared.fault.Halt.{Halt}
+use Rattle.vr_disk.specs.declared.fault.Halt.TheVariants as halt
 use Rattle.vr_edge.specs.Datagrams.{Arrival, Failed}
 use Rattle.vr_edge.specs.Told.{Grows}
 use Rattle.vr_mail.specs.Letters.{Gives, ReceiveCause}
 use Rattle.vr_mail.specs.declared.receiving.ReceiveFault.{ReceiveFault}
 use Rattle.vr_mail.specs.declared.receiving.ReceiveFault.TheVariants as received
-use Rattle.vr_serve.specs.Causes.{Counts, HaltCause, HasCauses, counts, disk_after, links_after, received_stop, stop_of, writes_after}
-use Rattle.vr_serve.specs.declared.member.Halt.{Halt}
-use Rattle.vr_serve.specs.declared.member.Halt.TheVariants as halt
+use Rattle.vr_serve.specs.Causes.{Counts, HasCauses, counts, disk_after, links_after, received_stop, stop_of, writes_after}
 use Rattle.vr_serve.specs.declared.stop.Stop.{Stop}
 use Rattle.vr_serve.specs.declared.stop.Stop.TheVariants as stop
 
@@ -57,8 +58,8 @@ causes_put d d' w w' l l' (Err stop.Write) x c = record { disk = x; write = c.wr
 causes_put d d' w w' l l' (Err stop.NoMemory) x c = record { disk = x; write = c.write; link = c.link; later = c.later }
 
 -- a step that stopped
-pub causes_halted : {S T : Type 0} (d d' w l : ℕ) (h : Halt) → HaltCause {T = S} d d' (Err h) → HasCauses {T = T} (counts d w l) (counts d' w l) (Err (stop_of h))
-causes_halted d d' w l halt.Disk c = record { disk = c.failed refl; write = refl; link = refl; later = omega arith }
+pub causes_halted : {S T : Type 0} (d d' w l : ℕ) (h : Halt) → Caused {T = S} d d' (Err h) → HasCauses {T = T} (counts d w l) (counts d' w l) (Err (stop_of h))
+causes_halted d d' w l halt.DiskFault c = record { disk = c.failed refl; write = refl; link = refl; later = omega arith }
 causes_halted d d' w l halt.NoMemory c = record { disk = c.wanted refl; write = refl; link = refl; later = omega arith }
 
 -- a receive that failed
@@ -72,7 +73,7 @@ put_spares w w' l l' r s is c e = let no : 0 ≡ one_more 0 = subst (λ x. 0 ≡
 
 -- neither does a step call the link
 pub halt_unlinked : {T : Type 0} (h : Halt) → ◌≢◌ {A = Result T Stop} (Err (stop_of h)) (Err stop.Link)
-halt_unlinked halt.Disk e = let clash : stop.Disk ≡ stop.Link = same_stop stop.Disk stop.Link e in cc
+halt_unlinked halt.DiskFault e = let clash : stop.Disk ≡ stop.Link = same_stop stop.Disk stop.Link e in cc
 halt_unlinked halt.NoMemory e = let clash : stop.NoMemory ≡ stop.Link = same_stop stop.NoMemory stop.Link e in cc
 
 -- a receive that failed is told as such

@@ -1,21 +1,15 @@
 -- Why a loop of turns ended before they were done.
-use Rattle.std.specs.Prelude.{ℕ, ◌≤◌, ◌≡◌, Result, Err, OnOk}
+use Rattle.std.specs.Prelude.{ℕ, ◌≤◌, ◌≡◌, Result, Err}
 use Rattle.vr_base.specs.Causes.{one_more}
+use Rattle.vr_disk.specs.declared.fault.Halt.{Halt}
+use Rattle.vr_disk.specs.declared.fault.Halt.TheVariants as halt
 use Rattle.vr_mail.specs.declared.receiving.ReceiveFault.{ReceiveFault}
 use Rattle.vr_mail.specs.declared.receiving.ReceiveFault.TheVariants as received
-use Rattle.vr_serve.specs.declared.member.Halt.{Halt}
-use Rattle.vr_serve.specs.declared.member.Halt.TheVariants as halt
 use Rattle.vr_serve.specs.declared.stop.Stop.{Stop}
 use Rattle.vr_serve.specs.declared.stop.Stop.TheVariants as stop
 
--- a step that stopped for its disk adds one to the disk's faults, and any other end leaves them
-pub record HaltCause {T : Type 0} (before now : ℕ) (result : Result T Halt) : Type 0 where
-  pub kept : OnOk result (now ≡ before)
-  pub failed : result ≡ Err halt.Disk → now ≡ one_more before
-  pub wanted : result ≡ Err halt.NoMemory → now ≡ before
-
 abbrev pub stop_of : Halt → Stop
-stop_of halt.Disk = stop.Disk
+stop_of halt.DiskFault = stop.Disk
 stop_of halt.NoMemory = stop.NoMemory
 
 abbrev pub received_stop : ReceiveFault → Stop

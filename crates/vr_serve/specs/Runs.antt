@@ -2,6 +2,7 @@
 use Rattle.std.specs.Prelude.{ℕ, ◌<◌, List, [], ◌∷◌, ◌++◌, length, Option, map, ◌≡◌, ◌≢◌, ◌⊎◌}
 use Rattle.std.specs.Io.KnownBytes.{Appends}
 use Rattle.vr_disk.specs.DiskState.{Disk}
+use Rattle.vr_disk.specs.declared.fault.Halt.{Halt}
 use Rattle.vr_edge.specs.Datagrams.{Arrival}
 use Rattle.vr_edge.specs.Told.{AppendsFront, Grows}
 use Rattle.vr_edge.specs.declared.datagram.Datagram.{Datagram}
@@ -12,7 +13,6 @@ use Rattle.vr_serve.specs.Causes.{stop_of}
 use Rattle.vr_serve.specs.Events.{AreTurns, Begins, Come, Gives, LastTurn, Turn, arrival_in, arrivals, happened, last_of, next_in, numbers_in, whole_in}
 use Rattle.vr_serve.specs.Outputs.{datagrams_for, heard, numbers_after, text_from}
 use Rattle.vr_serve.specs.declared.clients.Client.{Client}
-use Rattle.vr_serve.specs.declared.member.Halt.{Halt}
 use Rattle.vr_serve.specs.declared.stop.Stop.{Stop}
 use Rattle.vr_serve.specs.declared.stop.Stop.TheVariants as stop
 

@@ -12,6 +12,7 @@ mod serving;
 mod stop;
 
 pub use laws::serve_laws;
-pub use member::{Halt, Member};
+pub use member::Member;
 pub use serving::{TICK, serve};
 pub use stop::Stop;
+pub use vr_disk::Halt;

@@ -1,22 +1,14 @@
 //! What the loop goes around.
 ghost use Rattle.std.specs.Prelude.{◌≡◌, [], List, Bool, Option, IfErr, OnOk, true};
+ghost use Rattle.vr_disk.specs.Counts.{Caused};
 ghost use Rattle.vr_disk.specs.DiskState.{Disk};
+ghost use Rattle.vr_disk.specs.declared.fault.Halt.{Halt};
 ghost use Rattle.vr_msg.specs.declared.event.Event.{Event};
 ghost use Rattle.vr_msg.specs.declared.output.Output.{Output};
-ghost use Rattle.vr_serve.specs.Causes.{HaltCause};
-ghost use Rattle.vr_serve.specs.declared.member.Halt.{Halt};
 
 use std::alloc::Global;
-use vr_disk::SectorDisk;
+use vr_disk::{Halt, SectorDisk};
 use vr_msg::{Event, Outbox};
-
-/// Why a member stopped in the midst of a step.
-#[derive(Clone, Copy, Debug, PartialEq, Eq)]
-pub enum Halt {
-    /// A write or a sync of its disk failed.
-    Disk,
-    NoMemory,
-}
 
 /// A replica as the loop sees it.
 pub trait Member {
@@ -46,5 +38,5 @@ pub trait Member {
         ensures done { OnOk result (does self.old (D.told disk.old) event.now out.new self.new (D.told disk.new)) }
         ensures halted { IfErr result (λ halt. halts self.old (D.told disk.old) event.now halt self.new (D.told disk.new)) }
         ensures running { OnOk result (runs self.new ≡ true) }
-        ensures cause { HaltCause (D.faults disk.old) (D.faults disk.new) result };
+        ensures cause { Caused (D.faults disk.old) (D.faults disk.new) result };
 }

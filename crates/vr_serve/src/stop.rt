@@ -3,8 +3,8 @@ ghost use Rattle.std.specs.Prelude.{◌≡◌};
 ghost use Rattle.vr_serve.specs.Causes.{received_stop};
 ghost use Rattle.vr_serve.specs.declared.stop.Stop.TheVariants as stop;
 
-use crate::Halt;
 use std::alloc::AllocError;
+use vr_disk::Halt;
 use vr_edge::WriteFailed;
 use vr_mail::ReceiveFault;
 
@@ -27,7 +27,7 @@ impl From<Halt> for Stop {
 
     fn from(halt: Halt) -> Stop {
         match halt {
-            Halt::Disk => Stop::Disk,
+            Halt::DiskFault => Stop::Disk,
             Halt::NoMemory => Stop::NoMemory,
         }
     }

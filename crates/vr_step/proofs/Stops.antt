@@ -9,8 +9,8 @@ use Rattle.vr_disk.proofs.Fuses.{armed_goes_off}
 use Rattle.vr_msg.specs.declared.output.Output.{Output}
 use Rattle.vr_rules.specs.Replica.{Replica, version}
 use Rattle.vr_rules.specs.Steps.{Step, Word, outputs, after_all}
-use Rattle.vr_step.specs.declared.halt.Halt.{Halt}
-use Rattle.vr_step.specs.declared.halt.Halt.TheVariants.{DiskFault, NoMemory}
+use Rattle.vr_disk.specs.declared.fault.Halt.{Halt}
+use Rattle.vr_disk.specs.declared.fault.Halt.TheVariants.{DiskFault, NoMemory}
 use Rattle.vr_step.specs.Does.{Does}
 use Rattle.vr_step.specs.Laws.{step_of, calls_in, Well, WellIsDone, Stopped, FaultIsStop, Wanting, WantIsFront, Cut, Armed, FuseIsCut, FuseIsLater}
 use Rattle.vr_step.proofs.Stepping.{face_is}

@@ -7,8 +7,8 @@ use Rattle.vr_msg.specs.declared.output.Output.{Output}
 use Rattle.vr_rules.specs.Replica.{Replica, version}
 use Rattle.vr_rules.specs.Steps.{Step, Word, outputs, after_all}
 use Rattle.vr_rules.specs.Sectors.{sectors_by, script_calls}
-use Rattle.vr_step.specs.declared.halt.Halt.{Halt}
-use Rattle.vr_step.specs.declared.halt.Halt.TheVariants.{DiskFault, NoMemory}
+use Rattle.vr_disk.specs.declared.fault.Halt.{Halt}
+use Rattle.vr_disk.specs.declared.fault.Halt.TheVariants.{DiskFault, NoMemory}
 use Rattle.vr_step.specs.Does.{Does}
 
 -- the step that a word is on a disk of the replica's version

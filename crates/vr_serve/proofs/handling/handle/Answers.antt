@@ -1,4 +1,5 @@
 use Rattle.std.proofs.Common.{Err, rules, ◌≡◌, ◌∙◌, [], ◌∷◌, ap, inr, refl, subst, true}
+use Rattle.vr_disk.specs.declared.fault.Halt.TheVariants as halt
 use Rattle.vr_mail.specs.Sends.{Sends}
 use Rattle.vr_serve.proofs.Cutting.{cut_event, cut_none, cut_step, if_err_by, on_ok, on_ok_all}
 use Rattle.vr_serve.proofs.Ending.{causes_halted, causes_put, causes_wanted, halt_unlinked, put_spares}
@@ -8,7 +9,6 @@ use Rattle.vr_serve.specs.Events.{Come}
 use Rattle.vr_serve.specs.Outputs.{datagrams_for, text_from}
 use Rattle.vr_serve.specs.Runs.{Cut, PutsFront, end_at}
 use Rattle.vr_serve.specs.Serving.{standing}
-use Rattle.vr_serve.specs.declared.member.Halt.TheVariants as halt
 use Rattle.vr_serve.specs.declared.stop.Stop.TheVariants.{NoMemory}
 use Rattle.vr_serve.proofs.handling.handle.Goals as goal
 
