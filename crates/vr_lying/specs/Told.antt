@@ -25,6 +25,10 @@ pub record IsTold (version : ℕ) (d : Disk) : Type 0 where
   pub count : length d.beside.rows ≡ 64
   pub next : d.beside.next ≡ next_held version
 
+-- with a fuse that lets so many writes and syncs through, and cuts the next one by this code
+abbrev pub armed : ℕ → ℕ → Disk → Disk
+armed calls code d = record d { fate = record d.fate { fuse = Some (record { calls = calls; code = code }) } }
+
 -- the fuse after so many calls
 abbrev pub burnt : ℕ → Option Fuse → Option Fuse
 burnt n None = None
