@@ -15,7 +15,7 @@ use vr_header::Operation;
 use vr_lines::Lines;
 use vr_status::Status;
 
-/// Registers with number 0 and writes the answer; behind an outcome it asks the lines of the source in order, from number 1 on, and writes each
+/// Registers with number 0 and writes the answer; after an outcome it asks the lines of the source in order, from number 1 on, and writes each
 /// outcome. Any other end of the register ends all, with nothing read. Source, link and sink count one fault more where the status names them, and
 /// else none; nothing is attached.
 #[tactic(auto, using(crate::proofs::Runs::unregistered, crate::proofs::Runs::registered))]

@@ -25,7 +25,7 @@ pub fn read_line(
     }
 }
 
-/// Adds an answer behind the text, without an end of line: the words of its outcome, or `old`, `gap` or `evicted`. After an `Err`, want of memory,
+/// Adds an answer at the end of the text, without an end of line: the words of its outcome, or `old`, `gap` or `evicted`. After an `Err`, want of memory,
 /// nothing is said of the text.
 fn put_answer(to: &mut ByteList, answer: &Answer) -> Result<(), AllocError>
     ensures { OnOk result (to.new ≡ to.old ++ answer_words answer.now) }

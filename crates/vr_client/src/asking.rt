@@ -106,7 +106,7 @@ impl ClientCore {
         }
     }
 
-    /// One receive, behind `done` turns, of which all but a reply to the request of this name is ignored. The answer is returned,
+    /// One receive, after `done` turns, of which all but a reply to the request of this name is ignored. The answer is returned,
     /// with nothing sent and the port as it was. Else the request is sent where a redirect says, and then, where `done + 1` is a
     /// multiple of `PATIENCE` below `turns`, to the next port; each becomes its port. After `Link` the receive failed, and by
     /// that alone the link counts one fault more; after `NoMemory` there was none for its message; nothing was sent then. All but

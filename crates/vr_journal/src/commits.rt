@@ -24,9 +24,10 @@ fn applies_next(replica: &Replica) -> bool
 }
 
 /// The commit number rises, up to the head, as long as a replication quorum has acknowledged the next op, the replica itself counted where
-/// its Part is `Here`. Then ops are applied up to it, ascending, as long as no block is missing and the next one is `Here` and reads. Where
-/// the next op has no such quorum and nothing more can be applied (`Waits`), it answers `Ok` and leaves the very same disk. After an `Err`
-/// the disk has had its calls up to the stop; of replica and outputs nothing is said.
+/// its Part is `Here`. Then ops are applied up to it, ascending, as long as no block is missing and the next one is `Here` and reads. `Waits`
+/// says: the next op has no such quorum; and a block is missing, all committed ops are applied, or the next one to apply isn't `Here`. Then
+/// it answers `Ok` and leaves the very same disk. After an `Err` the disk has had its calls up to the stop; of replica and outputs nothing is
+/// said.
 #[tactic(auto, using(vr_step::proofs::Stepping::steps, vr_memory::proofs::Versions::advanced_stays, vr_memory::proofs::Memory::window_of, vr_memory::proofs::Repairs::ready_advanced, crate::proofs::Advancing::none_applied, crate::proofs::Advancing::none_next), unfolding(crate::specs::Words::advance))]
 pub fn advance<D: SectorDisk>(
     replica: &mut Replica,

@@ -27,9 +27,10 @@ fn status_of(stop: Stop) -> Status
     }
 }
 
-/// Puts out `first`, and then serves so many turns over a link that is attached: each event is one step of the rules. `Done`: all of them happened
-/// whole. `DiskFault`, `LinkFault` (the last receive failed), `WriteFault` and `NoMemory`: a front of the run happened, no datagram before the whole
-/// text of its event. The object that the status names counts one fault more, and no other does; nothing is attached.
+/// Puts out `first`, with messages numbered from 0, and then does so many turns over a link that is attached, in frames of its file's version and
+/// group. Each turn is a receive with its event, then one number of the clock, and a tick where one is due; each event is one step of the rules.
+/// `Done`: all of them happened whole. `DiskFault`, `LinkFault` (the last receive failed), `WriteFault` and `NoMemory`: a front of the run happened,
+/// no datagram before the whole text of its event. The object that the status names counts one fault more, and no other does; nothing is attached.
 #[tactic(auto, using(crate::proofs::Ends::served, crate::proofs::Ends::cut_off))]
 fn serve_turns<D: SectorDisk, L: Link, C: Clock, K: Sink>(
     alloc: Global,

@@ -9,10 +9,10 @@ use vr_edge::{Clock, Link, Sink};
 use vr_msg::Outbox;
 use vr_serve::Stop;
 
-/// Puts out what its opening gave, with messages numbered from 0, and then does so many turns in frames of its file's version and group. Each event
-/// is one step of the rules. After `Ok` all happened whole, and the member runs; after an `Err` a front of that did, no datagram before the whole
-/// text of its event. It is `Link` only where the last receive failed. The object that the `Err` names counts one fault more, and no other does;
-/// nothing is attached.
+/// Puts out what its opening gave, with messages numbered from 0, and then does so many turns in frames of its file's version and group. Each turn is
+/// a receive with its event, then one number of the clock, and a tick where one is due; each event is one step of the rules. After `Ok` all happened
+/// whole, and the member runs; after an `Err` a front of that did, no datagram before the whole text of its event. It is `Link` only where the last
+/// receive failed. The object that the `Err` names counts one fault more, and no other does; nothing is attached.
 pub fn serve<D: SectorDisk, L: Link, C: Clock, K: Sink>(
     alloc: Global,
     node: &mut Node,

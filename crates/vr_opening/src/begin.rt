@@ -67,7 +67,7 @@ fn leave_view<D: SectorDisk>(
 
 // ---- the others hear of it
 
-// Puts out a `start_view_change` of its view to each other replica, ascending, behind what there is; past the last view, nothing. After an `Err`,
+// Puts out a `start_view_change` of its view to each other replica, ascending, after the outputs that there are; past the last view, nothing. After an `Err`,
 // want of memory, nothing is said of the outputs.
 fn tell_view(replica: &Replica, out: &mut Outbox) -> Result<(), AllocError>
     ensures { OnOk result (out.new ≡ out.old ++ (if nat_le replica.now.view last_view then send_to_all start_view_change replica.now else [])) }
@@ -158,7 +158,7 @@ fn resume<D: SectorDisk>(
 }
 
 /// Opens a replica whose superblock is mended already. First its Parts are found, and header sectors written again where that is needed. Where
-/// sequence numbers are at their end, only the start line is put out behind that. Else a replica that leads leaves its view and saves that; the start
+/// sequence numbers are at their end, only the start line is put out after that. Else a replica that leads leaves its view and saves that; the start
 /// line is put out, the checkpoint loaded, and committed entries are applied. Of a view that isn't started the others are told at last; after `Ok` it
 /// is ready.
 #[tactic(auto, using(vr_journal::proofs::Stepping::steps))]

@@ -27,7 +27,7 @@ fn prepares_begin(version: Version) -> u32
     prepare_place(0, version)
 }
 
-// The sector behind the prepares of a file of this version; it is at most `SECTORS`.
+// The sector after the prepares of a file of this version; it is at most `SECTORS`.
 #[tactic(auto, using(crate::proofs::Calls::prepares_within))]
 fn prepares_end(version: Version) -> u32
     ensures place { result ≡ prepares_end version }

@@ -53,8 +53,9 @@ fn make_member(alloc: Global, config: Config, kind: Kind) -> Result<Replica, NoM
     Replica::blank(alloc, value)
 }
 
-// Formats the disk of this new member. In this order: zeros to the prepares, a header to each slot, one sync, and the four copies of its first value.
-// An `Err` is a call that failed: those before it were made, and none after it. It adds one to the disk's faults; an `Ok` leaves them.
+// Formats the disk of this new member: zeros to the prepares, then to each slot the reserved header of its number, then one sync. After that come the
+// four copies of its first value, each with a sync after it. An `Err` is a call that failed: those before it were made, and none after it. It adds
+// one to the disk's faults; an `Ok` leaves them.
 #[tactic(auto, using(crate::proofs::Makes::fresh_value))]
 fn write_format<D: SectorDisk>(
     disk: &mut D,

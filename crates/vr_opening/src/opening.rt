@@ -82,7 +82,7 @@ fn named(replica: &Replica, i: usize) -> Header
     replica.saved().headers()[i]
 }
 
-// The op at this place of the window, whose place 0 is the op behind the checkpoint.
+// The op at this place of the window, whose place 0 is the op after the checkpoint.
 #[tactic(auto, using(crate::proofs::Olds::nth_fits))]
 fn op_at(replica: &Replica, i: u64) -> u64
     requires opening { IsOpening (replica.now.saved.fields.checkpoint + i) replica.now }

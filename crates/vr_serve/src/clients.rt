@@ -30,7 +30,7 @@ fn place_of(clients: &[Client], id: u64) -> Option<usize>
     clients.iter().position(|client| client.id == id)
 }
 
-/// Takes the client out of the list, at its first place. Where it isn't in the list, all behind the first 63 go instead. The
+/// Takes the client out of the list, at its first place. Where it isn't in the list, all after the first 63 go instead. The
 /// others keep their order.
 fn make_place(clients: &mut Vec<Client>, id: u64)
     ensures { clients.new.items ≡ others id clients.old.items }
@@ -43,7 +43,7 @@ fn make_place(clients: &mut Vec<Client>, id: u64)
     }
 }
 
-/// A request puts its client in front of the list, with this port: its earlier place goes, and where it had none all behind the
+/// A request puts its client in front of the list, with this port: its earlier place goes, and where it had none all after the
 /// 63rd. Any other event leaves the list as it is. After an `Err`, want of memory, nothing is said of the list.
 pub fn hear(clients: &mut Vec<Client>, port: u32, event: &Event) -> Result<(), AllocError>
     ensures { OnOk result (clients.new.items ≡ heard (record { port = port; event = event.now }) clients.old.items) }

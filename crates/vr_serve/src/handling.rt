@@ -25,7 +25,7 @@ pub fn event_of(message: Message) -> Event
 
 /// One event from a port, in this order: a request's client is put in front of those heard, one step is done, its text written
 /// whole, its datagrams sent. An `Err` before the step is `NoMemory`, and disk, sink and link are as they were. One out of the
-/// step leaves the disk as that halt does, with nothing put out; one behind it put a front out, no datagram before the whole
+/// step leaves the disk as that halt does, with nothing put out; one after it put a front out, no datagram before the whole
 /// text. Nothing is received or attached, so it is never `Link`; disk or sink count one fault more where the `Err` names them,
 /// and else none.
 #[tactic(auto, using(std::proofs::lemmas::Grind::common_steps, crate::proofs::Running::passed_one, crate::proofs::Ending::causes_put, crate::proofs::Ending::causes_halted))]

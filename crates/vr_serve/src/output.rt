@@ -1,4 +1,4 @@
-//! What an event puts out: its text, and the datagrams behind it.
+//! What an event puts out: its text, and the datagrams after it.
 ghost use Rattle.std.specs.Prelude.{◌≡◌, ◌++◌, ◌∷◌, [], Some, true, IfOk, IfSome, OnOk};
 ghost use Rattle.vr_edge.specs.Sending.{datagram_at};
 ghost use Rattle.vr_msg.specs.Spelling.{spelling};
@@ -14,7 +14,7 @@ use vr_mail::{send_bytes, send_message};
 use vr_msg::{Message, Outbox, Output, Reply};
 use vr_text::write_text;
 
-/// One more behind a message that is sent, up to 2^64 - 1; the same behind any other output, a reply too.
+/// One more after a message that is sent, up to 2^64 - 1; the same after any other output, a reply too.
 fn number_after(number: u64, output: &Output) -> u64
     ensures { result ≡ number_after number output.now }
 {
@@ -24,8 +24,8 @@ fn number_after(number: u64, output: &Output) -> u64
     }
 }
 
-/// Adds the line of each output behind the text, in order. A message that is sent has `number` in its line, which goes up by one
-/// behind it, to 2^64 - 1 at most; other outputs leave it. After an `Err`, want of memory, nothing is said of text and number.
+/// Adds the line of each output at the end of the text, in order. A message that is sent has `number` in its line, which goes up by one
+/// after it, to 2^64 - 1 at most; other outputs leave it. After an `Err`, want of memory, nothing is said of text and number.
 #[tactic(auto, using(std::proofs::lemmas::Grind::common_steps, crate::proofs::Outputs::text_more, crate::proofs::Outputs::text_none, crate::proofs::Outputs::numbers_more, crate::proofs::Outputs::numbers_none))]
 pub fn put_text(number: &mut u64, outputs: &[Output], text: &mut ByteList) -> Result<(), AllocError>
     ensures text { OnOk result (text.new ≡ text.old ++ text_from number.old outputs.now) }

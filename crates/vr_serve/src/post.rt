@@ -42,7 +42,7 @@ impl Post {
     }
 
     /// Writes the text of the outputs whole, and then sends their datagrams in order, replies to the clients heard; the number
-    /// goes on behind the messages. After an `Err` a front of that went out, no datagram before the whole text. It is `Write`,
+    /// goes on after the messages. After an `Err` a front of that went out, no datagram before the whole text. It is `Write`,
     /// where the sink counts one fault more, or `NoMemory`, and never `Disk` or `Link`. The clients stay, and so do the link's
     /// receives, attaches and faults.
     #[tactic(auto, using(std::proofs::lemmas::Grind::common_steps, crate::proofs::Outputs::puts_none, crate::proofs::Outputs::puts_text, crate::proofs::Outputs::puts_sent))]

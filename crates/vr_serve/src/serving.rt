@@ -72,7 +72,7 @@ fn beat<M: Member, D: SectorDisk, K: Sink, L: Link>(
 
 /// One receive with its event, then one number of the clock, and a tick where that is at least `TICK` above `last`. It returns
 /// the last tick after it: the number where it ticked or is below `last`, and else `last`. An `Err` cuts it off at the receive or
-/// its event, where the clock wasn't asked, or at the tick, behind an event that happened whole. It is `Link` only where the
+/// its event, where the clock wasn't asked, or at the tick, after an event that happened whole. It is `Link` only where the
 /// receive failed. Disk, sink and link count one fault more where the `Err` names them, and else none; nothing is attached.
 #[tactic(auto, using(crate::proofs::Ending::causes_none, crate::proofs::Ending::causes_later, crate::proofs::Ending::causes_received))]
 fn turn<M: Member, D: SectorDisk, K: Sink, L: Link, C: Clock>(
@@ -93,9 +93,10 @@ fn turn<M: Member, D: SectorDisk, K: Sink, L: Link, C: Clock>(
 }
 
 /// So many turns one after another: in each a receive with its event, then one number of the clock, and a tick where one is due.
-/// It returns the last tick after them. An `Err` cuts off one turn, at its receive or at one of its events: all events before
-/// that happened whole, and no later turn was begun. It is `Link` only where the last receive failed. Disk, sink and link count
-/// one fault more where the `Err` names them, and else none; nothing is attached.
+/// After `Ok` the member runs, and the answer is the last tick, or the clock's number where that went back. An `Err` cuts off one
+/// turn, at its receive (`Link`, only where that failed) or in one event, with no datagram of it before its whole text. All events
+/// before happened whole, and no later turn was begun. Disk, sink and link count one fault more where the `Err` names them, and
+/// else none; nothing is attached.
 #[tactic(auto, using(crate::proofs::Ending::causes_none, crate::proofs::Ending::causes_later, crate::proofs::Ending::causes_received))]
 fn take_turns<M: Member, D: SectorDisk, K: Sink, L: Link, C: Clock>(
     alloc: Global,
@@ -119,7 +120,7 @@ fn take_turns<M: Member, D: SectorDisk, K: Sink, L: Link, C: Clock>(
 
 /// Puts out `first`, with messages numbered from 0 and no client heard, then takes a number of the clock as the last tick, and
 /// does so many turns. An `Err` cuts it off before the first turn, with a front of `first` put out and no step done, or in a
-/// turn, behind all events before. It is `Link` only where the last receive failed. Disk, sink and link count one fault more
+/// turn, after all events before. It is `Link` only where the last receive failed. Disk, sink and link count one fault more
 /// where the `Err` names them, and else none; nothing is attached.
 #[tactic(auto, using(crate::proofs::Ending::causes_none, crate::proofs::Ending::causes_later, crate::proofs::Ending::causes_received))]
 pub fn serve<M: Member, D: SectorDisk, K: Sink, L: Link, C: Clock>(

@@ -8,7 +8,7 @@ use std::alloc::{AllocError, Global};
 use vr_edge::Sink;
 use vr_status::Status;
 
-/// The words behind the program's name, none where that isn't there. Where one of them is no text (`NoText`), there are none: no words are no
+/// The words after the program's name, none where that isn't there. Where one of them is no text (`NoText`), there are none: no words are no
 /// command. An `Err` exactly where telling them wanted memory.
 fn words_of(alloc: Global, told: Result<Vec<String>, Untold>) -> Result<Vec<String>, AllocError>
     ensures { KnowsWords told result }
@@ -37,7 +37,7 @@ fn path_of<T>(told: Result<T, Untold>) -> Result<Option<T>, AllocError>
 }
 
 /// Has the maker give, each at most once and in this order: words, source, sink, disk, link, clock, path, spawner. Then it runs over these, with the
-/// words behind the program's name, and gives the run's status. Where memory is short for words, disk, link or path, nothing is made after it and
+/// words after the program's name, and gives the run's status. Where memory is short for words, disk, link or path, nothing is made after it and
 /// nothing is run: that is `NoMemory`. An `Err` says the same as `NoMemory`. It has a frame of its own, which is a large one.
 #[inline(never)]
 fn make_and_run<M: Program>(alloc: Global, maker: &mut M) -> Result<Status, AllocError>

@@ -6,7 +6,7 @@ pub struct Plan {
     pub cluster: u64,
     /// How many turns each ask has.
     pub turns: u64,
-    /// What the names of the members' disks begin with; behind it stands the member's number.
+    /// What the names of the members' disks begin with; after it stands the member's number.
     pub files: String,
     /// The addresses of all members, by their numbers.
     pub peers: Vec<String>,

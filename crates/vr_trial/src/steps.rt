@@ -75,10 +75,10 @@ impl Course {
         Ok(())
     }
 
-    /// Has the spawner stop a member, where it runs, and then writes the line `stopped R`. Where the stop fails, the same members count
-    /// as running as before, and nothing is written. Where the line isn't written, for `WriteFault` or `NoMemory`, the member doesn't
-    /// run, and the sink took a front of it. Spawner and sink count one fault more where the `Err` names them, and else none; the client
-    /// stays.
+    /// Has the spawner stop a member, where it runs, and then writes the line `stopped R`. Where the stop fails (`SpawnFault`) or isn't
+    /// tried (`NoMemory`), the same members count as running as before, and nothing is written. Any other `Err` is `WriteFault` or
+    /// `NoMemory` at the line: the member doesn't run, and the sink took a front of the line. Spawner and sink count one fault more
+    /// where the `Err` names them, and else none; the client stays.
     #[tactic(auto, using(std::proofs::lemmas::Grind::common_steps, crate::proofs::Stepping::told, crate::proofs::Stepping::told_in_part, crate::proofs::Stepping::untold, crate::proofs::Telling::line_spawns, crate::proofs::Telling::call_writes))]
     fn end<K: Sink, P: Spawner>(
         &mut self,

@@ -40,7 +40,7 @@ fn member_words(alloc: Global, plan: &Plan, member: u8) -> Result<Vec<String>, A
     Ok(vec![in alloc; node, cluster, replica, file, turns]?)
 }
 
-/// The words with which a member is started: `node CLUSTER REPLICA FILE 1000000`, the addresses of all members, and `--fresh` behind them
+/// The words with which a member is started: `node CLUSTER REPLICA FILE 1000000`, the addresses of all members, and `--fresh` after them
 /// where it is made anew. FILE is the plan's `files` with the member's number at its end.
 pub fn start_words(
     alloc: Global,
