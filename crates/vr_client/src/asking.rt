@@ -31,9 +31,10 @@ fn spell(fields: RequestFields, bytes: &mut Vec<u8>) -> Result<(), AllocError>
 }
 
 impl ClientCore {
-    /// Makes the request for this operation with the client's next number: its bytes are kept, and its name is returned. The
-    /// number is used up, after an `Err` too. Version, group, id and port stay in each case; after an `Err`, want of memory,
-    /// nothing is said of the bytes.
+    /// Makes the request of this operation with the client's number: its bytes are kept, and its name is returned. The number is
+    /// one more afterwards, after an `Err` too; version, group, id and port stay in each case. After an `Err`, want of memory,
+    /// nothing is said of the bytes. `MayAsk`: the number is below 2^32, the operation is one of the client's version, and it is a
+    /// register exactly where the number is 0.
     fn write_request(&mut self, operation: &Operation) -> Result<Sum, AllocError>
         requires { MayAsk self.old operation.now }
         ensures { Writes operation.now self.old self.new result }

@@ -118,10 +118,11 @@ fn take_turns<M: Member, D: SectorDisk, K: Sink, L: Link, C: Clock>(
     Ok(after)
 }
 
-/// Puts out `first`, with messages numbered from 0 and no client heard, then takes a number of the clock as the last tick, and
-/// does so many turns. An `Err` cuts it off before the first turn, with a front of `first` put out and no step done, or in a
-/// turn, after all events before. It is `Link` only where the last receive failed. Disk, sink and link count one fault more
-/// where the `Err` names them, and else none; nothing is attached.
+/// Puts out `first`, its messages numbered from 0, with no client heard; takes the clock's number as the last tick; does so many
+/// turns; after `Ok` the member runs. An `Err` cuts it off before the clock was asked, with a front of `first` put out, or in a
+/// turn, after all events before. Of the event at which it was cut off, a step that stopped has put out nothing, one that was done
+/// a front. `Link`: the last receive failed; disk, sink and link count one fault more where the `Err` names them, else none;
+/// nothing is attached.
 #[tactic(auto, using(crate::proofs::Ending::causes_none, crate::proofs::Ending::causes_later, crate::proofs::Ending::causes_received))]
 pub fn serve<M: Member, D: SectorDisk, K: Sink, L: Link, C: Clock>(
     alloc: Global,
