@@ -18,7 +18,12 @@ use Rattle.vr_rules.proofs.Storing.{head_number}
 use Rattle.vr_rules.proofs.Stating.{back, back_at, run_of, run_size, own_statement}
 use Rattle.vr_rules.proofs.SavesCore.{Listed, run_listed}
 use Rattle.vr_memory.specs.Ready.{IsReady}
+use Rattle.vr_memory.specs.declared.telling.Sender.{Sender}
 use Rattle.vr_memory.specs.Sends.{sends}
+
+-- itself, as the sender of a message
+abbrev pub sender : Replica → Sender
+sender r = record { version = version r; cluster = r.cluster; replica = r.index; view = r.view }
 
 listed_views : (r : Replica) (op : ℕ) (hs : List Header) → r.log_view ≤ r.view → FromOp (Listed r) op hs → FromOp (IsEntryAt (version r) r.cluster r.view) op hs
 listed_views r op [] l h = tt
@@ -27,20 +32,20 @@ listed_views r op (x ∷ xs) l h =
     let made = is.made in
     (record { entry = is.entry; of_version = is.of_version; of_group = is.of_group; at_op = is.at_op; made = omega arith }, listed_views r (op + 1) xs l h.1)
 
-pub may_start : (q r : Replica) (v : ℕ) (hs : List Header) (lo top n : ℕ) → q ≡ r → v ≡ version r → IsReady r → r.view ≤ last_view → hs ≡ run r → top ≡ head r → n ≡ length hs → lo ≡ top - n
-    → IsStartView (record { version = v; cluster = q.cluster; replica = q.index; view = q.view; head = top; commit = q.commit; body = record { lo = lo; headers = hs } })
+pub may_start : (f : Sender) (q r : Replica) (hs : List Header) (lo top n : ℕ) → f ≡ sender r → q ≡ r → IsReady r → r.view ≤ last_view → hs ≡ run r → top ≡ head r → n ≡ length hs → lo ≡ top - n
+    → IsStartView (record { version = f.version; cluster = f.cluster; replica = f.replica; view = f.view; head = top; commit = q.commit; body = record { lo = lo; headers = hs } })
 unfolding IsReady
-may_start q r w0 hs lo top n same of h v e i l k =
+may_start f q r hs lo top n from same h v e i l k =
     let s = h.sound in
     let w = run_of r s in
     let start = w.start in
     let listed = listed_views r (run_start r + 1) (run r) s.order.views (run_listed r s) in
-    rw (of, same, k, l, e, i) (record { view = omega arith; head = head_number r s; commit = s.order.known; count = omega arith; short = w.short; headers = listed })
+    rw (from, same, k, l, e, i) (record { view = omega arith; head = head_number r s; commit = s.order.known; count = omega arith; short = w.short; headers = listed })
 
-pub may_state : (q r : Replica) (v : ℕ) (s : Statement) → q ≡ r → v ≡ version r → IsReady r → r.view ≤ last_view → r.log_view < r.view → s ≡ statement_of r
-    → IsDoViewChange (record { version = v; cluster = q.cluster; replica = q.index; view = q.view; statement = s })
+pub may_state : (f : Sender) (r : Replica) (s : Statement) → f ≡ sender r → IsReady r → r.view ≤ last_view → r.log_view < r.view → s ≡ statement_of r
+    → IsDoViewChange (record { version = f.version; cluster = f.cluster; replica = f.replica; view = f.view; statement = s })
 unfolding IsReady statement_of
-may_state q r w0 s same of h v l e = rw (of, same, e) (record { view = omega arith; log_view = l; statement = (own_statement r h.sound).statement })
+may_state f r s from h v l e = rw (from, e) (record { view = omega arith; log_view = l; statement = (own_statement r h.sound).statement })
 
 pub all_told : (message : Replica → Frame) (m : Frame) (r : Replica) → m ≡ message r → sends r.index r.n m ≡ send_to_all message r
 unfolding sends send_to_all
@@ -85,10 +90,10 @@ pub reaches_is : (r : Replica) (b : Bool) → IsReady r → b ≡ (nat_lt 0 r.ch
 unfolding IsReady
 reaches_is r b h e = e ∙ ap (λ (t : Bool). nat_lt 0 r.checkpoint && t) (down_known r h.sound)
 
-pub may_sync : (q r : Replica) (v : ℕ) (hs : List Header) (lo top n : ℕ) → q ≡ r → v ≡ version r → IsReady r → r.view ≤ last_view → reaches_down r ≡ true → hs ≡ run r → top ≡ head r → n ≡ length hs → lo ≡ top - n
-    → IsSyncView (record { version = v; cluster = q.cluster; replica = q.index; view = q.view; head = top; commit = q.commit; checkpoint = q.checkpoint; root_address = q.root.address; root_name = q.root.sum; body = record { lo = lo; headers = hs } })
+pub may_sync : (f : Sender) (q r : Replica) (hs : List Header) (lo top n : ℕ) → f ≡ sender r → q ≡ r → IsReady r → r.view ≤ last_view → reaches_down r ≡ true → hs ≡ run r → top ≡ head r → n ≡ length hs → lo ≡ top - n
+    → IsSyncView (record { version = f.version; cluster = f.cluster; replica = f.replica; view = f.view; head = top; commit = q.commit; checkpoint = q.checkpoint; root_address = q.root.address; root_name = q.root.sum; body = record { lo = lo; headers = hs } })
 unfolding IsReady
-may_sync q r w0 hs lo top n same of h v down e i l k =
+may_sync f q r hs lo top n from same h v down e i l k =
     let s = h.sound in
     let w = run_of r s in
     let start = w.start in
@@ -96,7 +101,7 @@ may_sync q r w0 hs lo top n same of h v down e i l k =
     let applied = s.order.applied in
     let commit = s.order.commit in
     let below = and_parts (nat_lt 0 r.checkpoint) (nat_lt (run_start r) r.checkpoint) down in
-    rw (of, same, k, l, e, i) (record {
+    rw (from, same, k, l, e, i) (record {
       view = omega arith;
       head = head_number r s;
       order = (ltb-true (run_start r) r.checkpoint below.1, omega (arith, applied, commit), s.order.known);

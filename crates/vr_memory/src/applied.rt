@@ -10,8 +10,12 @@ use crate::Replica;
 use std::alloc::AllocError;
 use vr_base::{NoMemory, Replicas, Sum};
 use vr_ckpt::{ReplyBody, SavedCheckpoint};
+use vr_disk::SLOTS;
 use vr_header::{Entry, Header, Part};
 use vr_msg::{Answered, Committed, Outbox, Output, Reply, ReplyFields, ReplyKind};
+
+// A checkpoint is made of each op that is a multiple of this.
+const CHECKPOINT_EVERY: u64 = 32;
 
 impl Replica {
     /// The window moves up with the checkpoint.
@@ -42,7 +46,7 @@ impl Replica {
     pub fn is_due(&self) -> bool
         ensures { result ≡ is_checkpoint self.now.applied }
     {
-        self.applied % 32 == 0
+        self.applied % CHECKPOINT_EVERY == 0
     }
 
     /// How many ops there are to apply.
@@ -50,7 +54,7 @@ impl Replica {
     pub fn to_apply(&self) -> u64
         requires { IsReady self.now }
         ensures value { result ≡ self.now.commit - self.now.applied }
-        ensures few { result ≤ 64 }
+        ensures few { result ≤ SLOTS }
     {
         self.commit.saturating_sub(self.applied)
     }
@@ -71,11 +75,12 @@ impl Replica {
         requires fits { IsKindValue (version self.now) kind }
         ensures { OnOk result (out.new ≡ out.old ++ replies (record { client = client; request = request; name = name }) kind self.now) }
     {
+        let from = self.sender();
         out.push(Output::Reply(Reply::new(ReplyFields {
-            version: self.version(),
-            cluster: self.cluster,
-            replica: self.index,
-            view: self.view,
+            version: from.version,
+            cluster: from.cluster,
+            replica: from.replica,
+            view: from.view,
             client,
             request,
             request_name: name,

@@ -8,11 +8,14 @@ use crate::Replica;
 use std::alloc::Global;
 use vr_base::{NoMemory, Replicas, Seq};
 use vr_ckpt::{Name, PayloadTable, State};
-use vr_disk::Buffer;
+use vr_disk::{Buffer, SLOTS};
 use vr_header::{Names, Part};
 use vr_msg::Statement;
 use vr_super::Super;
 use vr_window::{Places, Window};
+
+// For how many ops a window has room: the last ones up to the head, and those above the checkpoint.
+const WINDOW_ROOM: usize = 128;
 
 // The op of the first header that a value names.
 #[tactic(auto, using(crate::proofs::Blanks::value_bounds))]
@@ -25,11 +28,11 @@ fn first_of(value: &Super) -> u64
 // How many ops its window reaches over.
 #[tactic(auto, using(crate::proofs::Blanks::blank_room))]
 fn count_of(value: &Super) -> usize
-    ensures count { result ≡ value.now.fields.checkpoint + 65 - first_listed value.now }
-    ensures few { result ≤ 128 }
+    ensures count { result ≡ value.now.fields.checkpoint + (SLOTS + 1) - first_listed value.now }
+    ensures few { result ≤ WINDOW_ROOM }
 {
     let first = first_of(value);
-    (value.fields().checkpoint + 65 - first) as usize
+    (value.fields().checkpoint + (SLOTS as u64 + 1) - first) as usize
 }
 
 // How many replicas its group has.
@@ -52,7 +55,7 @@ struct Space {
 impl Space {
     // Space for so many ops, of which nothing is known, in a group of n.
     fn new(alloc: Global, count: usize, n: u8) -> Result<Space, NoMemory>
-        requires { count ≤ 128 }
+        requires { count ≤ WINDOW_ROOM }
         ensures parts { IfOk result (λ space. space.parts ≡ replicate count Nothing) }
         ensures ackers { IfOk result (λ space. space.ackers ≡ replicate count no_replicas) }
         ensures statements { IfOk result (λ space. space.statements ≡ replicate n None) }
@@ -77,8 +80,8 @@ impl Replica {
     #[tactic(auto, unfolding(vr_rules::specs::Opening::blank))]
     fn within(alloc: Global, value: Super, first: u64, space: Space) -> Replica
         requires first { first ≡ first_listed value }
-        requires parts { space.parts ≡ replicate (value.fields.checkpoint + 65 - first) Nothing }
-        requires ackers { space.ackers ≡ replicate (value.fields.checkpoint + 65 - first) no_replicas }
+        requires parts { space.parts ≡ replicate (value.fields.checkpoint + (SLOTS + 1) - first) Nothing }
+        requires ackers { space.ackers ≡ replicate (value.fields.checkpoint + (SLOTS + 1) - first) no_replicas }
         requires statements { space.statements ≡ replicate value.fields.n None }
         ensures { result ≡ blank value }
     {

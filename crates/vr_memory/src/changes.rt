@@ -8,6 +8,7 @@ ghost use Rattle.vr_rules.specs.Words.{rested, stored, entered, lost, learned, v
 ghost use Rattle.vr_memory.specs.Ready.{IsReady, HasWindow, MayStore};
 
 use crate::Replica;
+use crate::parts::first_remembered;
 use vr_base::Replicas;
 use vr_ckpt::NameList;
 use vr_header::{Entry, Header, Part};
@@ -30,7 +31,7 @@ impl Replica {
         self.parts.replace(at, part);
     }
 
-    /// Lets go what stands before the last 64 ops up to the head.
+    /// Lets go what stands before the last ops up to the head that are remembered.
     #[tactic(auto, using(crate::proofs::Memory::bounds), unfolding(vr_rules::specs::Replica::forgetting))]
     pub fn forget(&mut self)
         requires { HasWindow self.old }
@@ -38,7 +39,7 @@ impl Replica {
         ensures view { self.new.view ≡ self.old.view }
         ensures saved { self.new.saved ≡ self.old.saved }
     {
-        let gone = self.head().saturating_sub(63).saturating_sub(self.first);
+        let gone = first_remembered(self.head()).saturating_sub(self.first);
         self.first += gone;
         self.parts.forget(gone as usize);
         self.ackers.forget(gone as usize);

@@ -9,7 +9,7 @@ ghost use Rattle.vr_rules.specs.Words.{blocks_of, op_of_slot, place_now, places,
 use crate::Replica;
 use std::alloc::AllocError;
 use vr_ckpt::{Name, Payload};
-use vr_disk::BLOCKS;
+use vr_disk::{BLOCKS, SLOTS};
 
 // Whether a block of this address is among these.
 fn has_address(names: &[Name], address: u64) -> bool
@@ -61,12 +61,12 @@ impl Replica {
         }
     }
 
-    // How many places there are.
+    // How many places there are: the slots, the superblock, and the checkpoint's blocks.
     fn places(&self) -> u64
         ensures count { result ≡ places self.now }
         ensures few { result < 2 ^ 63 }
     {
-        65 + self.block_count()
+        SLOTS as u64 + 1 + self.block_count()
     }
 
     /// The place that is visited next.
@@ -86,10 +86,11 @@ impl Replica {
     #[tactic(auto, using(crate::proofs::Visits::number_fits))]
     pub fn op_of_slot(&self, slot: u64) -> u64
         requires ready { IsReady self.now }
-        requires slot { slot < 64 }
+        requires slot { slot < SLOTS }
         ensures { result ≡ op_of_slot self.now slot }
     {
-        self.checkpoint + 1 + (slot + 63 - self.checkpoint % 64) % 64
+        let slots = SLOTS as u64;
+        self.checkpoint + 1 + (slot + slots - 1 - self.checkpoint % slots) % slots
     }
 
     /// The place after this one comes next.

@@ -15,6 +15,9 @@ use vr_header::{Header, Part, nameless};
 use vr_super::Super;
 use vr_window::Window;
 
+// The greatest sequence number with which it still takes an event: the saves of one step have room above it.
+const LAST_SEQUENCE: u64 = u64::MAX - 255;
+
 // ---- as they stand
 
 impl Replica {
@@ -193,7 +196,7 @@ impl Replica {
     pub fn is_spent(&self) -> bool
         ensures { result ≡ is_spent self.now }
     {
-        18_446_744_073_709_551_360 < self.saved.fields().sequence
+        LAST_SEQUENCE < self.saved.fields().sequence
     }
 
     /// The version of its file, which its messages have, and the entries that it makes.

@@ -11,11 +11,13 @@ ghost use Rattle.vr_rules.specs.Sound.{IsNameBytes};
 ghost use Rattle.vr_rules.specs.Words.{jumped, jumped_part, sync_log};
 
 use crate::loaded::only;
+use crate::parts::first_remembered;
 use crate::taking::is_chain;
 use crate::{Log, Replica};
 use std::alloc::{AllocError, Global};
 use vr_base::{Replicas, Sum};
 use vr_ckpt::{Name, NameList};
+use vr_disk::SLOTS;
 use vr_header::Part;
 use vr_msg::SyncView;
 
@@ -82,22 +84,22 @@ impl Replica {
             && self.checkpoint < sync.checkpoint
     }
 
-    // Its lists reach from the last 64 ops up to the log's head to the end of the later window; nothing is known of the ops that come in.
+    // Its lists reach from the first op remembered under the log's head to the end of the later window; nothing is known of the ops that come in.
     #[tactic(auto, unfolding(crate::specs::Jumps::moved_to))]
     fn move_lists(&mut self, sync: &SyncView)
         requires window { HasWindow self.old }
         requires above { self.old.checkpoint < sync.now.checkpoint }
         requires within { sync.now.checkpoint ≤ sync.now.head }
-        requires short { sync.now.head ≤ sync.now.checkpoint + 64 }
+        requires short { sync.now.head ≤ sync.now.checkpoint + SLOTS }
         requires number { sync.now.head < 2 ^ 63 }
         ensures { self.new ≡ moved_to sync.now self.old }
     {
-        let first = self.first.max(sync.head.saturating_sub(63));
+        let first = self.first.max(first_remembered(sync.head));
         let gone = (first - self.first) as usize;
         self.parts.forget(gone);
         self.ackers.forget(gone);
         self.first = first;
-        let count = (sync.checkpoint + 65 - first) as usize;
+        let count = (sync.checkpoint + (SLOTS as u64 + 1) - first) as usize;
         let more = count.saturating_sub(self.parts.len());
         self.parts.extend(Part::Nothing, more);
         self.ackers.extend(Replicas::none(), more);

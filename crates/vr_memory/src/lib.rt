@@ -2,15 +2,14 @@
 #![tactic(auto)]
 
 mod applied;
+mod asking;
 mod blank;
 mod changes;
 mod cursor;
 mod fields;
-mod giving;
 mod group;
 mod jumping;
 mod loaded;
-mod outputs;
 mod parts;
 mod reading;
 mod repairing;

@@ -9,7 +9,7 @@ use crate::Replica;
 use std::alloc::Global;
 use vr_base::NoMemory;
 use vr_ckpt::Name;
-use vr_disk::SectorDisk;
+use vr_disk::{SLOTS, SectorDisk};
 use vr_header::{Entry, Header};
 use vr_rings::read_prepare;
 
@@ -37,12 +37,12 @@ impl Replica {
         ensures left { self.new ≡ self.old }
         ensures told { D.told disk.new ≡ D.told disk.old }
         ensures faults { D.faults disk.new ≡ D.faults disk.old }
-        ensures value { IfSome (D.told disk.old) (λ d. IsTrue result ↔ (option_map (λ e. e.header) (whole_in (version self.old) d.face (header.now.op % 64)) ≡ Some header.now)) }
+        ensures value { IfSome (D.told disk.old) (λ d. IsTrue result ↔ (option_map (λ e. e.header) (whole_in (version self.old) d.face (header.now.op % SLOTS)) ≡ Some header.now)) }
     {
         let version = self.version();
         read_prepare(
             disk,
-            (header.op % 64) as u32,
+            (header.op % SLOTS as u64) as u32,
             header,
             &mut self.buffer,
             version,

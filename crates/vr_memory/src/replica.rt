@@ -4,7 +4,7 @@ use std::alloc::{AllocError, Global};
 use std::marker::Model;
 use vr_base::{NoMemory, Replicas};
 use vr_ckpt::{Name, NameList, PayloadTable, State};
-use vr_disk::Buffer;
+use vr_disk::{Buffer, SLOTS};
 use vr_header::{HeaderList, Names, Part};
 use vr_msg::Statement;
 use vr_super::{Fields, Super};
@@ -74,7 +74,7 @@ impl Model for Replica {
 
 impl Replica {
     ghost use Rattle.std.specs.Prelude.{◌≡◌, IfOk, ◌<◌, ◌≤◌, ◌+◌, ◌^◌};
-    ghost use Rattle.vr_rules.specs.Replica.{part_at, head, run};
+    ghost use Rattle.vr_rules.specs.Replica.{part_at, head, run, window_end};
     ghost use Rattle.vr_rules.specs.Words.{value_of};
     ghost use Rattle.vr_memory.specs.Ready.{IsReady, HasWindow};
 
@@ -90,12 +90,20 @@ impl Replica {
         }
     }
 
+    /// The last op of its window, which has as many ops above the checkpoint as there are slots.
+    pub fn window_end(&self) -> u64
+        requires { HasWindow self.now }
+        ensures { result ≡ window_end self.now }
+    {
+        self.checkpoint + SLOTS as u64
+    }
+
     /// The greatest op up to which, above the checkpoint, each header is known.
     #[tactic(auto, using(crate::proofs::Memory::bounds), unfolding(vr_rules::specs::Replica::head))]
     pub fn head(&self) -> u64
         requires { HasWindow self.now }
         ensures head { result ≡ head self.now }
-        ensures within { result ≤ self.now.checkpoint + 64 }
+        ensures within { result ≤ window_end self.now }
     {
         let from = (self.checkpoint + 1 - self.first) as usize;
         self.checkpoint + known_from(&self.parts, from) as u64

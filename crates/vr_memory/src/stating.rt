@@ -4,7 +4,7 @@ ghost use Rattle.std.specs.Option.{option_to_list};
 ghost use Rattle.vr_header.specs.declared.part.Part.TheVariants.{Nothing};
 ghost use Rattle.vr_memory.specs.Ready.{HasWindow};
 ghost use Rattle.vr_memory.specs.States.{last_told, stated_by};
-ghost use Rattle.vr_rules.specs.Replica.{is_nothing, parts_from, run_start, statement_of, trimmed};
+ghost use Rattle.vr_rules.specs.Replica.{is_nothing, parts_from, run_start, statement_of, trimmed, window_end};
 ghost use Rattle.vr_rules.specs.Words.{stated};
 
 use crate::Replica;
@@ -79,7 +79,7 @@ impl Replica {
     pub(crate) fn run_start(&self) -> u64
         requires { HasWindow self.now }
         ensures value { result ≡ run_start self.now }
-        ensures within { result ≤ self.now.checkpoint + 64 }
+        ensures within { result ≤ window_end self.now }
     {
         let head = self.head();
         let count = (head + 1 - self.first) as usize;

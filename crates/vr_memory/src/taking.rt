@@ -188,7 +188,7 @@ impl Replica {
         requires { HasWindow self.now }
         ensures { result ≡ fits log.now self.now }
     {
-        log.head <= self.checkpoint + 64
+        log.head <= self.window_end()
             && log.lo <= self.commit
             && self.commit <= log.head
             && (self.checkpoint < log.head || log.head == 0 || self.knows_at(log.head))

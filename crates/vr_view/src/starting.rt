@@ -59,7 +59,7 @@ fn is_out_of_reach(replica: &Replica, log: &Log) -> bool
     requires { HasWindow replica.now }
     ensures { result ≡ (nat_lt (window_end replica.now) log.now.head || nat_lt replica.now.commit log.now.lo) }
 {
-    replica.checkpoint() + 64 < log.head || replica.commit() < log.lo
+    replica.window_end() < log.head || replica.commit() < log.lo
 }
 
 /// The first that holds: `Ignored` unless it is of this version and group and from its view's primary,

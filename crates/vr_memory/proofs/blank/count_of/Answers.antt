@@ -3,8 +3,8 @@ use Rattle.vr_super.specs.declared.fields.Fields.{Fields}
 use Rattle.vr_memory.proofs.Blanks.{blank_room}
 use Rattle.vr_memory.proofs.blank.count_of.Goals as goal
 
-pub overflow_add-result : goal.overflow_add-result
-overflow_add-result c =
+pub overflow_add-result-2 : goal.overflow_add-result-2
+overflow_add-result-2 c =
     let n = (blank_room _ c.fields.ensures.good).number in
     let e = ap (λ (f : Fields). f.checkpoint) c.fields.ensures.value in
     omega (arith, n, e)
