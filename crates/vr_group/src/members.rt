@@ -7,6 +7,7 @@ ghost use Rattle.vr_lying.specs.World.{Arrives, at_member, fresh_world, happens}
 ghost use Rattle.vr_group.specs.Deeds.{IsDeed, act_of};
 ghost use Rattle.vr_group.specs.Headline.{HasAsked};
 ghost use Rattle.vr_group.specs.Lines.{happening};
+ghost use Rattle.vr_text.specs.Fronts.{IsFront};
 
 use crate::asked::what_is_asked;
 use crate::hosts::{act_at, make_hosts};
@@ -42,7 +43,7 @@ impl Members {
     }
 
     // Something is done to a member.
-    #[tactic(auto, using(crate::proofs::Acts::happened_as))]
+    #[tactic(auto, using(crate::proofs::Acts::happened_as, vr_text::proofs::Fronts::front_same))]
     fn act(
         &mut self,
         alloc: Global,
@@ -51,7 +52,8 @@ impl Members {
         to: &mut Outputs,
     ) -> Result<(), NoMemory>
         requires { IsDeed deed.now }
-        ensures { OnOk result (HasHappened (at_member (world_of self.old) replica (act_of deed.now)) (world_of self.old) (world_of self.new) to.old to.new) }
+        ensures happened { OnOk result (HasHappened (at_member (world_of self.old) replica (act_of deed.now)) (world_of self.old) (world_of self.new) to.old to.new) }
+        ensures front { IsFront to.old.text to.new.text }
     {
         let mut out = Seq::new(alloc);
         act_at(&mut self.hosts, alloc, replica, deed, &mut out)?;
@@ -60,8 +62,10 @@ impl Members {
     }
 
     // The message of this number, counted from the front again past the last, reaches its destination.
+    #[tactic(auto, using(vr_text::proofs::Fronts::front_same))]
     fn deliver(&mut self, alloc: Global, number: u64, to: &mut Outputs) -> Result<(), NoMemory>
-        ensures { OnOk result (HasHappened (happens hazards (world_of self.old) (Arrives number)) (world_of self.old) (world_of self.new) to.old to.new) }
+        ensures happened { OnOk result (HasHappened (happens hazards (world_of self.old) (Arrives number)) (world_of self.old) (world_of self.new) to.old to.new) }
+        ensures front { IsFront to.old.text to.new.text }
     {
         let count = self.sent.len() as u64;
         if count == 0 {
@@ -78,12 +82,13 @@ impl Members {
         Ok(())
     }
 
-    /// What a line says of it.
-    #[tactic(auto, using(vr_base::proofs::Members::is_sized, crate::proofs::Acts::begun, crate::proofs::Sectors::on_disk))]
+    /// What a line says of it. An `Err` may have added some text of it, behind what stood there.
+    #[tactic(auto, using(vr_base::proofs::Members::is_sized, vr_text::proofs::Fronts::front_same, crate::proofs::Acts::begun, crate::proofs::Sectors::on_disk))]
     pub fn happen(&mut self, alloc: Global, line: &Line, to: &mut Outputs) -> Result<(), NoMemory>
         requires { (version : ℕ) × IsLineOf version self.old.n line.now }
         ensures happened { OnOk result (HasHappened (happens hazards (world_of self.old) (happening line.now)) (world_of self.old) (world_of self.new) to.old to.new) }
         ensures asked { OnOk result (HasAsked line.now) }
+        ensures front { IsFront to.old.text to.new.text }
     {
         match line {
             Line::Cluster { n, kind } => {

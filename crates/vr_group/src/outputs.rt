@@ -1,11 +1,12 @@
 //! What is put out, and the messages among it.
-ghost use Rattle.std.specs.Prelude.{◌≡◌, ◌++◌, ◌∷◌, [], length, IfOk, OnOk};
+ghost use Rattle.std.specs.Prelude.{◌≡◌, ◌++◌, ◌∷◌, [], length, take, OnOk};
 ghost use Rattle.vr_replica.specs.Outputs.{message_of, messages};
 ghost use Rattle.vr_group.specs.Outputs.{numbered, outputs_of, put_as, with_number, with_outputs};
-ghost use Rattle.vr_group.specs.declared.outputs.Put.TheVariants.{Message};
+ghost use Rattle.vr_text.specs.Fronts.{IsFront};
 
 use crate::Letter;
 use std::alloc::{AllocError, Global};
+use std::mem;
 use vr_base::{ByteList, Seq};
 use vr_msg::{Outbox, Output, Sent};
 use vr_text::write_text;
@@ -17,9 +18,6 @@ pub enum Put {
     Other(Output),
 }
 
-/// Room in bytes for the text of what most lines put out.
-const TEXT_ROOM: usize = 256;
-
 /// What is put out, in order, and its text.
 #[derive(Drop)]
 pub struct Outputs {
@@ -29,15 +27,15 @@ pub struct Outputs {
 }
 
 impl Outputs {
-    /// Nothing, with room for the text of a line.
+    /// Nothing.
     #[tactic(auto, using(std::proofs::lemmas::Grind::common_steps, crate::proofs::Numbering::text_none))]
-    pub fn new(alloc: Global) -> Result<Outputs, AllocError>
-        ensures { IfOk result (λ outputs. outputs ≡ outputs_of []) }
+    pub fn new(alloc: Global) -> Outputs
+        ensures { result ≡ outputs_of [] }
     {
-        Ok(Outputs {
+        Outputs {
             puts: Seq::new(alloc),
-            text: ByteList::from_vec(Vec::with_capacity(alloc, TEXT_ROOM)?),
-        })
+            text: ByteList::new(alloc),
+        }
     }
 
     /// Lets all go; the memory stays.
@@ -48,17 +46,20 @@ impl Outputs {
         self.puts.clear();
         self.text.clear();
     }
+
+    /// Cuts the text behind so many bytes; the memory stays.
+    pub fn cut_text(&mut self, alloc: Global, len: usize)
+        ensures { self.new.text ≡ take len self.old.text }
+    {
+        let mut bytes = mem::replace(&mut self.text, ByteList::new(alloc)).into_vec();
+        bytes.truncate(len);
+        self.text = ByteList::from_vec(bytes);
+    }
 }
 
-// Keeps a message, which is put out by its number.
-fn keep_message(
-    alloc: Global,
-    number: u64,
-    sent: &mut Seq<Letter>,
-    message: Sent,
-) -> Result<Put, AllocError>
-    ensures sent { OnOk result (sent.new ≡ sent.old ++ message ∷ []) }
-    ensures put { IfOk result (λ p. p ≡ Message number) }
+// Keeps a message.
+fn keep_message(alloc: Global, sent: &mut Seq<Letter>, message: Sent) -> Result<(), AllocError>
+    ensures { OnOk result (sent.new ≡ sent.old ++ message ∷ []) }
 {
     let letter = Letter::new(
         alloc,
@@ -67,23 +68,26 @@ fn keep_message(
         message.to,
         message.message,
     )?;
-    sent.push(letter)?;
-    Ok(Put::Message(number))
+    sent.push(letter)
 }
 
-// Keeps the output if it is a message.
-fn put_of(
+// One more is put out: a message is kept, any other output stays as it is.
+fn put(
     alloc: Global,
     number: u64,
     sent: &mut Seq<Letter>,
     output: Output,
-) -> Result<Put, AllocError>
+    puts: &mut Seq<Put>,
+) -> Result<(), AllocError>
     ensures sent { OnOk result (sent.new ≡ sent.old ++ message_of output) }
-    ensures put { IfOk result (λ p. p ≡ put_as number output) }
+    ensures put { OnOk result (puts.new ≡ puts.old ++ put_as number output ∷ []) }
 {
     match output {
-        Output::Send(message) => keep_message(alloc, number, sent, message),
-        other => Ok(Put::Other(other)),
+        Output::Send(message) => {
+            keep_message(alloc, sent, message)?;
+            puts.push(Put::Message(number))
+        }
+        other => puts.push(Put::Other(other)),
     }
 }
 
@@ -97,17 +101,18 @@ fn record_output(
 ) -> Result<(), AllocError>
     ensures sent { OnOk result (sent.new ≡ sent.old ++ message_of output) }
     ensures numbered { OnOk result (to.new ≡ with_outputs to.old (with_number (length sent.old) output ∷ [])) }
+    ensures front { IsFront to.old.text to.new.text }
 {
     let number = sent.len() as u64;
     if let Err(wanted) = write_text(number, &output, &mut to.text) {
         drop(output);
         return Err(wanted);
     }
-    to.puts.push(put_of(alloc, number, sent, output)?)
+    put(alloc, number, sent, output, &mut to.puts)
 }
 
-/// Each output, in order.
-#[tactic(auto, using(std::proofs::lemmas::Grind::common_steps, crate::proofs::Numbering::messages_more, crate::proofs::Numbering::messages_none, crate::proofs::Numbering::outputs_more, crate::proofs::Numbering::outputs_end))]
+/// Each output, in order. An `Err` may have added some of their text, behind what stood there.
+#[tactic(auto, using(std::proofs::lemmas::Grind::common_steps, crate::proofs::Numbering::messages_more, crate::proofs::Numbering::messages_none, crate::proofs::Numbering::outputs_more, crate::proofs::Numbering::outputs_end, vr_text::proofs::Fronts::front_same, vr_text::proofs::Fronts::front_then))]
 pub fn record_outputs(
     alloc: Global,
     sent: &mut Seq<Letter>,
@@ -116,6 +121,7 @@ pub fn record_outputs(
 ) -> Result<(), AllocError>
     ensures sent { OnOk result (sent.new ≡ sent.old ++ messages outputs) }
     ensures numbered { OnOk result (to.new ≡ with_outputs to.old (numbered (length sent.old) outputs)) }
+    ensures front { IsFront to.old.text to.new.text }
 {
     for output in outputs.into_vec() {
         record_output(alloc, sent, output, to)?;

@@ -1,5 +1,5 @@
 //! A group of members, and every message that they have sent.
-ghost use Rattle.std.specs.Prelude.{ℕ, ◌≡◌, ◌<◌, ◌^◌, [], true, false, IfOk, OnOk, OnErr, length};
+ghost use Rattle.std.specs.Prelude.{ℕ, ◌≡◌, ◌<◌, ◌^◌, true, false, IfOk, OnOk, OnErr, length};
 ghost use Rattle.vr_base.specs.Groups.{is_size};
 ghost use Rattle.vr_base.specs.declared.kind.Kind.{Kind};
 ghost use Rattle.vr_lines.specs.Fits.{IsLineOf};
@@ -8,13 +8,13 @@ ghost use Rattle.vr_lying.specs.World.{fresh_world, happen, happens, no_world};
 ghost use Rattle.vr_group.specs.Group.{HasHappened, world_of};
 ghost use Rattle.vr_group.specs.Headline.{HaveAsked, IsJustMade, LinesKeepOneLog};
 ghost use Rattle.vr_group.specs.Lines.{AreLinesOf, happening, happenings, version_behind};
-ghost use Rattle.vr_group.specs.Outputs.{numbered, outputs_of};
+ghost use Rattle.vr_group.specs.Outputs.{numbered, outputs_of, with_outputs};
 ghost use Rattle.vr_group.specs.Views.{top_view};
 
 use crate::Outputs;
 use crate::members::Members;
 use crate::views::top_view;
-use std::alloc::{AllocError, Global};
+use std::alloc::Global;
 use std::marker::Model;
 use vr_base::{Kind, NoMemory, Seq, Version};
 use vr_lines::Line;
@@ -26,8 +26,6 @@ pub struct World {
     members: Members,
     version: Version,
     live: bool,
-    // Outputs that nobody needs any more: the next ones are written into their memory.
-    spare: Option<Outputs>,
 }
 
 impl Model for World {
@@ -36,19 +34,6 @@ impl Model for World {
     ghost Value = { Group };
 
     ghost view = { λ w. record { world = world_of w.members; version = w.version; live = w.live } };
-}
-
-// No outputs, in memory of others that were given back.
-fn no_outputs(alloc: Global, spare: Option<Outputs>) -> Result<Outputs, AllocError>
-    ensures { IfOk result (λ outputs. outputs ≡ outputs_of []) }
-{
-    match spare {
-        Some(mut outputs) => {
-            outputs.clear();
-            Ok(outputs)
-        }
-        None => Outputs::new(alloc),
-    }
 }
 
 // What happens at lines, one after the other.
@@ -85,7 +70,6 @@ impl World {
             },
             version: Version::new(1),
             live: true,
-            spare: None,
         }
     }
 
@@ -100,7 +84,6 @@ impl World {
             members: Members::begin(alloc, n, &kind)?,
             version: kind.version,
             live: true,
-            spare: None,
         })
     }
 
@@ -141,32 +124,29 @@ impl World {
         top_view(&mut self.members.hosts)
     }
 
-    /// What happens at one line. An `Err` stops the group.
-    #[tactic(auto, using(crate::proofs::Numbering::outputs_alone))]
-    pub fn step(&mut self, alloc: Global, line: &Line) -> Result<Outputs, NoMemory>
+    /// What happens at one line; what it puts out goes behind what stands there. An `Err` stops the group, and the text is then as it was.
+    #[tactic(auto, unfolding(vr_text::specs::Fronts::IsFront))]
+    pub fn step(&mut self, alloc: Global, line: &Line, to: &mut Outputs) -> Result<(), NoMemory>
         requires live { self.old.live ≡ true }
         requires of { IsLineOf self.old.version self.old.world.n line.now }
         ensures world { OnOk result (self.new.world ≡ (happens hazards self.old.world (happening line.now)).world) }
         ensures version { OnOk result (self.new.version ≡ version_behind self.old.version line.now) }
-        ensures outputs { IfOk result (λ o. o ≡ outputs_of (numbered (length self.old.world.sent) (happens hazards self.old.world (happening line.now)).outputs)) }
+        ensures outputs { OnOk result (to.new ≡ with_outputs to.old (numbered (length self.old.world.sent) (happens hazards self.old.world (happening line.now)).outputs)) }
         ensures live { OnOk result (self.new.live ≡ true) }
         ensures stopped { OnErr result (self.new.live ≡ false) }
+        ensures kept { OnErr result (to.new.text ≡ to.old.text) }
     {
         self.live = false;
-        let mut outputs = no_outputs(alloc, self.spare.take())?;
-        self.members.happen(alloc, line, &mut outputs)?;
+        let len = to.text.len();
+        if let Err(wanted) = self.members.happen(alloc, line, to) {
+            to.cut_text(alloc, len);
+            return Err(wanted);
+        }
         if let Line::Cluster { kind, .. } = line {
             self.version = kind.version;
         }
         self.live = true;
-        Ok(outputs)
-    }
-
-    /// Takes outputs that nobody needs any more: those of the next line are written into their memory.
-    pub fn give_back(&mut self, outputs: Outputs)
-        ensures { self.new ≡ self.old }
-    {
-        drop(self.spare.replace(outputs));
+        Ok(())
     }
 
     /// What happens at lines of a group, one after the other. An `Err` stops the group.
@@ -185,7 +165,7 @@ impl World {
         ensures headline { OnOk result ((kind : Kind) → IsJustMade kind self.old.world → length lines.now < 2 ^ 60 → LinesKeepOneLog kind self.old.world.n lines.now) }
     {
         self.live = false;
-        let mut outputs = Outputs::new(alloc)?;
+        let mut outputs = Outputs::new(alloc);
         happen_all(&mut self.members, alloc, lines, &mut outputs)?;
         self.live = true;
         Ok(outputs)

@@ -9,7 +9,7 @@ use crate::{Heard, Summary};
 use std::alloc::Global;
 use vr_base::{Kind, Mode, NoMemory};
 use vr_draws::Generator;
-use vr_group::World;
+use vr_group::{Outputs, World};
 
 /// A group, and what its next line is drawn by.
 #[derive(Drop)]
@@ -17,6 +17,8 @@ pub struct Soaking {
     pub group: World,
     pub generator: Generator,
     pub heard: Heard,
+    /// Those of the last line; those of the next are written into their memory.
+    outputs: Outputs,
 }
 
 impl Soaking {
@@ -35,6 +37,7 @@ impl Soaking {
             group,
             generator,
             heard,
+            outputs: Outputs::new(alloc),
         })
     }
 
@@ -53,9 +56,9 @@ impl Soaking {
         let line = self
             .generator
             .line(alloc, n, messages, &self.heard.requests)?;
-        let outputs = self.group.step(alloc, &line)?;
-        self.heard.hear(&outputs)?;
-        self.group.give_back(outputs);
+        self.outputs.clear();
+        self.group.step(alloc, &line, &mut self.outputs)?;
+        self.heard.hear(&self.outputs)?;
         Ok(())
     }
 

@@ -3,11 +3,11 @@ use Rattle.vr_group.specs.Group.{world_of}
 use Rattle.vr_group.proofs.Acts.{deliver_nothing, letter_delivered}
 use Rattle.vr_group.proofs.members.Members.deliver.Goals as goal
 
-pub returns-then-count-eq0 : goal.returns-then-count-eq0
-returns-then-count-eq0 c = deliver_nothing (world_of c.args.self.now) c.args.number c.args.to.now (sym c.len-count.ensures ∙ c.if-count-eq0.true)
+pub returns-then-count-eq0-clause-happened : goal.returns-then-count-eq0-clause-happened
+returns-then-count-eq0-clause-happened c = deliver_nothing (world_of c.args.self.now) c.args.number c.args.to.now (sym c.len-count.ensures ∙ c.if-count-eq0.true)
 
-pub returns : goal.returns
-returns c =
+pub returns-clause-happened : goal.returns-clause-happened
+returns-clause-happened c =
     let letter = c.index-as_slice-number.result in
     let all = c.as_slice.ensures in
     let item = c.index-as_slice-number.is in

@@ -1,4 +1,4 @@
-use Rattle.std.proofs.Common.{◌∙◌, ap}
+use Rattle.vr_group.proofs.Numbering.{outputs_alone}
 use Rattle.vr_soak.proofs.Going.{size_kept, soaking_more}
 use Rattle.vr_soak.proofs.soaking.Soaking.step.Goals as goal
 
@@ -9,10 +9,10 @@ returns-clause-soaking c = λ n number count i.
     let line = rw (size, messages) at c.in_ok-line.ensures.line in
     let next = rw (size, messages) at c.in_ok-line.ensures.number in
     let fits = rw size at c.in_ok-line.ensures.fits in
-    soaking_more n number count c.args.self.now _ c.in_ok-line.line c.in_ok-outputs.outputs c.requires.size line next fits (ap (λ g. g.world) c.give_back.ensures ∙ c.in_ok-outputs.ensures.world) c.in_ok-outputs.ensures.outputs c.in_ok-hear.ensures i
+    let outputs = outputs_alone _ _ _ c.clear.ensures c.in_ok-step.ensures.outputs in
+    soaking_more n number count c.args.self.now _ c.in_ok-line.line _ c.requires.size line next fits c.in_ok-step.ensures.world outputs c.in_ok-hear.ensures i
 
 pub returns-clause-size : goal.returns-clause-size
 returns-clause-size c =
     let fits = rw c.size-n.ensures at c.in_ok-line.ensures.fits in
-    ap (λ g. g.world.n) c.give_back.ensures
-    ∙ size_kept c.args.self.now.group.world c.step.new.self.world c.in_ok-line.line c.requires.size fits c.in_ok-outputs.ensures.world
+    size_kept c.args.self.now.group.world c.step.new.self.world c.in_ok-line.line c.requires.size fits c.in_ok-step.ensures.world
