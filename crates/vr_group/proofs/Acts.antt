@@ -18,9 +18,8 @@ use Rattle.vr_lying.specs.World.{Acted, Arrives, Begins, Happened, Host, World, 
 use Rattle.vr_replica.specs.Outputs.{messages}
 use Rattle.vr_group.specs.Group.{HasHappened}
 use Rattle.vr_group.specs.Hosts.{HasActed, HaveActed, acted_at}
-use Rattle.vr_group.specs.Outputs.{numbered, with_outputs}
-use Rattle.vr_group.specs.declared.outputs.Outputs.{Outputs}
-use Rattle.vr_group.proofs.Numbering.{outputs_none}
+use Rattle.vr_group.specs.Outputs.{numbered, text_of}
+use Rattle.vr_group.proofs.Numbering.{text_same}
 
 abbrev pub Act : Type 0
 Act = ℕ → Host Lying → Acted Lying
@@ -71,36 +70,38 @@ unfolding at_member
 joined w index act ms out h = joined_as w index act ms out (slice_get w.members index) h.members h.outputs
 
 -- what was put out is kept and numbered
-pub happened : (w : World Lying) (index : ℕ) (act : Act) (ms : List (Host Lying)) (out : List Output) (before : Outputs) → HaveActed act w.members ms index out
-    → HasHappened (at_member w index act) w (record { n = w.n; members = ms; sent = w.sent ++ messages out }) before (with_outputs before (numbered (length w.sent) out))
+pub happened : (w : World Lying) (index : ℕ) (act : Act) (ms : List (Host Lying)) (out : List Output) (before : List ℕ) → HaveActed act w.members ms index out
+    → HasHappened (at_member w index act) w (record { n = w.n; members = ms; sent = w.sent ++ messages out }) out before (before ++ text_of (numbered (length w.sent) out))
 happened w index act ms out before h =
     let e = sym (joined w index act ms out h) in
-    record { world = ap (λ (h : Happened Lying). h.world) e; outputs = ap (λ (h : Happened Lying). with_outputs before (numbered (length w.sent) h.outputs)) e }
+    record {
+      world = ap (λ (h : Happened Lying). h.world) e;
+      outputs = ap (λ (h : Happened Lying). h.outputs) e;
+      text = ap (λ (h : Happened Lying). before ++ text_of (numbered (length w.sent) h.outputs)) e;
+    }
 
-pub happened_as : (w : World Lying) (index : ℕ) (act : Act) (ms : List (Host Lying)) (sent : List Sent) (out : List Output) (before now : Outputs) → HaveActed act w.members ms index out
-    → sent ≡ w.sent ++ messages out → now ≡ with_outputs before (numbered (length w.sent) out) → HasHappened (at_member w index act) w (record { n = w.n; members = ms; sent = sent }) before now
+pub happened_as : (w : World Lying) (index : ℕ) (act : Act) (ms : List (Host Lying)) (sent : List Sent) (out : List Output) (before now : List ℕ) → HaveActed act w.members ms index out
+    → sent ≡ w.sent ++ messages out → now ≡ before ++ text_of (numbered (length w.sent) out) → HasHappened (at_member w index act) w (record { n = w.n; members = ms; sent = sent }) out before now
 happened_as w index act ms sent out before now h e k = rw (e, k) (happened w index act ms out before h)
 
 -- nothing was put out
-pub nothing_happened : (w : World Lying) (before : Outputs) → HasHappened (nothing w) w w before before
-unfolding numbered
-nothing_happened w before = record { world = refl; outputs = sym (outputs_none before) }
+pub nothing_happened : (w : World Lying) (before : List ℕ) → HasHappened (nothing w) w w [] before before
+nothing_happened w before = record { world = refl; outputs = refl; text = text_same (length w.sent) before }
 
 -- ---- lines
 
-pub delivered_there : (w new : World Lying) (at : ℕ) (s : Sent) (before now : Outputs) → slice_get w.sent at ≡ Some s → HasHappened (at_member w s.to (handles hazards (event.Deliver s.message))) w new before now
-    → HasHappened (delivered hazards w (slice_get w.sent at)) w new before now
-delivered_there w new at s before now e h = subst (λ o. HasHappened (delivered hazards w o) w new before now) (sym e) h
+pub delivered_there : (w new : World Lying) (at : ℕ) (s : Sent) (out : List Output) (before now : List ℕ) → slice_get w.sent at ≡ Some s → HasHappened (at_member w s.to (handles hazards (event.Deliver s.message))) w new out before now
+    → HasHappened (delivered hazards w (slice_get w.sent at)) w new out before now
+delivered_there w new at s out before now e h = subst (λ o. HasHappened (delivered hazards w o) w new out before now) (sym e) h
 
-pub delivered_none : (w : World Lying) (at : ℕ) (before : Outputs) → slice_get w.sent at ≡ None → HasHappened (delivered hazards w (slice_get w.sent at)) w w before before
-delivered_none w at before e = subst (λ o. HasHappened (delivered hazards w o) w w before before) (sym e) (nothing_happened w before)
+pub delivered_none : (w : World Lying) (at : ℕ) (before : List ℕ) → slice_get w.sent at ≡ None → HasHappened (delivered hazards w (slice_get w.sent at)) w w [] before before
+delivered_none w at before e = subst (λ o. HasHappened (delivered hazards w o) w w [] before before) (sym e) (nothing_happened w before)
 
-pub deliver_nothing : (w : World Lying) (number : ℕ) (before : Outputs) → length w.sent ≡ 0 → HasHappened (happens hazards w (Arrives number)) w w before before
-deliver_nothing w number before e = delivered_none w (number % length w.sent) before (slice_get_past w.sent (number % length w.sent) (omega (arith, e)))
+pub deliver_nothing : (w : World Lying) (number : ℕ) (out : List Output) (before : List ℕ) → length w.sent ≡ 0 → out ≡ [] → HasHappened (happens hazards w (Arrives number)) w w out before before
+deliver_nothing w number out before e none = rw none (delivered_none w (number % length w.sent) before (slice_get_past w.sent (number % length w.sent) (omega (arith, e))))
 
-pub begun : (w new : World Lying) (kind : Kind) (n : ℕ) (before : Outputs) → new ≡ fresh_world hazards kind n → HasHappened (happens hazards w (Begins kind n)) w new before before
-unfolding numbered
-begun w new kind n before e = record { world = e; outputs = sym (outputs_none before) }
+pub begun : (w new : World Lying) (kind : Kind) (n : ℕ) (out : List Output) (before : List ℕ) → new ≡ fresh_world hazards kind n → out ≡ [] → HasHappened (happens hazards w (Begins kind n)) w new out before before
+begun w new kind n out before e none = record { world = e; outputs = none; text = text_same (length w.sent) before }
 
 -- ---- a new group
 
@@ -108,16 +109,16 @@ pub hosts_more : (kind : Kind) (n k : ℕ) (hs : List (Host Lying)) (h : Host Ly
     → hs ++ h ∷ [] ≡ map (fresh_host hazards kind n) (range_with_len 0 (k + 1))
 hosts_more kind n k hs h e f = rw (e, f) (sym (map-range_with_len_more (fresh_host hazards kind n) 0 k k (omega arith)))
 
-delivered_to : (w : World Lying) (at : ℕ) (s : Sent) (ms : List (Host Lying)) (sent : List Sent) (out : List Output) (before now : Outputs) → slice_get w.sent at ≡ Some s
-    → HaveActed (handles hazards (event.Deliver s.message)) w.members ms s.to out → sent ≡ w.sent ++ messages out → now ≡ with_outputs before (numbered (length w.sent) out)
-    → HasHappened (delivered hazards w (slice_get w.sent at)) w (record { n = w.n; members = ms; sent = sent }) before now
+delivered_to : (w : World Lying) (at : ℕ) (s : Sent) (ms : List (Host Lying)) (sent : List Sent) (out : List Output) (before now : List ℕ) → slice_get w.sent at ≡ Some s
+    → HaveActed (handles hazards (event.Deliver s.message)) w.members ms s.to out → sent ≡ w.sent ++ messages out → now ≡ before ++ text_of (numbered (length w.sent) out)
+    → HasHappened (delivered hazards w (slice_get w.sent at)) w (record { n = w.n; members = ms; sent = sent }) out before now
 delivered_to w at s ms sent out before now there h i j =
-    delivered_there w (record { n = w.n; members = ms; sent = sent }) at s before now there (happened_as w s.to (handles hazards (event.Deliver s.message)) ms sent out before now h i j)
+    delivered_there w (record { n = w.n; members = ms; sent = sent }) at s out before now there (happened_as w s.to (handles hazards (event.Deliver s.message)) ms sent out before now h i j)
 
 -- the message of a number, counted from the front again past the last
-pub letter_delivered : (w : World Lying) (number count to : ℕ) (e : Event) (s : Sent) (ms : List (Host Lying)) (sent : List Sent) (out : List Output) (before now : Outputs) → count ≡ length w.sent → 0 < count → s ≡ get_or w.sent (number % count) s → to ≡ s.to → e ≡ event.Deliver s.message
-    → HaveActed (handles hazards e) w.members ms to out → sent ≡ w.sent ++ messages out → now ≡ with_outputs before (numbered (length w.sent) out)
-    → HasHappened (happens hazards w (Arrives number)) w (record { n = w.n; members = ms; sent = sent }) before now
+pub letter_delivered : (w : World Lying) (number count to : ℕ) (e : Event) (s : Sent) (ms : List (Host Lying)) (sent : List Sent) (out : List Output) (before now : List ℕ) → count ≡ length w.sent → 0 < count → s ≡ get_or w.sent (number % count) s → to ≡ s.to → e ≡ event.Deliver s.message
+    → HaveActed (handles hazards e) w.members ms to out → sent ≡ w.sent ++ messages out → now ≡ before ++ text_of (numbered (length w.sent) out)
+    → HasHappened (happens hazards w (Arrives number)) w (record { n = w.n; members = ms; sent = sent }) out before now
 letter_delivered w number count to e s ms sent out before now size some is there told h i j =
     let less = mod-lt number some in
     let within : number % count < length w.sent = omega (arith, size, less) in

@@ -12,11 +12,11 @@ use Rattle.vr_msg.specs.declared.output.Sent.{Sent}
 use Rattle.vr_lying.specs.Lying.{Lying, hazards}
 use Rattle.vr_lying.specs.World.{Acted, Happened, Happening, Host, World, at_member, delivered, happen, happens, nothing, with_member}
 use Rattle.vr_replica.specs.Outputs.{message_of, messages}
-use Rattle.vr_group.specs.Group.{HasHappened}
+use Rattle.vr_group.specs.Group.{HasHappened, HaveHappened}
 use Rattle.vr_group.specs.Lines.{AreLinesOf, happening, happenings}
-use Rattle.vr_group.specs.Outputs.{numbered, with_number, with_outputs}
+use Rattle.vr_group.specs.Outputs.{numbered, puts_of, with_number, with_outputs}
 use Rattle.vr_group.specs.declared.outputs.Outputs.{Outputs}
-use Rattle.vr_group.proofs.Numbering.{outputs_append, outputs_none}
+use Rattle.vr_group.proofs.Numbering.{outputs_append, outputs_none, put_behind}
 
 -- first these, then those
 pub record Follows (w : World Lying) (xs ys : List Happening) : Type 0 where
@@ -87,6 +87,22 @@ pub happen_one : (w : World Lying) (x : Happening) → happen hazards w (x ∷ [
 unfolding happen
 happen_one w x = let h = happens hazards w x in ap (λ (os : List Output). let y : Happened Lying = record { world = h.world; outputs = os } in y) (append-nil h.outputs)
 
+-- the messages that it sends stand behind the others
+pub sent_more : (version : ℕ) (w new : World Lying) (l : Line) (out : List Output) (before now : List ℕ) → 0 < w.n → IsLineOf version w.n l → HasHappened (happens hazards w (happening l)) w new out before now
+    → length w.sent + length (messages out) ≡ length new.sent
+sent_more version w new l out before now some fits h =
+    let grows = grows_one version w l some fits in
+    let all : length new.sent ≡ length (w.sent ++ messages out) = ap (λ (x : World Lying). length x.sent) h.world ∙ ap length grows.sent ∙ ap (λ os. length (w.sent ++ messages os)) (sym h.outputs) in
+    sym (all ∙ length-append w.sent (messages out))
+
+-- and it is put out, with its text, behind others
+pub put_more : (w new : World Lying) (x : Happening) (out : List Output) (before now : Outputs) → HasHappened (happens hazards w x) w new out before.text now.text → now.puts ≡ before.puts ++ puts_of (length w.sent) out
+    → HaveHappened (happens hazards w x) w new before now
+put_more w new x out before now h puts = record {
+  world = h.world;
+  outputs = put_behind before now (length w.sent) (happens hazards w x).outputs (puts ∙ ap (λ os. before.puts ++ puts_of (length w.sent) os) h.outputs) h.text;
+}
+
 -- ---- in the midst of lines, so many of which have happened
 
 pub record Going (i : ℕ) (lines : List Line) (first now : World Lying) (before to : Outputs) : Type 0 where
@@ -114,7 +130,7 @@ unfolding happenings
 happenings_next lines i d h = rw (take_more lines i d h) (map-append happening (take i lines) (get_or lines i d ∷ []))
 
 pub going_more : (version : ℕ) (lines : List Line) (i : ℕ) (l : Line) (first now next : World Lying) (before to to_next : Outputs) → 0 < first.n → AreLinesOf version first.n lines → i < length lines → l ≡ get_or lines i l
-    → Going i lines first now before to → HasHappened (happens hazards now (happening l)) now next to to_next → Going (i + 1) lines first next before to_next
+    → Going i lines first now before to → HaveHappened (happens hazards now (happening l)) now next to to_next → Going (i + 1) lines first next before to_next
 going_more version lines i l first now next before to to_next group a m is g h =
     let xs = happenings (take i lines) in
     let ys = happening l ∷ [] in
@@ -140,7 +156,7 @@ going_more version lines i l first now next before to to_next group a m is g h =
       sent = sent ∙ ap (λ os. length first.sent + length (messages os)) (sym outs) ∙ ap (λ zs. length first.sent + length (messages (happen hazards first zs).outputs)) next_is;
     }
 
-pub going_ends : (lines : List Line) (i : ℕ) (first now : World Lying) (before to : Outputs) → length lines ≤ i → Going i lines first now before to → HasHappened (happen hazards first (happenings lines)) first now before to
+pub going_ends : (lines : List Line) (i : ℕ) (first now : World Lying) (before to : Outputs) → length lines ≤ i → Going i lines first now before to → HaveHappened (happen hazards first (happenings lines)) first now before to
 going_ends lines i first now before to h g =
     let all : take i lines ≡ lines = take_all i lines h in
     record {

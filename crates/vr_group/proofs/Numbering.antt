@@ -1,21 +1,27 @@
 -- One more output, and more outputs.
-use Rattle.std.proofs.Common.{◌≡◌, ℕ, ◌+◌, ◌∙◌, List, [], ◌∷◌, ◌++◌, length, map, refl, sym, ap, append_assoc}
+use Rattle.std.proofs.Common.{◌≡◌, ℕ, ◌+◌, ◌<◌, ◌≤◌, ◌∙◌, arith, List, [], ◌∷◌, ◌++◌, drop, get_or, length, length-append, map, refl, sym, ap, append_assoc}
 use Rattle.std.proofs.lemmas.Grind.{flat_map-append}
-use Rattle.std.proofs.lemmas.List.{append-nil, map-append}
+use Rattle.std.proofs.lemmas.List.{append-nil, at_drop_all, at_drop_more, map-append}
 use Rattle.vr_msg.specs.declared.output.Output.{Output}
 use Rattle.vr_replica.specs.Outputs.{message_of, messages}
-use Rattle.vr_group.specs.Outputs.{Numbered, line_text, numbered, outputs_of, put_as, put_of, text_of, with_number, with_outputs}
+use Rattle.vr_group.specs.Outputs.{Numbered, line_text, numbered, outputs_of, put_as, put_of, puts_of, text_of, with_number, with_outputs}
 use Rattle.vr_group.specs.declared.outputs.Outputs.{Outputs}
 use Rattle.vr_group.specs.declared.outputs.Put.{Put}
-use Rattle.vr_text.specs.Text as texts
 
-pub messages_more : (o : Output) (os : List Output) → messages (o ∷ os) ≡ message_of o ++ messages os
+messages_more : (o : Output) (os : List Output) → messages (o ∷ os) ≡ message_of o ++ messages os
 unfolding messages
 messages_more o os = refl
 
-pub messages_none : messages [] ≡ []
+messages_none : messages [] ≡ []
 unfolding messages
 messages_none = refl
+
+-- those behind a place
+pub messages_at : (os : List Output) (i : ℕ) (d : Output) → i < length os → messages (drop i os) ≡ message_of (get_or os i d) ++ messages (drop (i + 1) os)
+messages_at os i d h = at_drop_more messages os i d h ∙ messages_more (get_or os i d) (drop (i + 1) os)
+
+pub messages_past : (os : List Output) (i : ℕ) → length os ≤ i → messages (drop i os) ≡ []
+messages_past os i h = at_drop_all messages os i h ∙ messages_none
 
 pub numbered_none : (m : ℕ) → numbered m [] ≡ []
 unfolding numbered
@@ -33,6 +39,41 @@ pub text_append : (a b : List Numbered) → text_of (a ++ b) ≡ text_of a ++ te
 unfolding text_of
 text_append a b = flat_map-append line_text a b
 
+-- the text of those behind a place
+numbered_more : (m : ℕ) (o : Output) (os : List Output) → numbered m (o ∷ os) ≡ with_number m o ∷ numbered (m + length (message_of o)) os
+unfolding numbered
+numbered_more m o os = refl
+
+text_more : (m : ℕ) (o : Output) (os : List Output) → text_of (numbered m (o ∷ os)) ≡ line_text (with_number m o) ++ text_of (numbered (m + length (message_of o)) os)
+text_more m o os =
+    ap text_of (numbered_more m o os) ∙ text_append (with_number m o ∷ []) (numbered (m + length (message_of o)) os)
+    ∙ ap (λ t. t ++ text_of (numbered (m + length (message_of o)) os)) (text_one (with_number m o))
+
+pub text_at : (m : ℕ) (os : List Output) (i : ℕ) (d : Output) → i < length os
+    → text_of (numbered m (drop i os)) ≡ line_text (with_number m (get_or os i d)) ++ text_of (numbered (m + length (message_of (get_or os i d))) (drop (i + 1) os))
+text_at m os i d h = at_drop_more (λ xs. text_of (numbered m xs)) os i d h ∙ text_more m (get_or os i d) (drop (i + 1) os)
+
+pub text_past : (m : ℕ) (os : List Output) (i : ℕ) → length os ≤ i → text_of (numbered m (drop i os)) ≡ []
+text_past m os i h = at_drop_all (λ xs. text_of (numbered m xs)) os i h ∙ ap text_of (numbered_none m) ∙ text_none
+
+-- nothing behind a text
+pub text_same : (m : ℕ) (before : List ℕ) → before ≡ before ++ text_of (numbered m [])
+text_same m before = sym (ap (λ ns. before ++ text_of ns) (numbered_none m) ∙ ap (λ t. before ++ t) text_none ∙ append-nil before)
+
+-- ---- what is put out
+
+pub puts_more : (m : ℕ) (o : Output) (os : List Output) → puts_of m (o ∷ os) ≡ put_as m o ∷ puts_of (m + length (message_of o)) os
+unfolding numbered
+puts_more m o os = refl
+
+pub puts_none : (m : ℕ) → puts_of m [] ≡ []
+unfolding numbered
+puts_none m = refl
+
+-- how many messages are among outputs
+pub count_more : (m : ℕ) (o : Output) (os : List Output) → m + length (messages (o ∷ os)) ≡ (m + length (message_of o)) + length (messages os)
+count_more m o os = let all = ap length (messages_more o os) in let both = length-append (message_of o) (messages os) in omega (arith, all, both)
+
 abbrev outputs_as : List Put → List ℕ → Outputs
 outputs_as puts text = record { puts = puts; text = text }
 
@@ -47,17 +88,9 @@ outputs_append before a b =
     let text : (before.text ++ text_of a) ++ text_of b ≡ before.text ++ text_of (a ++ b) = append_assoc before.text (text_of a) (text_of b) ∙ ap (λ x. before.text ++ x) (sym (text_append a b)) in
     ap (λ x. outputs_as x ((before.text ++ text_of a) ++ text_of b)) puts ∙ ap (λ x. outputs_as (before.puts ++ map put_of (a ++ b)) x) text
 
-pub outputs_one : (m : ℕ) (o : Output) (before : Outputs) → outputs_as (before.puts ++ put_as m o ∷ []) (before.text ++ texts.line_text m o) ≡ with_outputs before (with_number m o ∷ [])
-outputs_one m o before = ap (λ x. outputs_as (before.puts ++ put_as m o ∷ []) (before.text ++ x)) (sym (text_one (with_number m o)))
-
-pub outputs_more : (before : Outputs) (m : ℕ) (o : Output) (os : List Output)
-    → with_outputs (with_outputs before (with_number m o ∷ [])) (numbered (m + length (message_of o)) os) ≡ with_outputs before (numbered m (o ∷ os))
-unfolding numbered
-outputs_more before m o os = outputs_append before (with_number m o ∷ []) (numbered (m + length (message_of o)) os)
-
-pub outputs_end : (before : Outputs) (m : ℕ) → with_outputs before (numbered m []) ≡ before
-unfolding numbered
-outputs_end before m = outputs_none before
+-- puts and text, each behind what stood there
+pub put_behind : (before now : Outputs) (m : ℕ) (os : List Output) → now.puts ≡ before.puts ++ puts_of m os → now.text ≡ before.text ++ text_of (numbered m os) → now ≡ with_outputs before (numbered m os)
+put_behind before now m os puts text = ap (λ x. outputs_as x now.text) puts ∙ ap (λ x. outputs_as (before.puts ++ puts_of m os) x) text
 
 -- outputs behind none
 pub outputs_alone : (before now : Outputs) (outputs : List Numbered) → before ≡ outputs_of [] → now ≡ with_outputs before outputs → now ≡ outputs_of outputs

@@ -42,6 +42,10 @@ put_as m o = Other o
 abbrev pub put_of : Numbered → Put
 put_of o = put_as o.number o.output
 
+-- each output that is put out, the messages numbered from m on
+abbrev pub puts_of : ℕ → List Output → List Put
+puts_of m outputs = map put_of (numbered m outputs)
+
 abbrev pub outputs_of : List Numbered → Outputs
 outputs_of outputs = record { puts = map put_of outputs; text = text_of outputs }
 

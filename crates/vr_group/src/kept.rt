@@ -89,9 +89,9 @@ fn keep_prepare(alloc: Global, prepare: &Prepare) -> Result<Kept, AllocError>
     })
 }
 
-fn keep_prepare_ok(ok: PrepareOk) -> Kept
-    requires { IsPrepareOk ok }
-    ensures frame { frame_in result ≡ frame.PrepareOk ok }
+fn keep_prepare_ok(ok: &PrepareOk) -> Kept
+    requires { IsPrepareOk ok.now }
+    ensures frame { frame_in result ≡ frame.PrepareOk ok.now }
     ensures kept { IsKept result }
 {
     Kept::PrepareOk {
@@ -142,30 +142,21 @@ fn share_last(letters: &[Letter], frame: &Frame) -> Result<Option<Rc<Event>>, Al
 }
 
 // A statement or the log of a view: they are long, and told to many, or again.
-fn keep_long(alloc: Global, letters: &[Letter], frame: Frame) -> Result<Kept, AllocError>
-    requires { IsFrame frame }
-    ensures frame { IfOk result (λ k. frame_in k ≡ frame) }
+fn keep_long(alloc: Global, letters: &[Letter], message: &Message) -> Result<Kept, AllocError>
+    ensures frame { IfOk result (λ k. frame_in k ≡ message.now) }
     ensures kept { IfOk result IsKept }
 {
-    match share_last(letters, &frame) {
-        Ok(Some(kept)) => {
-            drop(frame);
-            Ok(Kept::Other(kept))
-        }
-        Ok(None) => keep_other(alloc, frame),
-        Err(wanted) => {
-            drop(frame);
-            Err(wanted)
-        }
+    match share_last(letters, message.frame())? {
+        Some(kept) => Ok(Kept::Other(kept)),
+        None => keep_other(alloc, message),
     }
 }
 
-fn keep_other(alloc: Global, frame: Frame) -> Result<Kept, AllocError>
-    requires { IsFrame frame }
-    ensures frame { IfOk result (λ k. frame_in k ≡ frame) }
+fn keep_other(alloc: Global, message: &Message) -> Result<Kept, AllocError>
+    ensures frame { IfOk result (λ k. frame_in k ≡ message.now) }
     ensures kept { IfOk result IsKept }
 {
-    let event = Event::Deliver(Message::new(frame));
+    let event = Event::Deliver(message.try_clone(alloc)?);
     Ok(Kept::Other(Rc::new(alloc, event)?))
 }
 
@@ -178,24 +169,19 @@ fn made<'a>(frame: Frame) -> Delivery<'a>
 
 impl Kept {
     /// A message, as it is kept behind these letters.
-    pub fn of(alloc: Global, letters: &[Letter], message: Message) -> Result<Kept, AllocError>
-        ensures frame { IfOk result (λ k. frame_in k ≡ message) }
+    pub fn of(alloc: Global, letters: &[Letter], message: &Message) -> Result<Kept, AllocError>
+        ensures frame { IfOk result (λ k. frame_in k ≡ message.now) }
         ensures kept { IfOk result IsKept }
     {
-        match message.into_frame() {
-            Frame::Prepare(prepare) => {
-                let kept = keep_prepare(alloc, &prepare);
-                drop(prepare);
-                kept
-            }
+        match message.frame() {
+            Frame::Prepare(prepare) => keep_prepare(alloc, prepare),
             Frame::PrepareOk(ok) => Ok(keep_prepare_ok(ok)),
-            Frame::Commit(commit) => Ok(Kept::Commit(commit)),
-            Frame::StartViewChange(start) => Ok(Kept::StartViewChange(start)),
-            Frame::GetView(get) => Ok(Kept::GetView(get)),
-            Frame::GetSync(get) => Ok(Kept::GetSync(get)),
-            Frame::DoViewChange(told) => keep_long(alloc, letters, Frame::DoViewChange(told)),
-            Frame::StartView(told) => keep_long(alloc, letters, Frame::StartView(told)),
-            other => keep_other(alloc, other),
+            Frame::Commit(commit) => Ok(Kept::Commit(*commit)),
+            Frame::StartViewChange(start) => Ok(Kept::StartViewChange(*start)),
+            Frame::GetView(get) => Ok(Kept::GetView(*get)),
+            Frame::GetSync(get) => Ok(Kept::GetSync(*get)),
+            Frame::DoViewChange(_) | Frame::StartView(_) => keep_long(alloc, letters, message),
+            _ => keep_other(alloc, message),
         }
     }
 

@@ -6,7 +6,7 @@ ghost use Rattle.vr_group.specs.Letters.{delivered_as, frame_in};
 use crate::{Delivery, Kept};
 use std::alloc::{AllocError, Global};
 use std::marker::Model;
-use vr_msg::Message;
+use vr_msg::Sent;
 
 /// A message that was sent.
 #[derive(Drop)]
@@ -32,16 +32,14 @@ impl Letter {
     pub fn new(
         alloc: Global,
         letters: &[Letter],
-        from: u8,
-        to: u8,
-        message: Message,
+        sent: &Sent,
     ) -> Result<Letter, AllocError>
-        ensures { IfOk result (λ l. l ≡ record { from = from; to = to; message = message }) }
+        ensures { IfOk result (λ l. l ≡ sent.now) }
     {
         Ok(Letter {
-            from,
-            to,
-            kept: Kept::of(alloc, letters, message)?,
+            from: sent.from,
+            to: sent.to,
+            kept: Kept::of(alloc, letters, &sent.message)?,
         })
     }
 

@@ -1,5 +1,5 @@
 //! The members of a group, and their messages.
-ghost use Rattle.std.specs.Prelude.{ℕ, ◌≡◌, IfOk, OnOk, true};
+ghost use Rattle.std.specs.Prelude.{ℕ, ◌≡◌, [], IfOk, OnOk, true};
 ghost use Rattle.vr_base.specs.Groups.{is_size};
 ghost use Rattle.vr_lines.specs.Fits.{IsLineOf};
 ghost use Rattle.vr_lying.specs.Lying.{hazards};
@@ -12,12 +12,12 @@ ghost use Rattle.vr_text.specs.Fronts.{IsFront};
 use crate::asked::what_is_asked;
 use crate::hosts::{act_at, make_hosts};
 use crate::outputs::record_outputs;
-use crate::{Deed, Host, Letter, Outputs};
+use crate::{Deed, Host, Letter};
 use std::alloc::Global;
-use vr_base::{Kind, NoMemory, Seq};
+use vr_base::{ByteList, Kind, NoMemory, Seq};
 use vr_lie::Fault;
 use vr_lines::Line;
-use vr_msg::Event;
+use vr_msg::{Event, Outbox};
 
 /// The members of a group, and every message that they have sent.
 #[derive(Drop)]
@@ -25,6 +25,8 @@ pub struct Members {
     pub n: u8,
     pub hosts: Vec<Host>,
     pub sent: Seq<Letter>,
+    /// What was put out last.
+    pub out: Outbox,
 }
 
 impl Members {
@@ -33,12 +35,14 @@ impl Members {
     /// A new group, each member on a new file of this kind.
     pub fn begin(alloc: Global, n: u8, kind: &Kind) -> Result<Members, NoMemory>
         requires { is_size kind.now.version n ≡ true }
-        ensures { IfOk result (λ m. world_of m ≡ fresh_world hazards kind.now n) }
+        ensures world { IfOk result (λ m. world_of m ≡ fresh_world hazards kind.now n) }
+        ensures out { IfOk result (λ m. m.out ≡ []) }
     {
         Ok(Members {
             n,
             hosts: make_hosts(alloc, n, kind)?,
             sent: Seq::new(alloc),
+            out: Seq::new(alloc),
         })
     }
 
@@ -49,24 +53,25 @@ impl Members {
         alloc: Global,
         replica: u8,
         deed: &Deed<'_>,
-        to: &mut Outputs,
+        to: &mut ByteList,
     ) -> Result<(), NoMemory>
         requires { IsDeed deed.now }
-        ensures happened { OnOk result (HasHappened (at_member (world_of self.old) replica (act_of deed.now)) (world_of self.old) (world_of self.new) to.old to.new) }
-        ensures front { IsFront to.old.text to.new.text }
+        ensures happened { OnOk result (HasHappened (at_member (world_of self.old) replica (act_of deed.now)) (world_of self.old) (world_of self.new) self.new.out to.old to.new) }
+        ensures front { IsFront to.old to.new }
     {
-        let mut out = Seq::new(alloc);
-        act_at(&mut self.hosts, alloc, replica, deed, &mut out)?;
-        record_outputs(alloc, &mut self.sent, out, to)?;
+        self.out.clear();
+        act_at(&mut self.hosts, alloc, replica, deed, &mut self.out)?;
+        record_outputs(alloc, &mut self.sent, self.out.as_slice(), to)?;
         Ok(())
     }
 
     // The message of this number, counted from the front again past the last, reaches its destination.
     #[tactic(auto, using(vr_text::proofs::Fronts::front_same))]
-    fn deliver(&mut self, alloc: Global, number: u64, to: &mut Outputs) -> Result<(), NoMemory>
-        ensures happened { OnOk result (HasHappened (happens hazards (world_of self.old) (Arrives number)) (world_of self.old) (world_of self.new) to.old to.new) }
-        ensures front { IsFront to.old.text to.new.text }
+    fn deliver(&mut self, alloc: Global, number: u64, to: &mut ByteList) -> Result<(), NoMemory>
+        ensures happened { OnOk result (HasHappened (happens hazards (world_of self.old) (Arrives number)) (world_of self.old) (world_of self.new) self.new.out to.old to.new) }
+        ensures front { IsFront to.old to.new }
     {
+        self.out.clear();
         let count = self.sent.len() as u64;
         if count == 0 {
             return Ok(());
@@ -74,21 +79,20 @@ impl Members {
         let letter = &self.sent.as_slice()[(number % count) as usize];
         let delivery = letter.delivery(alloc)?;
         let deed = Deed::Handle(delivery.event());
-        let mut out = Seq::new(alloc);
-        let acted = act_at(&mut self.hosts, alloc, letter.to(), &deed, &mut out);
+        let acted = act_at(&mut self.hosts, alloc, letter.to(), &deed, &mut self.out);
         drop(delivery);
         acted?;
-        record_outputs(alloc, &mut self.sent, out, to)?;
+        record_outputs(alloc, &mut self.sent, self.out.as_slice(), to)?;
         Ok(())
     }
 
-    /// What a line says of it. An `Err` may have added some text of it, behind what stood there.
+    /// What a line says of it; the text of what that puts out goes behind what stands there, of which an `Err` may have added some.
     #[tactic(auto, using(vr_base::proofs::Members::is_sized, vr_text::proofs::Fronts::front_same, crate::proofs::Acts::begun, crate::proofs::Sectors::on_disk))]
-    pub fn happen(&mut self, alloc: Global, line: &Line, to: &mut Outputs) -> Result<(), NoMemory>
+    pub fn happen(&mut self, alloc: Global, line: &Line, to: &mut ByteList) -> Result<(), NoMemory>
         requires { (version : ℕ) × IsLineOf version self.old.n line.now }
-        ensures happened { OnOk result (HasHappened (happens hazards (world_of self.old) (happening line.now)) (world_of self.old) (world_of self.new) to.old to.new) }
+        ensures happened { OnOk result (HasHappened (happens hazards (world_of self.old) (happening line.now)) (world_of self.old) (world_of self.new) self.new.out to.old to.new) }
         ensures asked { OnOk result (HasAsked line.now) }
-        ensures front { IsFront to.old.text to.new.text }
+        ensures front { IsFront to.old to.new }
     {
         match line {
             Line::Cluster { n, kind } => {

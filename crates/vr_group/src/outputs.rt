@@ -1,14 +1,13 @@
 //! What is put out, and the messages among it.
-ghost use Rattle.std.specs.Prelude.{◌≡◌, ◌++◌, ◌∷◌, [], length, take, OnOk};
+ghost use Rattle.std.specs.Prelude.{◌≡◌, ◌≤◌, ◌+◌, ◌++◌, ◌∷◌, [], length, OnOk};
 ghost use Rattle.vr_replica.specs.Outputs.{message_of, messages};
-ghost use Rattle.vr_group.specs.Outputs.{numbered, outputs_of, put_as, with_number, with_outputs};
+ghost use Rattle.vr_group.specs.Outputs.{line_text, numbered, outputs_of, put_as, puts_of, text_of, with_number};
 ghost use Rattle.vr_text.specs.Fronts.{IsFront};
 
 use crate::Letter;
 use std::alloc::{AllocError, Global};
-use std::mem;
 use vr_base::{ByteList, Seq};
-use vr_msg::{Outbox, Output, Sent};
+use vr_msg::{Outbox, Output};
 use vr_text::write_text;
 
 /// What is put out: a message, which stays with those that were sent, by its number, or any other output.
@@ -37,94 +36,86 @@ impl Outputs {
             text: ByteList::new(alloc),
         }
     }
-
-    /// Lets all go; the memory stays.
-    #[tactic(auto, using(std::proofs::lemmas::Grind::common_steps, crate::proofs::Numbering::text_none))]
-    pub fn clear(&mut self)
-        ensures { self.new ≡ outputs_of [] }
-    {
-        self.puts.clear();
-        self.text.clear();
-    }
-
-    /// Cuts the text behind so many bytes; the memory stays.
-    pub fn cut_text(&mut self, alloc: Global, len: usize)
-        ensures { self.new.text ≡ take len self.old.text }
-    {
-        let mut bytes = mem::replace(&mut self.text, ByteList::new(alloc)).into_vec();
-        bytes.truncate(len);
-        self.text = ByteList::from_vec(bytes);
-    }
 }
 
-// Keeps a message.
-fn keep_message(alloc: Global, sent: &mut Seq<Letter>, message: Sent) -> Result<(), AllocError>
-    ensures { OnOk result (sent.new ≡ sent.old ++ message ∷ []) }
-{
-    let letter = Letter::new(
-        alloc,
-        sent.as_slice(),
-        message.from,
-        message.to,
-        message.message,
-    )?;
-    sent.push(letter)
-}
-
-// One more is put out: a message is kept, any other output stays as it is.
-fn put(
-    alloc: Global,
-    number: u64,
-    sent: &mut Seq<Letter>,
-    output: Output,
-    puts: &mut Seq<Put>,
-) -> Result<(), AllocError>
-    ensures sent { OnOk result (sent.new ≡ sent.old ++ message_of output) }
-    ensures put { OnOk result (puts.new ≡ puts.old ++ put_as number output ∷ []) }
-{
-    match output {
-        Output::Send(message) => {
-            keep_message(alloc, sent, message)?;
-            puts.push(Put::Message(number))
-        }
-        other => puts.push(Put::Other(other)),
-    }
-}
-
-// One output more: its text, and then itself, since a message is kept.
-#[tactic(auto, using(std::proofs::lemmas::Grind::common_steps, crate::proofs::Numbering::outputs_one))]
+// One output more: its line, and its letter where it is a message.
+#[tactic(auto, using(std::proofs::lemmas::Grind::common_steps, vr_text::proofs::Fronts::front_same))]
 fn record_output(
     alloc: Global,
     sent: &mut Seq<Letter>,
-    output: Output,
-    to: &mut Outputs,
+    output: &Output,
+    to: &mut ByteList,
 ) -> Result<(), AllocError>
-    ensures sent { OnOk result (sent.new ≡ sent.old ++ message_of output) }
-    ensures numbered { OnOk result (to.new ≡ with_outputs to.old (with_number (length sent.old) output ∷ [])) }
-    ensures front { IsFront to.old.text to.new.text }
+    ensures sent { OnOk result (sent.new ≡ sent.old ++ message_of output.now) }
+    ensures text { OnOk result (to.new ≡ to.old ++ line_text (with_number (length sent.old) output.now)) }
+    ensures front { IsFront to.old to.new }
 {
-    let number = sent.len() as u64;
-    if let Err(wanted) = write_text(number, &output, &mut to.text) {
-        drop(output);
-        return Err(wanted);
+    write_text(sent.len() as u64, output, to)?;
+    if let Output::Send(message) = output {
+        let letter = Letter::new(alloc, sent.as_slice(), message)?;
+        sent.push(letter)?;
     }
-    put(alloc, number, sent, output, &mut to.puts)
+    Ok(())
 }
 
-/// Each output, in order. An `Err` may have added some of their text, behind what stood there.
-#[tactic(auto, using(std::proofs::lemmas::Grind::common_steps, crate::proofs::Numbering::messages_more, crate::proofs::Numbering::messages_none, crate::proofs::Numbering::outputs_more, crate::proofs::Numbering::outputs_end, vr_text::proofs::Fronts::front_same, vr_text::proofs::Fronts::front_then))]
+/// Each output, in order: its line goes behind what stands there, of which an `Err` may have added some.
+#[tactic(auto, using(std::proofs::lemmas::Grind::common_steps, crate::proofs::Numbering::messages_at, crate::proofs::Numbering::messages_past, crate::proofs::Numbering::text_at, crate::proofs::Numbering::text_past, vr_text::proofs::Fronts::front_same, vr_text::proofs::Fronts::front_then))]
 pub fn record_outputs(
     alloc: Global,
     sent: &mut Seq<Letter>,
-    outputs: Outbox,
-    to: &mut Outputs,
+    outputs: &[Output],
+    to: &mut ByteList,
 ) -> Result<(), AllocError>
-    ensures sent { OnOk result (sent.new ≡ sent.old ++ messages outputs) }
-    ensures numbered { OnOk result (to.new ≡ with_outputs to.old (numbered (length sent.old) outputs)) }
-    ensures front { IsFront to.old.text to.new.text }
+    ensures sent { OnOk result (sent.new ≡ sent.old ++ messages outputs.now) }
+    ensures text { OnOk result (to.new ≡ to.old ++ text_of (numbered (length sent.old) outputs.now)) }
+    ensures front { IsFront to.old to.new }
 {
-    for output in outputs.into_vec() {
+    for output in outputs {
         record_output(alloc, sent, output, to)?;
+    }
+    Ok(())
+}
+
+// What is put out of an output.
+fn put_of(number: u64, output: Output) -> Put
+    ensures { result ≡ put_as number output }
+{
+    match output {
+        Output::Send(message) => {
+            drop(message);
+            Put::Message(number)
+        }
+        other => Put::Other(other),
+    }
+}
+
+// The number of the next message behind an output; below `end` there is one more.
+fn number_after(number: u64, end: u64, output: &Output) -> u64
+    requires { number + length (message_of output.now) ≤ end }
+    ensures { result ≡ number + length (message_of output.now) }
+{
+    match output {
+        Output::Send(_) => number + 1,
+        _ => number,
+    }
+}
+
+/// Puts each output out, in order. The first message among them has this number, and behind them comes that of `end`.
+#[tactic(auto, using(std::proofs::lemmas::Grind::common_steps, crate::proofs::Numbering::puts_more, crate::proofs::Numbering::puts_none, crate::proofs::Numbering::count_more))]
+pub fn put_out(
+    number: u64,
+    end: u64,
+    outputs: Outbox,
+    puts: &mut Seq<Put>,
+) -> Result<(), AllocError>
+    requires { number + length (messages outputs) ≡ end }
+    ensures { OnOk result (puts.new ≡ puts.old ++ puts_of number outputs) }
+{
+    let mut number = number;
+    for output in outputs.into_vec() {
+        let next = number_after(number, end, &output);
+        puts.push(put_of(number, output))?;
+        number = next;
     }
     Ok(())
 }

@@ -1,23 +1,26 @@
 //! A group of members, and every message that they have sent.
-ghost use Rattle.std.specs.Prelude.{ℕ, ◌≡◌, ◌<◌, ◌^◌, true, false, IfOk, OnOk, OnErr, length};
+ghost use Rattle.std.specs.Prelude.{ℕ, ◌≡◌, ◌<◌, ◌^◌, ◌++◌, true, false, IfOk, OnOk, OnErr, length, take};
 ghost use Rattle.vr_base.specs.Groups.{is_size};
 ghost use Rattle.vr_base.specs.declared.kind.Kind.{Kind};
 ghost use Rattle.vr_lines.specs.Fits.{IsLineOf};
 ghost use Rattle.vr_lying.specs.Lying.{hazards};
 ghost use Rattle.vr_lying.specs.World.{fresh_world, happen, happens, no_world};
-ghost use Rattle.vr_group.specs.Group.{HasHappened, world_of};
-ghost use Rattle.vr_group.specs.Headline.{HaveAsked, IsJustMade, LinesKeepOneLog};
+ghost use Rattle.vr_group.specs.Group.{HaveHappened, world_of};
+ghost use Rattle.vr_group.specs.Headline.{HasAsked, HaveAsked, IsJustMade, LinesKeepOneLog};
 ghost use Rattle.vr_group.specs.Lines.{AreLinesOf, happening, happenings, version_behind};
-ghost use Rattle.vr_group.specs.Outputs.{numbered, outputs_of, with_outputs};
+ghost use Rattle.vr_group.specs.Outputs.{numbered, outputs_of, text_of};
 ghost use Rattle.vr_group.specs.Views.{top_view};
 
 use crate::Outputs;
 use crate::members::Members;
+use crate::outputs::put_out;
 use crate::views::top_view;
 use std::alloc::Global;
 use std::marker::Model;
-use vr_base::{Kind, NoMemory, Seq, Version};
+use std::mem;
+use vr_base::{ByteList, Kind, NoMemory, Seq, Version};
 use vr_lines::Line;
+use vr_msg::Output;
 
 /// A group of members on disks that lie, and every message that they have sent. It stops where there is no memory for a line,
 /// since a replica may then be in the midst of a step.
@@ -33,7 +36,27 @@ impl Model for World {
 
     ghost Value = { Group };
 
-    ghost view = { λ w. record { world = world_of w.members; version = w.version; live = w.live } };
+    ghost view = { λ w. record { world = world_of w.members; last = w.members.out; version = w.version; live = w.live } };
+}
+
+// What happens at a line, behind others.
+#[tactic(auto, using(crate::proofs::Goings::sent_more, crate::proofs::Goings::put_more))]
+fn happen_behind(
+    members: &mut Members,
+    alloc: Global,
+    line: &Line,
+    to: &mut Outputs,
+) -> Result<(), NoMemory>
+    requires group { 0 < members.old.n }
+    requires of { (version : ℕ) × IsLineOf version members.old.n line.now }
+    ensures happened { OnOk result (HaveHappened (happens hazards (world_of members.old) (happening line.now)) (world_of members.old) (world_of members.new) to.old to.new) }
+    ensures asked { OnOk result (HasAsked line.now) }
+{
+    let number = members.sent.len() as u64;
+    members.happen(alloc, line, &mut to.text)?;
+    let out = mem::replace(&mut members.out, Seq::new(alloc));
+    put_out(number, members.sent.len() as u64, out, &mut to.puts)?;
+    Ok(())
 }
 
 // What happens at lines, one after the other.
@@ -46,13 +69,22 @@ fn happen_all(
 ) -> Result<(), NoMemory>
     requires group { 0 < members.old.n }
     requires of { (version : ℕ) × AreLinesOf version members.old.n lines.now }
-    ensures happened { OnOk result (HasHappened (happen hazards (world_of members.old) (happenings lines.now)) (world_of members.old) (world_of members.new) to.old to.new) }
+    ensures happened { OnOk result (HaveHappened (happen hazards (world_of members.old) (happenings lines.now)) (world_of members.old) (world_of members.new) to.old to.new) }
     ensures asked { OnOk result (HaveAsked lines.now) }
 {
     for line in lines {
-        members.happen(alloc, line, to)?;
+        happen_behind(members, alloc, line, to)?;
     }
     Ok(())
+}
+
+// Cuts a text behind so many bytes.
+fn cut(alloc: Global, text: &mut ByteList, len: usize)
+    ensures { text.new ≡ take len text.old }
+{
+    let mut bytes = mem::replace(text, ByteList::new(alloc)).into_vec();
+    bytes.truncate(len);
+    *text = ByteList::from_vec(bytes);
 }
 
 impl World {
@@ -67,6 +99,7 @@ impl World {
                 n: 0,
                 hosts: Vec::new(alloc),
                 sent: Seq::new(alloc),
+                out: Seq::new(alloc),
             },
             version: Version::new(1),
             live: true,
@@ -124,22 +157,30 @@ impl World {
         top_view(&mut self.members.hosts)
     }
 
-    /// What happens at one line; what it puts out goes behind what stands there. An `Err` stops the group, and the text is then as it was.
+    /// What its last line put out.
+    pub fn last(&self) -> &[Output]
+        ensures { result.now ≡ self.now.last }
+    {
+        self.members.out.as_slice()
+    }
+
+    /// What happens at one line; the text of what it puts out goes behind what stands there. An `Err` stops the group and leaves the text as it was.
     #[tactic(auto, unfolding(vr_text::specs::Fronts::IsFront))]
-    pub fn step(&mut self, alloc: Global, line: &Line, to: &mut Outputs) -> Result<(), NoMemory>
+    pub fn step(&mut self, alloc: Global, line: &Line, to: &mut ByteList) -> Result<(), NoMemory>
         requires live { self.old.live ≡ true }
         requires of { IsLineOf self.old.version self.old.world.n line.now }
         ensures world { OnOk result (self.new.world ≡ (happens hazards self.old.world (happening line.now)).world) }
         ensures version { OnOk result (self.new.version ≡ version_behind self.old.version line.now) }
-        ensures outputs { OnOk result (to.new ≡ with_outputs to.old (numbered (length self.old.world.sent) (happens hazards self.old.world (happening line.now)).outputs)) }
+        ensures outputs { OnOk result (self.new.last ≡ (happens hazards self.old.world (happening line.now)).outputs) }
+        ensures text { OnOk result (to.new ≡ to.old ++ text_of (numbered (length self.old.world.sent) (happens hazards self.old.world (happening line.now)).outputs)) }
         ensures live { OnOk result (self.new.live ≡ true) }
         ensures stopped { OnErr result (self.new.live ≡ false) }
-        ensures kept { OnErr result (to.new.text ≡ to.old.text) }
+        ensures kept { OnErr result (to.new ≡ to.old) }
     {
         self.live = false;
-        let len = to.text.len();
+        let len = to.len();
         if let Err(wanted) = self.members.happen(alloc, line, to) {
-            to.cut_text(alloc, len);
+            cut(alloc, to, len);
             return Err(wanted);
         }
         if let Line::Cluster { kind, .. } = line {

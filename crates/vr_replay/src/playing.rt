@@ -10,9 +10,9 @@ ghost use Rattle.vr_replay.specs.declared.stop.Stop.TheVariants as stop;
 
 use crate::Stop;
 use std::alloc::Global;
-use vr_base::{NoMemory, Version};
+use vr_base::{ByteList, NoMemory, Version};
 use vr_edge::{Sink, write_whole};
-use vr_group::{Outputs, World};
+use vr_group::World;
 use vr_lines::{Line, LineFault, Lines, Next, parse_line};
 
 /// The most lines of a schedule.
@@ -28,23 +28,21 @@ pub struct Replay {
     pub lines: Lines,
 }
 
-/// What happens at a line; the text of its outputs goes behind what stands there, and they themselves are let go. The first line makes a group.
+/// What happens at a line; the text of its outputs goes behind what stands there. The first line makes a group.
 #[tactic(auto, using(std::proofs::lemmas::Grind::common_steps, vr_group::proofs::Numbering::numbered_none, vr_group::proofs::Numbering::text_none), unfolding(crate::specs::Playing::comes))]
-fn play(alloc: Global, group: &mut World, line: &Line, to: &mut Outputs) -> Result<(), NoMemory>
+fn play(alloc: Global, group: &mut World, line: &Line, to: &mut ByteList) -> Result<(), NoMemory>
     requires live { group.old.live ≡ true }
     requires fits { IsLineOf group.old.version group.old.world.n line.now }
     ensures scene { OnOk result (scene_of group.new ≡ (comes (scene_of group.old) line.now).scene) }
-    ensures text { OnOk result (to.new.text ≡ to.old.text ++ text_of (comes (scene_of group.old) line.now).outputs) }
-    ensures kept { OnErr result (to.new.text ≡ to.old.text) }
+    ensures text { OnOk result (to.new ≡ to.old ++ text_of (comes (scene_of group.old) line.now).outputs) }
+    ensures kept { OnErr result (to.new ≡ to.old) }
     ensures live { OnOk result (group.new.live ≡ true) }
 {
     if let Line::Cluster { n, kind } = line {
         *group = World::new(alloc, *n, *kind)?;
         return Ok(());
     }
-    group.step(alloc, line, to)?;
-    to.puts.clear();
-    Ok(())
+    group.step(alloc, line, to)
 }
 
 /// The line of a version that these bytes spell, behind so many others.
@@ -82,7 +80,7 @@ impl Replay {
 
     /// Takes the line that was given; the text of its outputs goes behind what stands there.
     #[tactic(auto, using(std::proofs::lemmas::Grind::common_steps, crate::proofs::Taken::taken_some, crate::proofs::Taken::taken_none, vr_group::proofs::Numbering::text_none))]
-    fn take_line(&mut self, alloc: Global, to: &mut Outputs) -> Result<(), Stop>
+    fn take_line(&mut self, alloc: Global, to: &mut ByteList) -> Result<(), Stop>
         requires live { self.old.group.live ≡ true }
         requires few { self.old.number ≤ 1000000 }
 
@@ -93,9 +91,9 @@ impl Replay {
         ensures live { OnOk result (self.new.group.live ≡ true) }
         ensures few { OnOk result (self.new.number ≤ 1000000) }
 
-        ensures text { OnOk result (to.new.text ≡ to.old.text ++ text_of (taken (scene_of self.old.group) self.old.number self.old.lines.line).outputs) }
+        ensures text { OnOk result (to.new ≡ to.old ++ text_of (taken (scene_of self.old.group) self.old.number self.old.lines.line).outputs) }
 
-        ensures stopped { IfErr result (HasStopped to.old.text to.new.text (taken (scene_of self.old.group) self.old.number self.old.lines.line)) }
+        ensures stopped { IfErr result (HasStopped to.old to.new (taken (scene_of self.old.group) self.old.number self.old.lines.line)) }
     {
         let line = judge(
             alloc,
@@ -112,11 +110,11 @@ impl Replay {
     }
 
     /// Takes the lines that have ended; the text of their outputs goes behind what stands there.
-    fn hear_lines(&mut self, alloc: Global, to: &mut Outputs) -> Result<(), Stop>
+    fn hear_lines(&mut self, alloc: Global, to: &mut ByteList) -> Result<(), Stop>
         requires live { self.old.group.live ≡ true }
         requires few { self.old.number ≤ 1000000 }
-        ensures heard { OnOk result (HearsAll self.old self.new self.old.lines.bytes (Some to.old.text) (Some to.new.text)) }
-        ensures stopped { IfErr result (HasStopped to.old.text to.new.text (hears_lines self.old)) }
+        ensures heard { OnOk result (HearsAll self.old self.new self.old.lines.bytes (Some to.old) (Some to.new)) }
+        ensures stopped { IfErr result (HasStopped to.old to.new (hears_lines self.old)) }
     {
         loop {
             match self.lines.next(false) {
@@ -138,9 +136,9 @@ impl Replay {
         ensures kept { OnOk result (K.faults sink.new ≡ K.faults sink.old) }
         ensures stopped { IfErr result (Stopped (K.faults sink.old) (K.faults sink.new) (K.taken sink.old) (K.taken sink.new) (hears_lines self.old)) }
     {
-        let mut to = Outputs::new(alloc);
-        let heard = self.hear_lines(alloc, &mut to);
-        write_heard(sink, to.text.as_slice(), heard)
+        let mut text = ByteList::new(alloc);
+        let heard = self.hear_lines(alloc, &mut text);
+        write_heard(sink, text.as_slice(), heard)
     }
 
     /// A replay of which nothing has come.
@@ -178,9 +176,9 @@ impl Replay {
         ensures kept { OnOk result (K.faults sink.new ≡ K.faults sink.old) }
         ensures stopped { IfErr result (Stopped (K.faults sink.old) (K.faults sink.new) (K.taken sink.old) (K.taken sink.new) (taken (scene_of self.old.group) self.old.number self.old.lines.line)) }
     {
-        let mut to = Outputs::new(alloc);
-        let taken = self.take_line(alloc, &mut to);
-        write_heard(sink, to.text.as_slice(), taken)
+        let mut text = ByteList::new(alloc);
+        let taken = self.take_line(alloc, &mut text);
+        write_heard(sink, text.as_slice(), taken)
     }
 
     /// The source is at its end: the line that stands is the last. A schedule has at least one line.

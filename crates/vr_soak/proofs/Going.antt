@@ -14,8 +14,7 @@ use Rattle.vr_world.specs.Lying.{Lying, hazards}
 use Rattle.vr_world.specs.World.{Happened, World, fresh_world, happen, happens}
 use Rattle.vr_world.specs.Outputs.{messages}
 use Rattle.vr_group.specs.Lines.{happening, happenings}
-use Rattle.vr_group.specs.Outputs.{numbered, outputs_of, plain, text_of}
-use Rattle.vr_group.specs.declared.outputs.Outputs.{Outputs}
+use Rattle.vr_group.specs.Outputs.{numbered, plain, text_of}
 use Rattle.vr_group.proofs.Goings.{grows_one, happen_append, happen_one, messages_append, numbered_append}
 use Rattle.vr_group.specs.Views.{top_view}
 use Rattle.vr_soak.specs.declared.soaking.Soaking.{Soaking}
@@ -120,15 +119,16 @@ steps n number k s l i is =
       outputs = ap (λ x. (come_to n x).outputs) e ∙ c.outputs ∙ ap (λ (w : World Lying). h.outputs ++ (happens hazards w (happening l)).outputs) (sym i.world);
     }
 
-pub soaking_more : (n number k : ℕ) (s t : Soaking) (l : Line) (put : Outputs) → 0 < s.group.world.n
+pub soaking_more : (n number k : ℕ) (s t : Soaking) (l : Line) (outputs : List Output) (text : List ℕ) → 0 < s.group.world.n
     → l ≡ (drawn_line s.group.world.n (length s.group.world.sent) s.heard.requests s.generator.number).value
     → t.generator.number ≡ (drawn_line s.group.world.n (length s.group.world.sent) s.heard.requests s.generator.number).number
     → IsLineOf 1 s.group.world.n l
     → t.group.world ≡ (happens hazards s.group.world (happening l)).world
-    → put ≡ outputs_of (numbered (length s.group.world.sent) (happens hazards s.group.world (happening l)).outputs)
-    → Hears s.heard t.heard put
+    → outputs ≡ (happens hazards s.group.world (happening l)).outputs
+    → text ≡ text_of (numbered (length s.group.world.sent) (happens hazards s.group.world (happening l)).outputs)
+    → Hears s.heard t.heard outputs text
     → IsSoaking n number k s → IsSoaking n number (k + 1) t
-soaking_more n number k s t l put some is next fits world outputs heard i =
+soaking_more n number k s t l outputs text some is next fits world out written heard i =
     let m = made n number k in
     let h = come_to n m.lines in
     let y = happens hazards s.group.world (happening l) in
@@ -140,13 +140,14 @@ soaking_more n number k s t l put some is next fits world outputs heard i =
     let count : length t.group.world.sent ≡ length (messages (h.outputs ++ y.outputs)) = omega (arith, sent, all, before) in
     let place : 0 + length (messages h.outputs) ≡ length s.group.world.sent = omega (arith, before) in
     let now = numbered (length s.group.world.sent) y.outputs in
+    let hears = subst (λ (os : List Output). Hears s.heard t.heard os text) out heard in
     let all_put : numbered 0 (h.outputs ++ y.outputs) ≡ numbered 0 h.outputs ++ now = numbered_append 0 h.outputs y.outputs ∙ ap (λ p. numbered 0 h.outputs ++ numbered p y.outputs) place in
     record {
       size = ap (λ (w : World Lying). w.n) world ∙ g.size ∙ i.size;
       drawn = next ∙ ap (λ (d : Drawn Line). d.number) (drawn_same n number k s i) ∙ sym (ap (λ (a : Made). a.number) (made_more n number k));
       world = world ∙ sym x.world;
       sent = count ∙ ap (λ os. length (messages os)) (sym x.outputs);
-      heard = subst (HasHeard t.heard) (sym (ap (numbered 0) x.outputs ∙ all_put)) (heard now outputs (numbered 0 h.outputs) i.heard);
+      heard = subst (HasHeard t.heard) (sym (ap (numbered 0) x.outputs ∙ all_put)) (hears (length s.group.world.sent) written (numbered 0 h.outputs) i.heard);
     }
 
 pub size_kept : (s t : World Lying) (l : Line) → 0 < s.n → IsLineOf 1 s.n l → t ≡ (happens hazards s (happening l)).world → t.n ≡ s.n

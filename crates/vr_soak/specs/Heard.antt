@@ -1,10 +1,8 @@
 -- What was heard of outputs.
-use Rattle.std.specs.Prelude.{ℕ, ◌+◌, ◌++◌, ◌≡◌, Bool, if◌then◌else◌, List, count_by, map}
+use Rattle.std.specs.Prelude.{ℕ, ◌+◌, ◌++◌, ◌≡◌, Bool, if◌then◌else◌, List, count_by}
 use Rattle.sha2.specs.Hashers.{Holds256}
 use Rattle.vr_draws.specs.Asking.{next_requests}
-use Rattle.vr_group.specs.declared.outputs.Outputs.{Outputs}
-use Rattle.vr_group.specs.declared.outputs.Put.{Put}
-use Rattle.vr_group.specs.Outputs.{Numbered, outputs_of, plain, put_of, text_of}
+use Rattle.vr_group.specs.Outputs.{Numbered, numbered, plain, text_of}
 use Rattle.vr_msg.specs.declared.output.Output.{Output}
 use Rattle.vr_soak.specs.declared.heard.Heard.{Heard}
 use Rattle.vr_soak.specs.Summing.{is_commit, is_done, is_kept_out}
@@ -29,10 +27,10 @@ pub record HasCounted (old new : Heard) (o : Output) : Type 0 where
   pub done : new.faults.done ≡ old.faults.done + one_if (is_done o)
   pub kept_out : new.faults.kept_out ≡ old.faults.kept_out + one_if (is_kept_out o)
 
--- these were counted, of whatever outputs they are, and whatever was counted before
-abbrev pub HearsPuts : Heard → Heard → List Put → Type 0
-HearsPuts old new puts = (outputs : List Numbered) → puts ≡ map put_of outputs → (before : List Output) → Counts old before → Counts new (before ++ plain outputs)
+-- these were counted, whatever was counted before
+abbrev pub CountsOn : Heard → Heard → List Output → Type 0
+CountsOn old new outputs = (before : List Output) → Counts old before → Counts new (before ++ outputs)
 
--- these were heard, whatever was heard before
-abbrev pub Hears : Heard → Heard → Outputs → Type 0
-Hears old new put = (outputs : List Numbered) → put ≡ outputs_of outputs → (before : List Numbered) → HasHeard old before → HasHeard new (before ++ outputs)
+-- These were heard, whatever was heard before: outputs, and a text that is theirs by whichever numbers.
+abbrev pub Hears : Heard → Heard → List Output → List ℕ → Type 0
+Hears old new outputs text = (m : ℕ) → text ≡ text_of (numbered m outputs) → (before : List Numbered) → HasHeard old before → HasHeard new (before ++ numbered m outputs)

@@ -2,13 +2,12 @@
 ghost use Rattle.sha2.specs.Hashers.{Holds256};
 ghost use Rattle.std.specs.Prelude.{◌≡◌, ◌+◌, ◌++◌, ◌∷◌, [], ℕ, List, IfOk, OnOk};
 ghost use Rattle.vr_base.specs.Bytes.{name_of};
-ghost use Rattle.vr_soak.specs.Heard.{Counts, HasCounted, HasHeard, Hears, HearsPuts};
+ghost use Rattle.vr_soak.specs.Heard.{Counts, CountsOn, HasCounted, HasHeard, Hears};
 
 use crate::Faults;
 use sha2::{Digest, Sha256};
 use vr_base::{NoMemory, Sum};
 use vr_draws::Requests;
-use vr_group::{Outputs, Put};
 use vr_msg::Output;
 
 /// What was heard of the outputs so far; none of them is kept.
@@ -65,38 +64,36 @@ impl Heard {
         Ok(())
     }
 
-    /// One more is put out.
-    fn hear_put(&mut self, put: &Put) -> Result<(), NoMemory>
-        ensures counts { OnOk result (HearsPuts self.old self.new (put.now ∷ [])) }
+    /// One output more; of a message only the text is heard.
+    fn hear_output(&mut self, output: &Output) -> Result<(), NoMemory>
+        ensures counts { OnOk result (CountsOn self.old self.new (output.now ∷ [])) }
         ensures hasher { self.new.hasher ≡ self.old.hasher }
     {
-        match put {
-            Put::Message(_) => {}
-            Put::Other(output) => {
-                self.count(output)?;
-                self.requests.hear(output);
-            }
+        if let Output::Send(_) = output {
+            return Ok(());
+        }
+        self.count(output)?;
+        self.requests.hear(output);
+        Ok(())
+    }
+
+    /// More outputs, without their text.
+    fn hear_outputs(&mut self, outputs: &[Output]) -> Result<(), NoMemory>
+        ensures counts { OnOk result (CountsOn self.old self.new outputs.now) }
+        ensures hasher { self.new.hasher ≡ self.old.hasher }
+    {
+        for output in outputs {
+            self.hear_output(output)?;
         }
         Ok(())
     }
 
-    /// More are put out.
-    fn hear_puts(&mut self, puts: &[Put]) -> Result<(), NoMemory>
-        ensures counts { OnOk result (HearsPuts self.old self.new puts.now) }
-        ensures hasher { self.new.hasher ≡ self.old.hasher }
+    /// More outputs, and their text.
+    pub fn hear(&mut self, outputs: &[Output], text: &[u8]) -> Result<(), NoMemory>
+        ensures { OnOk result (Hears self.old self.new outputs.now text.now) }
     {
-        for put in puts {
-            self.hear_put(put)?;
-        }
-        Ok(())
-    }
-
-    /// More outputs.
-    pub fn hear(&mut self, outputs: &Outputs) -> Result<(), NoMemory>
-        ensures { OnOk result (Hears self.old self.new outputs.now) }
-    {
-        self.hear_puts(outputs.puts.as_slice())?;
-        self.hasher.update(outputs.text.as_slice());
+        self.hear_outputs(outputs)?;
+        self.hasher.update(text);
         Ok(())
     }
 

@@ -7,9 +7,9 @@ ghost use Rattle.vr_soak.specs.Summing.{summary_of};
 
 use crate::{Heard, Summary};
 use std::alloc::Global;
-use vr_base::{Kind, Mode, NoMemory};
+use vr_base::{ByteList, Kind, Mode, NoMemory};
 use vr_draws::Generator;
-use vr_group::{Outputs, World};
+use vr_group::World;
 
 /// A group, and what its next line is drawn by.
 #[derive(Drop)]
@@ -17,8 +17,8 @@ pub struct Soaking {
     pub group: World,
     pub generator: Generator,
     pub heard: Heard,
-    /// Those of the last line; those of the next are written into their memory.
-    outputs: Outputs,
+    /// That of what the last line put out.
+    text: ByteList,
 }
 
 impl Soaking {
@@ -37,7 +37,7 @@ impl Soaking {
             group,
             generator,
             heard,
-            outputs: Outputs::new(alloc),
+            text: ByteList::new(alloc),
         })
     }
 
@@ -56,9 +56,9 @@ impl Soaking {
         let line = self
             .generator
             .line(alloc, n, messages, &self.heard.requests)?;
-        self.outputs.clear();
-        self.group.step(alloc, &line, &mut self.outputs)?;
-        self.heard.hear(&self.outputs)?;
+        self.text.clear();
+        self.group.step(alloc, &line, &mut self.text)?;
+        self.heard.hear(self.group.last(), self.text.as_slice())?;
         Ok(())
     }
 

@@ -4,4 +4,4 @@ use Rattle.vr_group.proofs.members.Members.happen.Goals as goal
 
 pub returns-in_ok-self-in-Cluster-clause-happened : goal.returns-in_ok-self-in-Cluster-clause-happened
 returns-in_ok-self-in-Cluster-clause-happened c =
-    rw c.in-Cluster.is (begun (world_of c.args.self.now) (world_of c.in_ok-self-in-Cluster.field-0) c.in-Cluster.kind c.in-Cluster.n c.args.to.now c.in_ok-self-in-Cluster.ensures)
+    rw c.in-Cluster.is (begun (world_of c.args.self.now) (world_of c.in_ok-self-in-Cluster.field-0) c.in-Cluster.kind c.in-Cluster.n c.in_ok-self-in-Cluster.field-0.out c.args.to.now c.in_ok-self-in-Cluster.ensures.world c.in_ok-self-in-Cluster.ensures.out)

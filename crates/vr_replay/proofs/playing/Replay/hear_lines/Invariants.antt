@@ -5,7 +5,7 @@ use Rattle.vr_replay.proofs.playing.Replay.hear_lines.Given as goal
 
 abbrev pub invariant-loop-self : goal.invariant-loop-self
 invariant-loop-self l = record {
-  midst : Taking l.initial.self l.self (Some l.initial.to.text) (Some l.to.text);
+  midst : Taking l.initial.self l.self (Some l.initial.to) (Some l.to);
   live : l.self.group.live ≡ true;
   few : l.self.number ≤ limit;
 }

@@ -1,4 +1,3 @@
-use Rattle.vr_group.proofs.Numbering.{outputs_alone}
 use Rattle.vr_soak.proofs.Going.{size_kept, soaking_more}
 use Rattle.vr_soak.proofs.soaking.Soaking.step.Goals as goal
 
@@ -9,8 +8,10 @@ returns-clause-soaking c = λ n number count i.
     let line = rw (size, messages) at c.in_ok-line.ensures.line in
     let next = rw (size, messages) at c.in_ok-line.ensures.number in
     let fits = rw size at c.in_ok-line.ensures.fits in
-    let outputs = outputs_alone _ _ _ c.clear.ensures c.in_ok-step.ensures.outputs in
-    soaking_more n number count c.args.self.now _ c.in_ok-line.line _ c.requires.size line next fits c.in_ok-step.ensures.world outputs c.in_ok-hear.ensures i
+    let went = c.in_ok-step.ensures in
+    let text = rw c.clear.ensures at went.text in
+    let heard = rw (c.last.ensures, c.as_slice.ensures) at c.in_ok-hear.ensures in
+    soaking_more n number count c.args.self.now _ c.in_ok-line.line _ _ c.requires.size line next fits went.world went.outputs text heard i
 
 pub returns-clause-size : goal.returns-clause-size
 returns-clause-size c =
