@@ -1,0 +1,13 @@
+//! Sizes, places and limits of headers and messages.
+
+/// The bytes of a header.
+pub const HEADER_SIZE: usize = 128;
+
+/// Where the size of the message stands in its header.
+pub const SIZE_AT: usize = 104;
+
+/// The most bytes of a message, with its header.
+pub const MESSAGE_MOST: usize = 20_480;
+
+/// The last op of a log.
+pub const LAST_OP: u64 = 1 << 62;
