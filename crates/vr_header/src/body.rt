@@ -7,7 +7,7 @@ ghost use Rattle.vr_header.specs.Bodies.{IsOperation, IsOutcome, operation_bytes
 ghost use Rattle.vr_header.specs.Views.{operation_seen, outcome_seen};
 
 use crate::view::{OperationView, OutcomeView, read_operation, read_outcome};
-use crate::{Key, Operation, Outcome, Size, Value};
+use crate::{HEADER_SIZE, Key, Operation, Outcome, Size, Value};
 use std::alloc::{AllocError, Global};
 use vr_base::{ByteList, Sum, Version, checksum, checksum_of_parts};
 
@@ -88,7 +88,7 @@ impl Operation {
             Operation::Put(key, value) => 4 + key.as_slice().len() + value.as_slice().len(),
             Operation::Get(key) | Operation::Delete(key) => 2 + key.as_slice().len(),
         };
-        Size::new(128 + body as u32)
+        Size::new((HEADER_SIZE + body) as u32)
     }
 
     /// Whether the bytes spell an operation.

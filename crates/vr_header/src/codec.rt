@@ -5,7 +5,7 @@ ghost use Rattle.vr_header.specs.Names.{header_name};
 ghost use Rattle.vr_header.specs.declared.header.Header.{Header};
 ghost use Rattle.vr_header.specs.Spelling.{Spells, IsHeader, code_of, command_of, decoded, fault_of, decoded_header, header_bytes, is_named, is_size, named_bytes};
 
-use crate::{Command, Header, HeaderFault, Size};
+use crate::{Command, HEADER_SIZE, Header, HeaderFault, MESSAGE_MOST, NAMED_AT, SIZE_AT, Size};
 use vr_base::{
     Sum, Version, checksum, is_version, put, put_sum, put_u32, put_u64, sum_at, u32_at, u64_at,
 };
@@ -47,7 +47,7 @@ fn fault_by(bytes: &[u8], name: Sum) -> Option<HeaderFault>
     if !is_version(bytes[110]) {
         return Some(HeaderFault::BadVersion);
     }
-    if !is_size(u32_at(bytes, 104)) {
+    if !is_size(u32_at(bytes, SIZE_AT)) {
         return Some(HeaderFault::BadSize);
     }
     if u64_at(bytes, 120) != 0 {
@@ -80,18 +80,18 @@ fn read(bytes: &[u8]) -> Result<Header, HeaderFault>
 fn fault_of(bytes: &[u8]) -> Option<HeaderFault>
     ensures { result ≡ fault_of bytes.now }
 {
-    if bytes.len() < 128 {
+    if bytes.len() < HEADER_SIZE {
         return Some(HeaderFault::Short);
     }
-    let (front, _) = bytes.split_at(128);
-    let (_, named) = front.split_at(16);
+    let (front, _) = bytes.split_at(HEADER_SIZE);
+    let (_, named) = front.split_at(NAMED_AT);
     fault_by(bytes, checksum(named))
 }
 
 fn is_size(bytes: u32) -> bool
     ensures { result ≡ is_size bytes }
 {
-    128 <= bytes && bytes <= 20480
+    HEADER_SIZE <= bytes as usize && bytes as usize <= MESSAGE_MOST
 }
 
 #[tactic(auto, unfolding(crate::specs::Spelling::command_of))]
@@ -165,7 +165,7 @@ pub fn decoded_header(bytes: &[u8]) -> Header
         view: u32_at(bytes, 84),
         op: u64_at(bytes, 88),
         commit: u64_at(bytes, 96),
-        size: Size::new(u32_at(bytes, 104)),
+        size: Size::new(u32_at(bytes, SIZE_AT)),
         command: command_of(bytes[108]).unwrap_or(Command::Reserved),
         replica: bytes[109],
         version: Version::new(bytes[110]),
@@ -191,7 +191,7 @@ pub(crate) fn name_of_rest(bytes: &[u8]) -> Sum
     requires { 16 ≤ length bytes.now }
     ensures { result.0 ≡ name_of (drop 16 bytes.now) }
 {
-    let (_, rest) = bytes.split_at(16);
+    let (_, rest) = bytes.split_at(NAMED_AT);
     checksum(rest)
 }
 
@@ -218,7 +218,7 @@ pub(crate) fn written(h: Header) -> [u8; 128]
     put_u32(&mut out, 84, h.view);
     put_u64(&mut out, 88, h.op);
     put_u64(&mut out, 96, h.commit);
-    put_u32(&mut out, 104, h.size.get());
+    put_u32(&mut out, SIZE_AT, h.size.get());
     put(
         &mut out,
         108,

@@ -1,7 +1,7 @@
 //! The header of 128 bytes that stands before each body.
 
 use crate::codec::{name_of_rest, written};
-use crate::{Command, Operation, Size};
+use crate::{Command, HEADER_SIZE, LAST_OP, Operation, Size};
 use vr_base::{Seq, Sum, Version, checksum};
 
 /// The header of an entry, of a message, or of a record of the disk. A field that its command has no
@@ -86,7 +86,7 @@ impl Header {
             view: 0,
             op: 0,
             commit: 0,
-            size: Size::new(128),
+            size: Size::new(HEADER_SIZE as u32),
             command: Command::Root,
             replica: 0,
             version: Version::new(1),
@@ -157,11 +157,11 @@ impl Header {
         ensures meaning { IsTrue result ↔ IsEntryHeader self.now }
     {
         self.command == Command::Entry
-            && 128 < self.size.get()
-            && self.size.get() <= 128 + self.version.body_limit()
+            && HEADER_SIZE < self.size.get() as usize
+            && self.size.get() as usize <= HEADER_SIZE + self.version.body_limit() as usize
             && self.view < u32::MAX
             && 1 <= self.op
-            && self.op <= 1 << 62
+            && self.op <= LAST_OP
             && self.is_bare()
     }
 

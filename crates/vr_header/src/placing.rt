@@ -6,7 +6,7 @@ ghost use Rattle.vr_header.specs.Spelling.{IsHeader};
 ghost use Rattle.vr_base.specs.Versions.{body_limit};
 
 use crate::codec::spelled;
-use crate::{Entry, Operation};
+use crate::{Entry, HEADER_SIZE, Operation};
 use vr_base::put;
 
 impl Operation {
@@ -49,6 +49,6 @@ impl Entry {
         ensures whole { IsEntry self.now × IsHeader self.now.header }
     {
         put(out, 0, &spelled(&self.header(), self.name()));
-        self.operation().put_body(out, 128);
+        self.operation().put_body(out, HEADER_SIZE);
     }
 }

@@ -9,7 +9,7 @@ ghost use Rattle.vr_header.specs.Spelling.{decoded};
 ghost use Rattle.vr_header.specs.Views.{entry_seen, operation_seen, outcome_seen};
 
 use crate::text::is_text;
-use crate::{Header, decode, decoded_header};
+use crate::{HEADER_SIZE, Header, decode, decoded_header};
 use vr_base::{Sum, Version, checksum};
 
 /// An operation whose texts stand in the bytes that it was read from.
@@ -145,7 +145,7 @@ fn with_body(header: Header, bytes: &[u8]) -> Option<EntryView<'_>>
     requires { 128 ≤ length bytes.now }
     ensures { option_map entry_seen result ≡ with_body header (operation_of header.version (drop 128 bytes.now)) }
 {
-    let (_, body) = bytes.split_at(128);
+    let (_, body) = bytes.split_at(HEADER_SIZE);
     let operation = read_operation(header.version, body)?;
     if is_register(operation) == (header.request == 0) {
         Some(EntryView { header, operation })
@@ -161,7 +161,7 @@ pub fn entry_at(bytes: &[u8]) -> EntryView<'_>
     ensures { entry_of bytes.now ≡ Some (entry_seen result) }
 {
     let header = decoded_header(bytes);
-    let (_, body) = bytes.split_at(128);
+    let (_, body) = bytes.split_at(HEADER_SIZE);
     let operation = read_operation(header.version, body).unwrap();
     EntryView { header, operation }
 }
@@ -186,7 +186,7 @@ fn has_name(bytes: &[u8], name: Sum) -> bool
     requires { 128 ≤ length bytes.now }
     ensures { result ≡ pointwise nat_eq name.0 (name_of (drop 128 bytes.now)) }
 {
-    let (_, body) = bytes.split_at(128);
+    let (_, body) = bytes.split_at(HEADER_SIZE);
     name == checksum(body)
 }
 
