@@ -7,7 +7,7 @@ use crate::Name;
 use std::alloc::{AllocError, Global};
 use vr_base::{ByteList, Seq, Sum, Version, checksum, sum_at};
 use vr_disk::BLOCKS;
-use vr_header::{Command, Header, Size, encode};
+use vr_header::{Command, HEADER_SIZE, Header, Size, encode};
 
 /// The kind of a block with a part of a text.
 pub const DATA: u8 = 2;
@@ -63,7 +63,7 @@ pub(crate) fn header_over(
         view: 0,
         op,
         commit: 0,
-        size: Size::new(128 + payload.len() as u32),
+        size: Size::new(HEADER_SIZE as u32 + payload.len() as u32),
         command: Command::Block,
         replica: 0,
         version: Version::new(1),
@@ -92,10 +92,10 @@ impl Block {
         let header = block_header(cluster, address, op, kind, payload);
         let front = encode(&header);
         let sum = sum_at(&front, 0);
-        let mut bytes = Vec::with_capacity(alloc, 4096)?;
+        let mut bytes = Vec::with_capacity(alloc, BLOCK_SIZE)?;
         bytes.extend_from_slice(&front)?;
         bytes.extend_from_slice(payload)?;
-        bytes.resize(4096, 0)?;
+        bytes.resize(BLOCK_SIZE, 0)?;
         Ok(Block {
             name: Name { address, sum },
             bytes: Seq::from_vec(bytes),

@@ -8,11 +8,11 @@ ghost use Rattle.vr_header.specs.Same.{same_header};
 ghost use Rattle.vr_header.specs.Spelling.{decoded};
 ghost use Rattle.vr_ckpt.specs.Blocks.{block_header, is_block, is_kind, named};
 
-use crate::Name;
 use crate::block::header_over;
+use crate::{BLOCK_SIZE, Name, PAYLOAD_AT};
 use vr_base::{is_zeros, sum_at};
 use vr_disk::{BLOCKS, Room, SectorDisk};
-use vr_header::{Header, decode_by};
+use vr_header::{HEADER_SIZE, Header, decode_by};
 
 fn is_kind(kind: u8) -> bool
     ensures { result ≡ is_kind kind }
@@ -43,11 +43,11 @@ fn is_block<D: SectorDisk>(disk: &mut D, h: &Header, bytes: &[u8]) -> bool
     ensures reads { D.read_faults disk.new ≡ D.read_faults disk.old }
 {
     let size = h.size.get();
-    if size > 4096 {
+    if size > BLOCK_SIZE as u32 {
         return false;
     }
     let end = size as usize;
-    let payload = &bytes[128..end];
+    let payload = &bytes[PAYLOAD_AT..end];
     is_kind(h.kind)
         && h.aux < u64::from(BLOCKS)
         && is_zeros(&bytes[end..])
@@ -78,7 +78,7 @@ fn payload_behind<D: SectorDisk>(
     ensures reads { D.read_faults disk.new ≡ D.read_faults disk.old }
 {
     if is_block(disk, &h, bytes) && has_name(&h, bytes, name) {
-        Some(h.size.get() as usize - 128)
+        Some(h.size.get() as usize - PAYLOAD_AT)
     } else {
         None
     }
@@ -93,7 +93,7 @@ pub fn payload_of<D: SectorDisk>(disk: &mut D, bytes: &[u8], name: &Name) -> Opt
     ensures faults { D.faults disk.new ≡ D.faults disk.old }
     ensures reads { D.read_faults disk.new ≡ D.read_faults disk.old }
 {
-    let front = disk.name_of(Room::Header, &bytes[16..128]);
+    let front = disk.name_of(Room::Header, &bytes[16..HEADER_SIZE]);
     match decode_by(bytes, front) {
         Err(_) => None,
         Ok(header) => payload_behind(disk, header, bytes, name),

@@ -3,8 +3,8 @@ ghost use Rattle.std.specs.Prelude.{◌≡◌, ◌<◌, ◌≤◌, Some, None, l
 ghost use Rattle.vr_ckpt.specs.Blocks.{named};
 ghost use Rattle.vr_ckpt.specs.Grid.{IsWhole, block_reading, named_at};
 
-use crate::Name;
 use crate::check::payload_of;
+use crate::{BLOCK_SIZE, Name};
 use vr_disk::{BLOCK_SECTORS, BLOCKS, Buffer, Faulty, SectorDisk, block_place, read_sectors};
 
 // Reads the eight sectors of a block; false where one of them can't be read.
@@ -37,7 +37,7 @@ pub fn read_block<D: SectorDisk>(
     if name.address >= u64::from(BLOCKS) {
         return Err(Faulty);
     }
-    let mut bytes = [0; 4096];
+    let mut bytes = [0; BLOCK_SIZE];
     if !fill(disk, name.address as u32, &mut bytes) {
         return Err(Faulty);
     }

@@ -13,6 +13,15 @@ use std::alloc::Global;
 use vr_base::{NoMemory, Seq, put_u16, put_u32, put_u64, sum_at, u16_at, u32_at, u64_at};
 use vr_state::Texts;
 
+/// The bytes of the numbers at the front of a root's payload.
+const FRONT: usize = 18;
+
+/// The bytes of a name behind them: an address and a sum.
+const NAME: usize = 24;
+
+/// The bytes of an address.
+const ADDRESS: usize = 8;
+
 /// What a root says: how many bytes the texts have, and the names of their payloads.
 #[derive(Drop)]
 pub struct Root {
@@ -45,10 +54,10 @@ fn push_name(bytes: &mut Vec<u8>, name: Name) -> Result<(), NoMemory>
 
 // The numbers at the front of a root's payload: the op, how many bytes the texts have, how many payloads there are.
 #[tactic(auto, unfolding(vr_base::specs::Bytes::bytes16, vr_base::specs::Bytes::bytes32, vr_base::specs::Bytes::bytes64))]
-fn root_front(op: u64, sessions: u32, keys: u32, count: u16) -> [u8; 18]
+fn root_front(op: u64, sessions: u32, keys: u32, count: u16) -> [u8; FRONT]
     ensures { result ≡ bytes64 op ++ (bytes32 sessions ++ (bytes32 keys ++ bytes16 count)) }
 {
-    let mut out = [0; 18];
+    let mut out = [0; FRONT];
     put_u64(&mut out, 0, op);
     put_u32(&mut out, 8, sessions);
     put_u32(&mut out, 12, keys);
@@ -108,8 +117,8 @@ fn name_at(bytes: &[u8], i: usize) -> Name
     ensures { result ≡ name_at bytes.now i }
 {
     Name {
-        address: u64_at(bytes, 18 + 24 * i),
-        sum: sum_at(bytes, 26 + 24 * i),
+        address: u64_at(bytes, FRONT + NAME * i),
+        sum: sum_at(bytes, FRONT + ADDRESS + NAME * i),
     }
 }
 
@@ -165,7 +174,7 @@ fn keys_size(bytes: &[u8]) -> u32
 fn has_numbers(op: u64, bytes: &[u8]) -> bool
     ensures { result ≡ has_numbers op bytes.now }
 {
-    if bytes.len() < 18 {
+    if bytes.len() < FRONT {
         return false;
     }
     let sessions = payloads(sessions_size(bytes));
@@ -174,7 +183,7 @@ fn has_numbers(op: u64, bytes: &[u8]) -> bool
         && sessions <= SESSION_PAYLOADS
         && keys <= KEY_PAYLOADS
         && u16_at(bytes, 16) as usize == sessions + keys
-        && bytes.len() == 18 + 24 * (sessions + keys)
+        && bytes.len() == FRONT + NAME * (sessions + keys)
 }
 
 // What a root's payload says.

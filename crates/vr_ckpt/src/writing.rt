@@ -7,13 +7,14 @@ ghost use Rattle.vr_ckpt.specs.Blocks.{block_bytes, block_name, content_of, is_k
 ghost use Rattle.vr_ckpt.specs.Grid.{Leaves, block_calls, put_calls};
 ghost use Rattle.vr_ckpt.specs.GridLaws.{PutLeaves};
 
-use crate::{Block, Name};
+use crate::{Block, Name, PAYLOAD_AT};
 use std::alloc::Global;
 use vr_base::{sum_at, u32_at, u64_at};
 use vr_disk::{
     BLOCK_SECTORS, BLOCKS, DiskFailed, DiskFault, Halt, Room, SectorDisk, block_place,
     write_sectors,
 };
+use vr_header::{HEADER_SIZE, SIZE_AT};
 
 /// Writes the eight sectors of a block; it takes no memory.
 #[tactic(auto, unfolding(crate::specs::Grid::block_calls))]
@@ -34,11 +35,11 @@ pub(crate) fn note_block<D: SectorDisk>(disk: &mut D, block: &[u8])
     ensures faults { D.faults disk.new ≡ D.faults disk.old }
     ensures reads { D.read_faults disk.new ≡ D.read_faults disk.old }
 {
-    let end = u32_at(block, 104) as usize;
+    let end = u32_at(block, SIZE_AT) as usize;
     let header = sum_at(block, 0);
     let payload = sum_at(block, 16);
-    disk.keep_name(Room::Header, &block[16..128], header);
-    disk.keep_name(Room::Payload(u64_at(block, 112)), &block[128..end], payload);
+    disk.keep_name(Room::Header, &block[16..HEADER_SIZE], header);
+    disk.keep_name(Room::Payload(u64_at(block, 112)), &block[PAYLOAD_AT..end], payload);
 }
 
 /// Makes the block of checkpoint `op` at an address below 384, of this kind (`DATA` or `ROOT`), with a payload of at most

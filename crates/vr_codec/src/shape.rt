@@ -7,7 +7,7 @@ ghost use Rattle.vr_codec.specs.Shapes.{uses_parent, uses_request_name, uses_cli
 
 use crate::MsgFault;
 use vr_base::{Sum, Version, checksum, u16_at, u64_at};
-use vr_header::{Command, Entry, Header, Operation, Outcome, decode};
+use vr_header::{Command, Entry, Header, LAST_OP, Operation, Outcome, decode};
 
 fn uses_parent(command: Command) -> bool
     ensures { result ≡ uses_parent command }
@@ -146,7 +146,7 @@ fn is_view(view: u64) -> bool
 fn is_number(op: u64) -> bool
     ensures { result ≡ is_number op }
 {
-    op <= 1 << 62
+    op <= LAST_OP
 }
 
 #[tactic(auto, unfolding(crate::specs::Shapes::numbers_fit))]

@@ -22,15 +22,12 @@ use std::alloc::{AllocError, Global};
 use vr_base::{NoMemory, Sum};
 use vr_ckpt::SessionAnswer;
 use vr_disk::SectorDisk;
-use vr_header::{Header, Part};
+use vr_header::{Header, LAST_OP, Part};
 use vr_journal::{Halt, Replica, Window};
 use vr_msg::{Answered, Outbox, ReplyKind, Request, RequestFields};
 
 // The most entries that stand above the commit number.
 const PIPELINE: u64 = 8;
-
-// The last op of a log.
-const LAST_OP: u64 = 1 << 62;
 
 /// What a request leads to.
 #[derive(Debug, Drop, PartialEq, Eq)]

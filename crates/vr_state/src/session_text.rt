@@ -8,7 +8,7 @@ ghost use Rattle.vr_state.specs.SessionTexts.{session_text, value_from, outcome_
 use crate::{Session, split_byte, split_piece, split_u16, split_u32, split_u64};
 use std::alloc::Global;
 use vr_base::{ByteList, NoMemory};
-use vr_header::{Outcome, Value};
+use vr_header::{LAST_OP, Outcome, Value};
 
 /// How many bytes the text of a session has, whoever its client is: client, request, op, and the outcome behind its kind.
 #[tactic(auto, using(std::proofs::lemmas::Grind::common_steps, crate::proofs::Values::length_of_session))]
@@ -65,9 +65,6 @@ fn write_value(text: &mut ByteList, value: &Value) -> Result<(), NoMemory>
     text.extend(bytes)?;
     Ok(())
 }
-
-/// The greatest number of an entry.
-const LAST_OP: u64 = 1 << 62;
 
 /// A client, a request and an op, and the bytes behind them.
 #[derive(Clone, Copy)]

@@ -7,6 +7,7 @@ use crate::looking::{Front, look};
 use std::alloc::{AllocError, Global};
 use std::marker::Model;
 use vr_edge::STREAM_ROOM;
+use vr_header::MESSAGE_MOST;
 
 /// The longest message, but for a byte, and a piece.
 const ROOM: usize = 24576;
@@ -90,7 +91,7 @@ impl Deframer {
     pub fn is_short(&self) -> bool
         ensures { result ≡ nat_lt (length self.now) 20480 }
     {
-        self.bytes.len() - self.start < 20480
+        self.bytes.len() - self.start < MESSAGE_MOST
     }
 
     /// What comes next; a message takes the place of what `to` holds. It takes no memory.

@@ -6,7 +6,7 @@ ghost use Rattle.vr_stream.specs.Looking.{Sees};
 
 use vr_base::u32_at;
 use vr_codec::{MsgFault, judge};
-use vr_header::decode;
+use vr_header::{HEADER_SIZE, MESSAGE_MOST, SIZE_AT, decode};
 
 /// What stands at the front of bytes.
 #[derive(Clone, Copy, Debug, PartialEq, Eq)]
@@ -47,11 +47,11 @@ fn look_at_whole(bytes: &[u8], size: usize) -> Front
 pub(crate) fn look(bytes: &[u8]) -> Front
     ensures { Sees bytes.now result }
 {
-    if bytes.len() < 128 {
+    if bytes.len() < HEADER_SIZE {
         return Front::Short;
     }
-    let size = u32_at(bytes, 104) as usize;
-    if 128 <= size && size <= 20480 && size <= bytes.len() {
+    let size = u32_at(bytes, SIZE_AT) as usize;
+    if HEADER_SIZE <= size && size <= MESSAGE_MOST && size <= bytes.len() {
         look_at_whole(bytes, size)
     } else {
         look_at_header(bytes)

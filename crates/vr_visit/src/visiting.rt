@@ -21,6 +21,10 @@ use vr_journal::{Halt, Replica, rewrite_header};
 use vr_msg::Outbox;
 use vr_rings::read_header;
 
+// The places that are visited: each slot, then the superblock, then each block of the checkpoint.
+const SUPERBLOCK: u64 = SLOTS as u64;
+const FIRST_BLOCK: u64 = SUPERBLOCK + 1;
+
 // ---- slots
 
 // Whether the header sector of this header's slot reads as a valid header, and as just this one. The disk is only read.
@@ -28,7 +32,7 @@ fn reads_as<D: SectorDisk>(disk: &mut D, header: &Header) -> bool
     ensures untouched { Untouched D.SectorDisk disk.old disk.new }
     ensures value { IfSome (D.told disk.old) (λ d. result ≡ reads_as header.now (header_in d.face (header.now.op % 64))) }
 {
-    match read_header(disk, (header.op % 64) as u32) {
+    match read_header(disk, (header.op % u64::from(SLOTS)) as u32) {
         Some(found) => found.is(header),
         None => false,
     }
@@ -143,16 +147,16 @@ fn visit_place<D: SectorDisk>(
     requires ready { IsReady replica.old }
     ensures { Acts D.SectorDisk (visit_place at) replica.old replica.new disk.old disk.new out.old out.new result }
 {
-    if at < 64 {
+    if at < SUPERBLOCK {
         let op = replica.op_of_slot(at);
         visit_slot(replica, disk, op, out)?;
         return Ok(());
     }
-    if at == 64 {
+    if at == SUPERBLOCK {
         mend_value(replica, disk)?;
         return Ok(());
     }
-    match replica.block_name((at - 65) as usize) {
+    match replica.block_name((at - FIRST_BLOCK) as usize) {
         Some(name) => visit_block(replica, disk, &name, out),
         None => Ok(()),
     }
