@@ -15,7 +15,7 @@ ghost use Rattle.vr_journal.specs.Acts.{Acts, Untouched};
 
 use crate::found::Visit;
 use vr_ckpt::Name;
-use vr_disk::{DiskFault, SectorDisk};
+use vr_disk::{DiskFault, SLOTS, SectorDisk};
 use vr_header::{Header, Part};
 use vr_journal::{Halt, Replica, rewrite_header};
 use vr_msg::Outbox;
