@@ -4,7 +4,8 @@ ghost use Rattle.vr_chain.specs.Holes.{is_hole};
 
 use vr_header::Part;
 
-/// The place of the first Part with no known header; Here, Lost and Wanted know theirs.
+/// The place of the first Part with no known header; Here, Lost and Wanted know theirs. It is for
+/// programs that get a list of Parts from elsewhere, as `verify`.
 pub fn next_hole(parts: &[Part]) -> Option<usize>
     ensures { result ≡ position is_hole parts.now }
 {

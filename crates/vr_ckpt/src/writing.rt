@@ -43,7 +43,8 @@ pub(crate) fn note_block<D: SectorDisk>(disk: &mut D, block: &[u8])
 }
 
 /// Makes the block of checkpoint `op` at an address below 384, of this kind (`DATA` or `ROOT`), with a payload of at most
-/// 3,968 bytes, and writes its eight sectors. Want of memory comes before the first call.
+/// 3,968 bytes, and writes its eight sectors. Want of memory comes before the first call. It is for
+/// programs that write a single block, as tests do; `save` writes those of a checkpoint.
 pub fn write_block<D: SectorDisk>(
     alloc: Global,
     disk: &mut D,

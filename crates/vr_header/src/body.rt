@@ -12,7 +12,8 @@ use std::alloc::{AllocError, Global};
 use vr_base::{ByteList, Sum, Version, checksum, checksum_of_parts};
 
 impl Operation {
-    /// The one spelling of an operation, of at most 3,068 bytes.
+    /// The one spelling of an operation, of at most 3,068 bytes, as a list of its own. It is for whoever keeps or sends a body alone: entries
+    /// and messages add it with `write_body`.
     pub fn encode_body(&self, alloc: Global) -> Result<ByteList, AllocError>
         ensures bytes { IfOk result (λ body. body ≡ operation_bytes self.now) }
     {
@@ -113,7 +114,8 @@ impl Operation {
 }
 
 impl Outcome {
-    /// The one spelling of an outcome, of at most 3,003 bytes.
+    /// The one spelling of an outcome, of at most 3,003 bytes, as a list of its own. It is for whoever keeps or sends a body alone: sessions
+    /// and replies add it with `write_body`.
     pub fn encode_body(&self, alloc: Global) -> Result<ByteList, AllocError>
         ensures bytes { IfOk result (λ body. body ≡ outcome_bytes self.now) }
     {

@@ -7,11 +7,10 @@ ghost use Rattle.vr_base.specs.Bytes.{KeepsFront, name_of};
 ghost use Rattle.vr_header.specs.Bodies.{IsOperation};
 ghost use Rattle.vr_header.specs.Made.{IsEntry, IsRequest, Whole, entry_bytes, entry_of, made_by};
 ghost use Rattle.vr_header.specs.Spelling.{IsHeader};
-ghost use Rattle.vr_header.specs.Views.{entry_seen, operation_seen};
 
 use crate::body::owned_operation;
 use crate::codec::spelled;
-use crate::view::{EntryView, entry_at, entry_by, read_entry};
+use crate::view::{entry_at, entry_by, read_entry};
 use crate::{Command, Header, Operation};
 use std::alloc::{AllocError, Global};
 use std::marker::Model;
@@ -138,21 +137,14 @@ impl Entry {
 
     /// The header of the entry that the bytes spell, `None` exactly where they spell none.
     pub fn header_in(bytes: &[u8]) -> Option<Header>
-        ensures { result ≡ option_map (λ e. e.header) (entry_of bytes.now) }
+        ensures exact { result ≡ option_map (λ e. e.header) (entry_of bytes.now) }
+        ensures found { IfSome (entry_of bytes.now) (λ e. (bytes.now ≡ entry_bytes e) × IsEntry e × IsHeader e.header) }
+        ensures only { (e : Whole) → IsEntry e → IsHeader e.header → bytes.now ≡ entry_bytes e → entry_of bytes.now ≡ Some e }
     {
         match read_entry(bytes) {
             Some(view) => Some(view.header),
             None => None,
         }
-    }
-
-    /// The entry that the bytes spell, `None` exactly where they spell none.
-    pub fn decode(alloc: Global, bytes: &[u8]) -> Result<Option<Entry>, AllocError>
-        ensures exact { IfOk result (λ read. read ≡ entry_of bytes.now) }
-        ensures found { IfSome (entry_of bytes.now) (λ e. (bytes.now ≡ entry_bytes e) × IsEntry e × IsHeader e.header) }
-        ensures only { (e : Whole) → IsEntry e → IsHeader e.header → bytes.now ≡ entry_bytes e → entry_of bytes.now ≡ Some e }
-    {
-        made_entry(alloc, bytes)
     }
 
     /// The entry that the bytes spell, where they are known to spell one; nothing is hashed.
@@ -177,23 +169,4 @@ impl Entry {
             None => None,
         }
     }
-}
-
-fn made_entry(alloc: Global, bytes: &[u8]) -> Result<Option<Entry>, AllocError>
-    ensures { IfOk result (λ read. read ≡ entry_of bytes.now) }
-{
-    match read_entry(bytes) {
-        Some(view) => Ok(Some(owned_entry(alloc, view, sum_at(bytes, 0))?)),
-        None => Ok(None),
-    }
-}
-
-#[tactic(auto, using(crate::proofs::BodyLaws::any_operation))]
-fn owned_entry(alloc: Global, view: EntryView<'_>, name: Sum) -> Result<Entry, AllocError>
-    requires name { name ≡ header_name view.header }
-    requires entry { IsEntry (entry_seen view) }
-    ensures { IfOk result (λ entry. entry ≡ entry_seen view.entry) }
-{
-    let operation = owned_operation(alloc, view.operation)?;
-    Ok(Entry::named(view.header, operation, name))
 }

@@ -3,7 +3,6 @@ ghost use Rattle.std.specs.Prelude.{◌≡◌, ◌≤◌, ◌+◌, ◌++◌, len
 ghost use Rattle.vr_header.specs.Bodies.{IsOperation, operation_bytes};
 ghost use Rattle.vr_header.specs.Made.{IsEntry, entry_bytes};
 ghost use Rattle.vr_header.specs.Spelling.{IsHeader};
-ghost use Rattle.vr_base.specs.Versions.{body_limit};
 
 use crate::codec::spelled;
 use crate::{Entry, HEADER_SIZE, Operation};
@@ -40,13 +39,14 @@ impl Operation {
 }
 
 impl Entry {
-    /// Puts the spelling in front, where there is room for any entry of its version; the other bytes stay. It takes no memory.
+    /// Puts the spelling in front, where there is room for it; the other bytes stay. It takes no memory.
     pub fn put(&self, out: &mut [u8])
-        requires { 128 + body_limit self.now.header.version ≤ length out.old }
+        requires { self.now.header.size ≤ length out.old }
         ensures front { take (length (entry_bytes self.now)) out.new ≡ entry_bytes self.now }
         ensures back { drop (length (entry_bytes self.now)) out.new ≡ drop (length (entry_bytes self.now)) out.old }
-        ensures size { length (entry_bytes self.now) ≤ 128 + body_limit self.now.header.version }
-        ensures whole { IsEntry self.now × IsHeader self.now.header }
+        ensures size { length (entry_bytes self.now) ≤ length out.old }
+        ensures entry { IsEntry self.now }
+        ensures header { IsHeader self.now.header }
     {
         put(out, 0, &spelled(&self.header(), self.name()));
         self.operation().put_body(out, HEADER_SIZE);

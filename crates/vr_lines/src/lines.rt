@@ -77,7 +77,8 @@ impl Lines {
         }
     }
 
-    /// Takes so many bytes of a piece as there is room for, and returns how many. The line that was given last is lent no more.
+    /// Takes so many bytes of a piece as there is room for, and returns how many. The line that was given last is lent no more. It is for
+    /// programs that have pieces and no `Source`; `fill` reads one.
     pub fn push(&mut self, piece: &[u8]) -> usize
         ensures count { result ≡ min (length piece.now) (room - length self.old.bytes) }
         ensures bytes { self.new.bytes ≡ self.old.bytes ++ take result piece.now }

@@ -1,104 +1,13 @@
 //! Messages from what they say.
 ghost use Rattle.std.specs.Prelude.{◌≡◌, ◌≤◌, length};
-ghost use Rattle.vr_header.specs.Bodies.{IsOutcome};
-ghost use Rattle.vr_header.specs.Names.{header_name, request_header};
 ghost use Rattle.vr_msg.specs.declared.frame.Frame.{Frame};
-ghost use Rattle.vr_msg.specs.declared.reply.ReplyKind.{ReplyKind};
-ghost use Rattle.vr_msg.specs.Asking.{IsKindValue, IsReplyKind};
 ghost use Rattle.vr_msg.specs.Forms.{IsDoViewChange, IsStartView, IsSyncView};
 ghost use Rattle.vr_msg.specs.Numbers.{IsNumber, IsView};
 
 use crate::{
-    Answered, Commit, DoViewChange, Frame, GetBlock, GetPrepare, GetSync, GetView, GiveBlock,
-    GivePrepare, Message, Prepare, PrepareOk, Reply, ReplyFields, ReplyKind, Request, StartView,
-    StartViewChange, SyncView,
+    Commit, DoViewChange, Frame, GetBlock, GetPrepare, GetSync, GetView, GiveBlock, GivePrepare,
+    Message, Prepare, PrepareOk, Reply, Request, StartView, StartViewChange, SyncView,
 };
-use vr_base::Version;
-use vr_header::{Header, Outcome};
-
-impl PrepareOk {
-    /// That the entry of this header is stored.
-    pub fn of(version: Version, header: &Header, replica: u8, view: u32) -> PrepareOk
-        ensures { result ≡ record { version = version; cluster = header.now.cluster; replica = replica; view = view; op = header.now.op; name = header_name header.now; made = header.now.view } }
-    {
-        PrepareOk {
-            version,
-            cluster: header.cluster,
-            replica,
-            view,
-            op: header.op,
-            name: header.name(),
-            made: header.view,
-        }
-    }
-}
-
-impl GetPrepare {
-    /// Asks for the entry of this header.
-    pub fn of(version: Version, header: &Header, replica: u8) -> GetPrepare
-        ensures { result ≡ record { version = version; cluster = header.now.cluster; replica = replica; op = header.now.op; name = header_name header.now; made = header.now.view } }
-    {
-        GetPrepare {
-            version,
-            cluster: header.cluster,
-            replica,
-            op: header.op,
-            name: header.name(),
-            made: header.view,
-        }
-    }
-}
-
-impl Reply {
-    /// The reply of this kind to a request, of its version.
-    pub fn to(request: &Request, replica: u8, view: u32, kind: ReplyKind) -> Reply
-        requires view { IsView view }
-        requires kind { IsReplyKind kind }
-        requires fits { IsKindValue request.now.version kind }
-        ensures { result ≡ record { version = request.now.version; cluster = request.now.cluster; replica = replica; view = view; client = request.now.client; request = request.now.request; request_name = header_name (request_header request.now.version request.now.cluster request.now.client request.now.request request.now.operation); kind = kind } }
-    {
-        let q = request.fields();
-        let header = Header::of_request(q.version, q.cluster, q.client, q.request, &q.operation);
-        Reply::new(ReplyFields {
-            version: q.version,
-            cluster: q.cluster,
-            replica,
-            view,
-            client: q.client,
-            request: q.request,
-            request_name: header.name(),
-            kind,
-        })
-    }
-
-    /// The reply to the request that the entry of this header was made of, with its outcome.
-    pub fn of_entry(
-        version: Version,
-        header: &Header,
-        replica: u8,
-        view: u32,
-        outcome: Outcome,
-    ) -> Reply
-        requires view { IsView view }
-        requires op { IsNumber header.now.op }
-        requires fits { IsOutcome version outcome }
-        ensures { result ≡ record { version = version; cluster = header.now.cluster; replica = replica; view = view; client = header.now.client; request = header.now.request; request_name = header.now.request_name; kind = ReplyKind.Outcome (record { op = header.now.op; outcome = outcome }) } }
-    {
-        Reply::new(ReplyFields {
-            version,
-            cluster: header.cluster,
-            replica,
-            view,
-            client: header.client,
-            request: header.request,
-            request_name: header.request_name,
-            kind: ReplyKind::Outcome(Answered {
-                op: header.op,
-                outcome,
-            }),
-        })
-    }
-}
 
 impl Message {
     /// A request.

@@ -134,12 +134,4 @@ impl Request {
             names: self.names,
         }
     }
-
-    /// What it says; it takes no memory.
-    pub fn into_fields(self) -> RequestFields
-        ensures value { result ≡ self }
-        ensures form { IsRequest self }
-    {
-        self.fields
-    }
 }

@@ -1,5 +1,5 @@
 //! The sectors of a slot, both ways.
-ghost use Rattle.std.specs.Prelude.{◌≡◌, ◌≤◌, ◌+◌, drop, length, min, replicate, take};
+ghost use Rattle.std.specs.Prelude.{◌≡◌, ◌≤◌, length, min, replicate, take};
 ghost use Rattle.std.specs.Option.{option_map};
 ghost use Rattle.std.specs.Result.{result_ok};
 ghost use Rattle.vr_base.specs.Bytes.{IsBytes};
@@ -52,18 +52,6 @@ pub fn header_sector(prepare: &[u8]) -> Sector
     sector
 }
 
-// Puts the spelling of an entry in front; the other bytes stay.
-fn put_entry(entry: &Entry, to: &mut [u8])
-    requires { entry.now.header.size ≤ length to.old }
-    ensures front { take (length (entry_bytes entry.now)) to.new ≡ entry_bytes entry.now }
-    ensures back { drop (length (entry_bytes entry.now)) to.new ≡ drop (length (entry_bytes entry.now)) to.old }
-    ensures size { length (entry_bytes entry.now) ≤ length to.old }
-    ensures whole { IsWhole entry.now }
-{
-    put(to, 0, &spelled(&entry.header(), entry.name()));
-    entry.operation().put_body(to, 128);
-}
-
 /// Puts the prepare of an entry into zeros: as much of it as they are, which is all of the entry.
 #[tactic(auto, using(crate::proofs::Spelling::spelled_prepare))]
 pub fn put_prepare(entry: &Entry, to: &mut [u8])
@@ -74,7 +62,7 @@ pub fn put_prepare(entry: &Entry, to: &mut [u8])
     ensures size { length (entry_bytes entry.now) ≤ length to.old }
     ensures whole { IsWhole entry.now }
 {
-    put_entry(entry, to);
+    entry.put(to);
 }
 
 /// The header that a header sector's bytes are, `None` exactly where they aren't a valid header and zeros.

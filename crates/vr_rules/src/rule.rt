@@ -1,6 +1,4 @@
 //! Which rule applies to an event.
-ghost use Rattle.std.specs.Prelude.{◌≡◌};
-ghost use Rattle.vr_rules.specs.Deciding.{number_of};
 
 /// Which rule applies to an event. Each has a number, by which it stands in the tables of docs/RULES.md.
 #[derive(Clone, Copy, Debug, PartialEq, Eq)]
@@ -83,52 +81,4 @@ pub enum Rule {
     SyncGiven,
     /// 37, a sync_view: the checkpoint and the log are taken over.
     Jumped,
-}
-
-impl Rule {
-    /// The number of the rule, 0 for none.
-    pub fn number(self) -> u8
-        ensures { result ≡ number_of self }
-    {
-        match self {
-            Rule::Ignored => 0,
-            Rule::Redirected => 1,
-            Rule::Behind => 2,
-            Rule::InFlight => 3,
-            Rule::Answered => 4,
-            Rule::Full => 5,
-            Rule::Made => 6,
-            Rule::PreparedBefore => 7,
-            Rule::PreparedLater => 8,
-            Rule::Past => 9,
-            Rule::Beyond => 10,
-            Rule::Known => 11,
-            Rule::Next => 12,
-            Rule::Ahead => 13,
-            Rule::Other => 14,
-            Rule::Counted => 15,
-            Rule::CommitBefore => 16,
-            Rule::CommitLater => 17,
-            Rule::CommitHeard => 18,
-            Rule::ChangeBefore => 19,
-            Rule::ChangeLater => 20,
-            Rule::ChangeHeard => 21,
-            Rule::ChangeDone => 22,
-            Rule::StatedBefore => 23,
-            Rule::StatedLate => 24,
-            Rule::Stated => 25,
-            Rule::Taken => 26,
-            Rule::ViewGiven => 27,
-            Rule::EntryGiven => 28,
-            Rule::EntryTaken => 29,
-            Rule::BlockGiven => 30,
-            Rule::BlockTaken | Rule::BlockMended => 31,
-            Rule::TickedPrimary => 32,
-            Rule::TickedBackup => 33,
-            Rule::TickedChanging => 34,
-            Rule::SyncAsked => 35,
-            Rule::SyncGiven => 36,
-            Rule::Jumped => 37,
-        }
-    }
 }

@@ -1,6 +1,7 @@
 //! What a visit finds.
 
-/// What a visit of a slot finds, and does.
+/// What a visit of a slot finds, and does. It is for whoever visits single slots; `visit`, which goes
+/// round, has no use of it.
 #[derive(Clone, Copy, Debug, PartialEq, Eq)]
 pub enum Visit {
     /// No entry of the op is known to be stored.

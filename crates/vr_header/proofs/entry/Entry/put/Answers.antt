@@ -19,6 +19,7 @@ returns-clause-size c =
     let e = c.header.ensures.entry in
     let s = e.body.size in
     let m = e.header.size.1 in
+    let k = c.requires in
     let l = length-entry c.args.self.now (rw c.header.ensures.value at c.spelled.ensures.header) in
     omega arith
 
