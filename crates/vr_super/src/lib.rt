@@ -7,6 +7,7 @@ mod fields;
 mod laws;
 mod listing;
 mod opening;
+mod places;
 mod reading;
 mod recovering;
 mod sectors;

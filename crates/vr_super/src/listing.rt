@@ -7,7 +7,7 @@ ghost use Rattle.vr_super.specs.declared.fields.Fields.{Fields};
 
 use std::alloc::Global;
 use vr_base::{NoMemory, Seq};
-use vr_header::{HeaderList, decoded_header};
+use vr_header::{HEADER_SIZE, HeaderList, decoded_header};
 
 /// So many headers, one behind the other, of a copy that has them.
 pub fn read_list(alloc: Global, bytes: &[u8], count: usize) -> Result<HeaderList, NoMemory>
@@ -17,7 +17,7 @@ pub fn read_list(alloc: Global, bytes: &[u8], count: usize) -> Result<HeaderList
 {
     let mut headers = Seq::new(alloc);
     for i in 0..count {
-        let (_, rest) = bytes.split_at(128 * i);
+        let (_, rest) = bytes.split_at(HEADER_SIZE * i);
         headers.push(decoded_header(rest))?;
     }
     Ok(headers)

@@ -7,7 +7,7 @@ ghost use Rattle.vr_super.specs.Seen.{IsHonest, IsRead, seen};
 
 use crate::check::is_good;
 use crate::sectors::reads_as;
-use vr_disk::{COPY_SIZE, SectorDisk, read_sectors};
+use vr_disk::{COPY_SECTORS, COPY_SIZE, SectorDisk, read_sectors};
 
 /// A copy that was read.
 #[derive(Clone, Copy)]
@@ -29,7 +29,7 @@ fn fill<D: SectorDisk>(disk: &mut D, copy: u32, to: &mut [u8]) -> bool
     ensures reads { D.read_faults disk.old ≤ D.read_faults disk.new }
     ensures value { IfSome (D.told disk.old) (λ d. copy_reading d.face copy ≡ (if result then Some to.new else None)) }
 {
-    read_sectors(disk, 20 * copy, 20, to)
+    read_sectors(disk, COPY_SECTORS * copy, COPY_SECTORS, to)
 }
 
 // Whether these bytes are good, where one of these has them.

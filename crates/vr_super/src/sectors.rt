@@ -8,8 +8,8 @@ ghost use Rattle.vr_super.specs.Opens.{copy_reading};
 ghost use Rattle.vr_super.specs.Calls.{copy_calls, mend_copy, mend_unless};
 
 use vr_disk::{
-    COPY_SIZE, DiskFailed, SECTORS, SectorDisk, are_zeros, sector_at, sectors_read_as,
-    write_sectors, write_zeros,
+    COPIES, COPY_SECTORS, COPY_SIZE, DiskFailed, SECTOR_SIZE, SECTORS, SectorDisk, are_zeros,
+    sector_at, sectors_read_as, write_sectors, write_zeros,
 };
 
 // Writes these bytes to so many sectors: those that are filled, and zeros behind them.
@@ -77,47 +77,47 @@ pub fn write_copy<D: SectorDisk>(
     filled: u32,
     bytes: &[u8],
 ) -> Result<(), DiskFailed>
-    requires copy { copy < 4 }
+    requires copy { copy < COPIES }
     requires size { length bytes.now ≡ COPY_SIZE }
-    requires filled { filled ≤ 20 }
+    requires filled { filled ≤ COPY_SECTORS }
     requires zeros { drop (512 * filled) bytes.now ≡ replicate (512 * (20 - filled)) 0 }
     ensures runs { Runs (copy_calls copy bytes.now) (D.told disk.old) (D.told disk.new) (is_ok result) }
     ensures cause { HasCause (D.faults disk.old) (D.faults disk.new) result }
     ensures others { D.read_faults disk.new ≡ D.read_faults disk.old }
 {
-    write_synced(disk, 20 * copy, 20, filled, bytes)
+    write_synced(disk, COPY_SECTORS * copy, COPY_SECTORS, filled, bytes)
 }
 
 /// Whether a copy reads as these bytes.
 #[tactic(auto, unfolding(crate::specs::Opens::copy_reading))]
 pub fn reads_as<D: SectorDisk>(disk: &mut D, copy: u32, bytes: &[u8]) -> bool
-    requires copy { copy < 4 }
+    requires copy { copy < COPIES }
     requires size { length bytes.now ≡ COPY_SIZE }
     ensures told { D.told disk.new ≡ D.told disk.old }
     ensures value { IfSome (D.told disk.old) (λ d. result ≡ has bytes.now (copy_reading d.face copy)) }
     ensures faults { D.faults disk.new ≡ D.faults disk.old }
     ensures reads { D.read_faults disk.old ≤ D.read_faults disk.new }
 {
-    sectors_read_as(disk, 20 * copy, 20, bytes)
+    sectors_read_as(disk, COPY_SECTORS * copy, COPY_SECTORS, bytes)
 }
 
 // Whether a copy reads as these bytes, of which so many sectors stand in front of zeros.
 #[tactic(auto, unfolding(crate::specs::Opens::copy_reading))]
 fn reads_filled<D: SectorDisk>(disk: &mut D, copy: u32, filled: u32, bytes: &[u8]) -> bool
-    requires copy { copy < 4 }
+    requires copy { copy < COPIES }
     requires size { length bytes.now ≡ COPY_SIZE }
-    requires filled { filled ≤ 20 }
+    requires filled { filled ≤ COPY_SECTORS }
     requires zeros { drop (512 * filled) bytes.now ≡ replicate (512 * (20 - filled)) 0 }
     ensures told { D.told disk.new ≡ D.told disk.old }
     ensures value { IfSome (D.told disk.old) (λ d. result ≡ has bytes.now (copy_reading d.face copy)) }
     ensures faults { D.faults disk.new ≡ D.faults disk.old }
     ensures reads { D.read_faults disk.old ≤ D.read_faults disk.new }
 {
-    let (front, _) = bytes.split_at(512 * filled as usize);
-    if !sectors_read_as(disk, 20 * copy, filled, front) {
+    let (front, _) = bytes.split_at(SECTOR_SIZE * filled as usize);
+    if !sectors_read_as(disk, COPY_SECTORS * copy, filled, front) {
         return false;
     }
-    are_zeros(disk, 20 * copy + filled, 20 - filled)
+    are_zeros(disk, COPY_SECTORS * copy + filled, COPY_SECTORS - filled)
 }
 
 /// Writes and syncs a copy's first sector, then the others.
@@ -128,18 +128,24 @@ pub fn mend_copy<D: SectorDisk>(
     filled: u32,
     bytes: &[u8],
 ) -> Result<(), DiskFailed>
-    requires copy { copy < 4 }
+    requires copy { copy < COPIES }
     requires size { length bytes.now ≡ COPY_SIZE }
     requires least { 1 ≤ filled }
-    requires filled { filled ≤ 20 }
+    requires filled { filled ≤ COPY_SECTORS }
     requires zeros { drop (512 * filled) bytes.now ≡ replicate (512 * (20 - filled)) 0 }
     ensures runs { Runs (mend_copy copy bytes.now) (D.told disk.old) (D.told disk.new) (is_ok result) }
     ensures cause { HasCause (D.faults disk.old) (D.faults disk.new) result }
     ensures others { D.read_faults disk.new ≡ D.read_faults disk.old }
 {
-    let (_, rest) = bytes.split_at(512);
-    write_first(disk, 20 * copy, bytes)?;
-    write_synced(disk, 20 * copy + 1, 19, filled - 1, rest)?;
+    let (_, rest) = bytes.split_at(SECTOR_SIZE);
+    write_first(disk, COPY_SECTORS * copy, bytes)?;
+    write_synced(
+        disk,
+        COPY_SECTORS * copy + 1,
+        COPY_SECTORS - 1,
+        filled - 1,
+        rest,
+    )?;
     Ok(())
 }
 
@@ -150,10 +156,10 @@ pub fn mend_unless<D: SectorDisk>(
     filled: u32,
     bytes: &[u8],
 ) -> Result<(), DiskFailed>
-    requires copy { copy < 4 }
+    requires copy { copy < COPIES }
     requires size { length bytes.now ≡ COPY_SIZE }
     requires least { 1 ≤ filled }
-    requires filled { filled ≤ 20 }
+    requires filled { filled ≤ COPY_SECTORS }
     requires zeros { drop (512 * filled) bytes.now ≡ replicate (512 * (20 - filled)) 0 }
     ensures runs { RunsFrom (mend_unless copy bytes.now) (D.told disk.old) (D.told disk.new) (is_ok result) }
     ensures cause { HasCause (D.faults disk.old) (D.faults disk.new) result }

@@ -8,11 +8,12 @@ use crate::Fields;
 use crate::bytes::spell;
 use crate::check::{count_at, fields_at};
 use crate::listing::read_list;
+use crate::places::LIST_AT;
 use std::alloc::Global;
 use std::marker::Model;
 use vr_base::{NoMemory, sum_at};
 use vr_disk::COPY_SIZE;
-use vr_header::{Header, HeaderList, Names, spelled};
+use vr_header::{HEADER_SIZE, Header, HeaderList, Names, spelled};
 
 /// What a member keeps in its superblock: numbers, and the headers of the last ops up to the head. It makes a good copy.
 #[derive(Drop)]
@@ -45,12 +46,12 @@ fn few_at(bytes: &[u8]) -> usize
 
 // The 128 bytes from a place on.
 #[tactic(auto, unfolding(vr_base::specs::Bytes::piece))]
-fn header_bytes(bytes: &[u8], at: usize) -> [u8; 128]
+fn header_bytes(bytes: &[u8], at: usize) -> [u8; HEADER_SIZE]
     requires { at + 128 ≤ length bytes.now }
     ensures { result ≡ piece at 128 bytes.now }
 {
-    let mut copied = [0; 128];
-    copied.copy_from_slice(&bytes[at..at + 128]);
+    let mut copied = [0; HEADER_SIZE];
+    copied.copy_from_slice(&bytes[at..at + HEADER_SIZE]);
     copied
 }
 
@@ -103,7 +104,7 @@ impl Super {
         ensures { IfOk result (λ s. value_of bytes.now ≡ Some s) }
     {
         let count = few_at(bytes);
-        let (_, list) = bytes.split_at(128);
+        let (_, list) = bytes.split_at(LIST_AT);
         let headers = read_list(alloc, list, count)?;
         let copied = Vec::from_slice(alloc, bytes)?;
         Ok(Super {
@@ -129,7 +130,7 @@ impl Super {
     }
 
     // The 128 bytes of a header, copied where the list has it in the place of its op.
-    pub(crate) fn spelling(&self, header: &Header, names: &Names) -> [u8; 128]
+    pub(crate) fn spelling(&self, header: &Header, names: &Names) -> [u8; HEADER_SIZE]
         ensures { result ≡ header_bytes header.now }
     {
         let Some(first) = self.headers.get(0) else {
@@ -137,7 +138,7 @@ impl Super {
         };
         let at = header.op.saturating_sub(first.op) as usize;
         match self.headers.get(at) {
-            Some(same) if same == *header => header_bytes(&self.bytes, 128 + 128 * at),
+            Some(same) if same == *header => header_bytes(&self.bytes, LIST_AT + HEADER_SIZE * at),
             _ => spelled(header, names.name_of(header)),
         }
     }
@@ -145,7 +146,7 @@ impl Super {
     // Keeps a header of the list with its name, which stands in the bytes.
     fn tell_name(&self, at: usize, names: &mut Names) {
         match self.headers.get(at) {
-            Some(header) => names.keep(&header, sum_at(&self.bytes, 128 + 128 * at)),
+            Some(header) => names.keep(&header, sum_at(&self.bytes, LIST_AT + HEADER_SIZE * at)),
             None => {}
         }
     }

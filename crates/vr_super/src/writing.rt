@@ -7,10 +7,12 @@ ghost use Rattle.vr_super.specs.Copies.{IsGood, copy_bytes};
 ghost use Rattle.vr_super.specs.Laws.{WriteLeads, Written};
 ghost use Rattle.vr_super.specs.Opens.{opens};
 
+use crate::places::{LIST_AT, SEQUENCE_AT};
 use crate::sectors::{mend_unless, write_copy};
 use crate::{Super, SuperFault};
 use vr_base::{sum_at, u64_at};
-use vr_disk::{COPY_SIZE, DiskFailed, DiskFault, Room, SectorDisk};
+use vr_disk::{COPIES, COPY_SIZE, DiskFailed, DiskFault, Room, SectorDisk};
+use vr_header::{HEADER_SIZE, NAMED_AT};
 
 // Mends each copy that doesn't read as these bytes, of which so many sectors stand in front of zeros.
 fn mend<D: SectorDisk>(disk: &mut D, filled: u32, bytes: &[u8]) -> Result<(), DiskFailed>
@@ -22,7 +24,7 @@ fn mend<D: SectorDisk>(disk: &mut D, filled: u32, bytes: &[u8]) -> Result<(), Di
     ensures cause { HasCause (D.faults disk.old) (D.faults disk.new) result }
     ensures reads { D.read_faults disk.old ≤ D.read_faults disk.new }
 {
-    for copy in 0..4 {
+    for copy in 0..COPIES {
         mend_unless(disk, copy, filled, bytes)?;
     }
     Ok(())
@@ -38,7 +40,7 @@ fn save<D: SectorDisk>(disk: &mut D, filled: u32, bytes: &[u8]) -> Result<(), Di
     ensures cause { HasCause (D.faults disk.old) (D.faults disk.new) result }
     ensures others { D.read_faults disk.new ≡ D.read_faults disk.old }
 {
-    for copy in 0..4 {
+    for copy in 0..COPIES {
         write_copy(disk, copy, filled, bytes)?;
     }
     Ok(())
@@ -61,8 +63,12 @@ fn keep_value<D: SectorDisk>(disk: &mut D, value: &Super)
     ensures reads { D.read_faults disk.new ≡ D.read_faults disk.old }
 {
     let bytes = value.bytes();
-    let (_, rest) = bytes.split_at(16);
-    disk.keep_name(Room::Value(u64_at(bytes, 16)), rest, sum_at(bytes, 0));
+    let (_, rest) = bytes.split_at(NAMED_AT);
+    disk.keep_name(
+        Room::Value(u64_at(bytes, SEQUENCE_AT)),
+        rest,
+        sum_at(bytes, 0),
+    );
 }
 
 // The disk keeps the bytes of a header of its list with their name.
@@ -74,10 +80,10 @@ fn keep_header<D: SectorDisk>(disk: &mut D, value: &Super, at: usize)
     ensures reads { D.read_faults disk.new ≡ D.read_faults disk.old }
 {
     let bytes = value.bytes();
-    let start = 128 + 128 * at;
+    let start = LIST_AT + HEADER_SIZE * at;
     disk.keep_name(
         Room::Header,
-        &bytes[start + 16..start + 128],
+        &bytes[start + NAMED_AT..start + HEADER_SIZE],
         sum_at(bytes, start),
     );
 }

@@ -1,0 +1,39 @@
+//! Where the parts of a copy stand, and how many bytes some of them have.
+
+pub const SEQUENCE_AT: usize = 16;
+
+pub const CLUSTER_AT: usize = 24;
+
+pub const VIEW_AT: usize = 32;
+
+pub const LOG_VIEW_AT: usize = 36;
+
+pub const CHECKPOINT_AT: usize = 40;
+
+pub const ROOT_ADDRESS_AT: usize = 48;
+
+pub const ROOT_NAME_AT: usize = 56;
+
+pub const COMMIT_AT: usize = 72;
+
+pub const HEAD_AT: usize = 80;
+
+/// The number of headers.
+pub const COUNT_AT: usize = 88;
+
+/// The number of the member, of members, the version and the mode have a byte each.
+pub const REPLICA_AT: usize = 90;
+
+pub const MEMBERS_AT: usize = 91;
+
+pub const VERSION_AT: usize = 92;
+
+pub const MODE_AT: usize = 93;
+
+/// The zeros between the numbers and the headers.
+pub const RESERVED_AT: usize = 94;
+
+pub const RESERVED: usize = 34;
+
+/// The headers, and zeros behind them.
+pub const LIST_AT: usize = 128;
