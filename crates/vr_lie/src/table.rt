@@ -14,10 +14,10 @@ ghost use Rattle.vr_mem.specs.Cells.{disk_of};
 use crate::reading::{begins_alike, ends_first, has_header, is_prepare, read_first};
 use vr_base::{Version, is_zeros, u32_at};
 use vr_disk::{
-    SECTOR_SIZE, SECTORS, Sector, header_place, prepare_place, prepare_sectors, sector_at,
+    SECTOR_SIZE, SECTORS, SLOTS, Sector, header_place, prepare_place, prepare_sectors, sector_at,
 };
 use vr_mem::CellDisk;
-use vr_rings::{header_sector, read_bytes, read_front, whole_front};
+use vr_rings::{PREPARE_SIZE, SIZE_AT, header_sector, read_bytes, read_front, whole_front};
 
 /// What a slot holds: an entry, by its prepare, or nothing.
 #[derive(Clone, Copy)]
@@ -26,7 +26,7 @@ pub struct Held {
     /// The entry ends in the first sector: in the slot zeros stand behind it, and what stands behind it here means nothing.
     pub short: bool,
     /// Its header, its body and zeros. What stands here where nothing is held stays: to clear it would only take time.
-    pub prepare: [u8; 4096],
+    pub prepare: [u8; PREPARE_SIZE],
 }
 
 impl Held {
@@ -36,12 +36,12 @@ impl Held {
         Held {
             some: false,
             short: false,
-            prepare: [0; 4096],
+            prepare: [0; PREPARE_SIZE],
         }
     }
 
     /// The prepare of the entry that it holds.
-    pub fn whole(&self) -> [u8; 4096]
+    pub fn whole(&self) -> [u8; PREPARE_SIZE]
         ensures { result ≡ prepare_of self.now }
     {
         let mut whole = self.prepare;
@@ -64,7 +64,7 @@ impl Held {
 
     // Whether these are the bytes of this prepare.
     #[tactic(auto, using(std::proofs::lemmas::Grind::common_steps, crate::proofs::Ending::front_parts))]
-    fn is_whole(&self, bytes: &[u8; 4096]) -> bool
+    fn is_whole(&self, bytes: &[u8; PREPARE_SIZE]) -> bool
         ensures { result ≡ pointwise nat_eq (prepare_of self.now) bytes.now }
     {
         if !self.short {
@@ -104,7 +104,7 @@ fn slot_in(i: u32, first: u32, count: u32) -> Option<u32>
 {
     if i < first {
         None
-    } else if i < first + 64 * count {
+    } else if i < first + SLOTS * count {
         Some((i - first) / count)
     } else {
         None
@@ -124,14 +124,14 @@ pub fn slot_of(i: u32, version: Version) -> Option<u32>
 }
 
 // Whether a slot holds the entry with this prepare.
-fn is_held(held: &Held, bytes: &[u8; 4096]) -> bool
+fn is_held(held: &Held, bytes: &[u8; PREPARE_SIZE]) -> bool
     ensures { result ≡ has bytes.now (held_of held.now) }
 {
     held.some && held.is_whole(bytes)
 }
 
 // A slot holds the entry that it reads as, where these are an entry's bytes. Those of the one that it holds aren't hashed.
-fn find(disk: &mut CellDisk, bytes: &[u8; 4096], held: &mut Held)
+fn find(disk: &mut CellDisk, bytes: &[u8; PREPARE_SIZE], held: &mut Held)
     ensures told { disk_of disk.new ≡ disk_of disk.old }
     ensures faults { disk.new.faults ≡ disk.old.faults }
     ensures value { held_of held.new ≡ found (if is_prepare bytes.now then Some bytes.now else None) (held_of held.old) }
@@ -154,7 +154,7 @@ fn look_held(disk: &mut CellDisk, slot: u32, held: &mut Held, version: Version)
     ensures faults { disk.new.faults ≡ disk.old.faults }
     ensures value { held_of held.new ≡ looked version (disk_of disk.old).face slot (held_of held.old) }
 {
-    let mut bytes = [0; 4096];
+    let mut bytes = [0; PREPARE_SIZE];
     if read_bytes(disk, slot, &mut bytes, version) {
         find(disk, &bytes, held);
     }
@@ -208,7 +208,7 @@ fn look_free(disk: &mut CellDisk, slot: u32, held: &mut Held, version: Version)
     if !read_first(disk, slot, first, version) {
         return;
     }
-    if u32_at(first, 104) <= 512 {
+    if u32_at(first, SIZE_AT) as usize <= SECTOR_SIZE {
         held.some = is_short(disk, slot, first, version);
         held.short = true;
     } else {
@@ -262,7 +262,7 @@ pub fn look_all(disk: &mut CellDisk, held: &mut [Held], version: Version)
     ensures held { HeldLooked version (disk_of disk.old).face (table_of held.old) (table_of held.new) }
     ensures table { IsTable version (disk_of disk.new).face (table_of held.new) }
 {
-    for slot in 0..64 {
+    for slot in 0..SLOTS {
         look(disk, held, slot, version);
     }
 }

@@ -8,9 +8,13 @@ ghost use Rattle.vr_header.specs.Spelling.{IsHeader, decoded};
 ghost use Rattle.vr_rings.specs.Held.{header_sector};
 ghost use Rattle.vr_rings.specs.Slots.{IsWhole, header_of, in_front, prepare_bytes, sector_of, size_at, whole_of};
 
+use crate::sizes::PREPARE_SIZE;
+use crate::slot::slot_of;
 use vr_base::{is_zeros, put, u32_at};
-use vr_disk::{Room, Sector, SectorDisk};
-use vr_header::{Entry, Header, decode_by, encode, nameless, spelled};
+use vr_disk::{Room, Sector, SectorDisk, ZEROS};
+use vr_header::{
+    Entry, HEADER_SIZE, Header, NAMED_AT, SIZE_AT, decode_by, encode, nameless, spelled,
+};
 
 /// The header sector of an entry of this header. The disk may have its name.
 #[tactic(auto, using(crate::proofs::Spelling::spelled_sector))]
@@ -22,9 +26,9 @@ pub fn sector_by<D: SectorDisk>(disk: &mut D, header: &Header) -> Sector
     ensures reads { D.read_faults disk.new ≡ D.read_faults disk.old }
 {
     let bytes = nameless(header);
-    let (_, named) = bytes.split_at(16);
+    let (_, named) = bytes.split_at(NAMED_AT);
     let name = disk.name_of(Room::Header, named);
-    let mut sector = Sector { bytes: [0; 512] };
+    let mut sector = ZEROS;
     put(&mut sector.bytes, 0, &spelled(header, name));
     sector
 }
@@ -35,7 +39,7 @@ pub fn sector_of(header: &Header) -> Sector
     ensures bytes { result.bytes ≡ sector_of header.now }
     ensures header { IsHeader header.now }
 {
-    let mut sector = Sector { bytes: [0; 512] };
+    let mut sector = ZEROS;
     put(&mut sector.bytes, 0, &encode(header));
     sector
 }
@@ -46,8 +50,8 @@ pub fn header_sector(prepare: &[u8]) -> Sector
     requires { 128 ≤ length prepare.now }
     ensures { result.bytes ≡ header_sector prepare.now }
 {
-    let (header, _) = prepare.split_at(128);
-    let mut sector = Sector { bytes: [0; 512] };
+    let (header, _) = prepare.split_at(HEADER_SIZE);
+    let mut sector = ZEROS;
     put(&mut sector.bytes, 0, header);
     sector
 }
@@ -73,7 +77,7 @@ pub fn header_of<D: SectorDisk>(disk: &mut D, sector: &Sector) -> Option<Header>
     ensures faults { D.faults disk.new ≡ D.faults disk.old }
     ensures reads { D.read_faults disk.new ≡ D.read_faults disk.old }
 {
-    let (_, padding) = sector.bytes.split_at(128);
+    let (_, padding) = sector.bytes.split_at(HEADER_SIZE);
     if is_zeros(padding) {
         header_in(disk, &sector.bytes)
     } else {
@@ -90,8 +94,8 @@ fn header_in<D: SectorDisk>(disk: &mut D, bytes: &[u8]) -> Option<Header>
     ensures faults { D.faults disk.new ≡ D.faults disk.old }
     ensures reads { D.read_faults disk.new ≡ D.read_faults disk.old }
 {
-    let (front, _) = bytes.split_at(128);
-    let (_, named) = front.split_at(16);
+    let (front, _) = bytes.split_at(HEADER_SIZE);
+    let (_, named) = front.split_at(NAMED_AT);
     let name = disk.name_of(Room::Header, named);
     decode_by(bytes, name).ok()
 }
@@ -104,15 +108,15 @@ fn entry_in<D: SectorDisk>(disk: &mut D, bytes: &[u8]) -> Option<Header>
     ensures faults { D.faults disk.new ≡ D.faults disk.old }
     ensures reads { D.read_faults disk.new ≡ D.read_faults disk.old }
 {
-    if bytes.len() < 128 {
+    if bytes.len() < HEADER_SIZE {
         return None;
     }
     let header = header_in(disk, bytes)?;
     if header.size.get() as usize != bytes.len() {
         return None;
     }
-    let (_, body) = bytes.split_at(128);
-    let name = disk.name_of(Room::Body((header.op % 64) as u32), body);
+    let (_, body) = bytes.split_at(HEADER_SIZE);
+    let name = disk.name_of(Room::Body(slot_of(&header)), body);
     Entry::header_by(bytes, header, name)
 }
 
@@ -120,7 +124,7 @@ fn entry_in<D: SectorDisk>(disk: &mut D, bytes: &[u8]) -> Option<Header>
 // anything but zeros stands behind them.
 fn whole_by<D: SectorDisk>(disk: &mut D, bytes: &[u8], size: usize) -> Option<Header>
     requires size { size ≤ length bytes.now }
-    requires given { size ≡ min (size_at bytes.now) 4096 }
+    requires given { size ≡ min (size_at bytes.now) PREPARE_SIZE }
     requires least { 128 ≤ length bytes.now }
     requires most { length bytes.now ≤ 4096 }
     ensures value { result ≡ option_map (λ e. e.header) (whole_of (in_front bytes.now)) }
@@ -138,7 +142,7 @@ fn whole_by<D: SectorDisk>(disk: &mut D, bytes: &[u8], size: usize) -> Option<He
 
 // The header of the entry that these bytes are whose header tells that it goes on behind them, where zeros stand.
 fn whole_beyond<D: SectorDisk>(disk: &mut D, bytes: &[u8], size: usize) -> Option<Header>
-    requires given { size ≡ min (size_at bytes.now) 4096 }
+    requires given { size ≡ min (size_at bytes.now) PREPARE_SIZE }
     requires least { 128 ≤ length bytes.now }
     requires most { length bytes.now ≤ 4096 }
     ensures value { result ≡ option_map (λ e. e.header) (whole_of (in_front bytes.now)) }
@@ -146,7 +150,7 @@ fn whole_beyond<D: SectorDisk>(disk: &mut D, bytes: &[u8], size: usize) -> Optio
     ensures faults { D.faults disk.new ≡ D.faults disk.old }
     ensures reads { D.read_faults disk.new ≡ D.read_faults disk.old }
 {
-    let mut room = [0; 4096];
+    let mut room = [0; PREPARE_SIZE];
     put(&mut room, 0, bytes);
     whole_by(disk, &room, size)
 }
@@ -162,7 +166,7 @@ pub fn whole_front<D: SectorDisk>(disk: &mut D, bytes: &[u8]) -> Option<Header>
     ensures faults { D.faults disk.new ≡ D.faults disk.old }
     ensures reads { D.read_faults disk.new ≡ D.read_faults disk.old }
 {
-    let size = u32_at(bytes, 104).min(4096) as usize;
+    let size = (u32_at(bytes, SIZE_AT) as usize).min(PREPARE_SIZE);
     if size <= bytes.len() {
         whole_by(disk, bytes, size)
     } else {

@@ -6,18 +6,19 @@ ghost use Rattle.vr_rings.specs.Readings.{BeginsWith};
 ghost use Rattle.vr_rings.specs.Slots.{IsWhole, entry_for, whole_of};
 
 use crate::reading::read_prepare;
+use crate::sizes::PREPARE_SIZE;
 use crate::slot::slot_of;
 use std::alloc::Global;
 use vr_base::{NoMemory, Version, u32_at};
 use vr_disk::{Buffer, SectorDisk};
-use vr_header::{Entry, Header};
+use vr_header::{Entry, Header, SIZE_AT};
 
 // The size that a prepare gives, at most its own.
 fn size_in(prepare: &[u8]) -> usize
-    requires { length prepare.now ≡ 4096 }
+    requires { length prepare.now ≡ PREPARE_SIZE }
     ensures { result ≡ min (number w32 104 prepare.now) 4096 }
 {
-    (u32_at(prepare, 104) as usize).min(4096)
+    (u32_at(prepare, SIZE_AT) as usize).min(PREPARE_SIZE)
 }
 
 // The bytes of the entry with which a buffer begins.
@@ -25,7 +26,7 @@ fn front_of(buffer: &Buffer) -> &[u8]
     ensures front { result.now ≡ take (min (number w32 104 (take 4096 buffer.now)) 4096) (take 4096 buffer.now) }
     ensures size { length buffer.now ≡ 4096 }
 {
-    let (prepare, _) = buffer.as_slice().split_at(4096);
+    let (prepare, _) = buffer.as_slice().split_at(PREPARE_SIZE);
     let (entry, _) = prepare.split_at(size_in(prepare));
     entry
 }

@@ -9,6 +9,7 @@ ghost use Rattle.vr_rings.specs.Slots.{prepare_reading};
 
 use crate::bytes::whole_of;
 use crate::reading::read_bytes;
+use crate::sizes::PREPARE_SIZE;
 use vr_base::{Version, is_zeros};
 use vr_disk::{
     DiskFailed, DiskFault, SLOTS, SectorDisk, prepare_place, prepare_sectors, write_sectors,
@@ -60,7 +61,7 @@ fn move_slot<D: SectorDisk>(disk: &mut D, slot: u32) -> Result<(), DiskFailed>
     ensures runs { RunsFrom (λ f. slot_moves f slot) (D.told disk.old) (D.told disk.new) (is_ok result) }
     ensures cause { HasCause (D.faults disk.old) (D.faults disk.new) result }
 {
-    let mut prepare = [0; 4096];
+    let mut prepare = [0; PREPARE_SIZE];
     relocate(disk, slot, &mut prepare);
     let version = Version::new(2);
     let at = prepare_place(slot, version);

@@ -9,13 +9,14 @@ ghost use Rattle.vr_rings.specs.Calls.{again_calls, header_calls, new_calls, pre
 ghost use Rattle.vr_rings.specs.Laws.{AgainLeaves, HeaderLeaves, NewLeaves};
 
 use crate::bytes::{header_sector, put_prepare, sector_by};
+use crate::sizes::{OLD_PREPARE_SIZE, PREPARE_SIZE};
 use crate::slot::slot_of;
 use vr_base::Version;
 use vr_disk::{
-    DiskFailed, DiskFault, Room, SECTORS, Sector, SectorDisk, header_place, prepare_place,
-    prepare_sectors, write_sectors, write_zeros,
+    DiskFailed, DiskFault, Room, SECTOR_SIZE, SECTORS, Sector, SectorDisk, header_place,
+    prepare_place, prepare_sectors, write_sectors, write_zeros,
 };
-use vr_header::{Entry, Header};
+use vr_header::{Entry, HEADER_SIZE, Header, NAMED_AT};
 
 // Writes these bytes, so many sectors of them, and zeros behind them to so many sectors from one on.
 fn write_front<D: SectorDisk>(
@@ -83,8 +84,8 @@ fn note<D: SectorDisk>(disk: &mut D, entry: &Entry, bytes: &[u8])
 {
     let header = entry.header();
     let (whole, _) = bytes.split_at(header.size.get() as usize);
-    let (front, body) = whole.split_at(128);
-    let (_, named) = front.split_at(16);
+    let (front, body) = whole.split_at(HEADER_SIZE);
+    let (_, named) = front.split_at(NAMED_AT);
     disk.keep_name(Room::Header, named, entry.name());
     disk.keep_name(Room::Body(slot_of(&header)), body, header.body);
 }
@@ -129,12 +130,12 @@ pub fn write_new<D: SectorDisk>(
     // prepare synced already; and the premise on slots is kept.
     ensures stop { IfSome (D.told disk.old) (λ d. d.face.waiting ≡ [] → NewLeaves version entry.now d.face) }
 {
-    if entry.header().size.get() <= 512 {
-        new_over(disk, entry, version, 1, &mut [0; 512])
+    if entry.header().size.get() as usize <= SECTOR_SIZE {
+        new_over(disk, entry, version, 1, &mut [0; SECTOR_SIZE])
     } else if version.get() == 2 {
-        new_over(disk, entry, version, 8, &mut [0; 4096])
+        new_over(disk, entry, version, 8, &mut [0; PREPARE_SIZE])
     } else {
-        new_over(disk, entry, version, 4, &mut [0; 2048])
+        new_over(disk, entry, version, 4, &mut [0; OLD_PREPARE_SIZE])
     }
 }
 
@@ -178,12 +179,12 @@ pub fn write_again<D: SectorDisk>(
     // sector synced already; and the premise on slots is kept.
     ensures stop { IfSome (D.told disk.old) (λ d. d.face.waiting ≡ [] → AgainLeaves version entry.now d.face) }
 {
-    if entry.header().size.get() <= 512 {
-        again_over(disk, entry, version, 1, &mut [0; 512])
+    if entry.header().size.get() as usize <= SECTOR_SIZE {
+        again_over(disk, entry, version, 1, &mut [0; SECTOR_SIZE])
     } else if version.get() == 2 {
-        again_over(disk, entry, version, 8, &mut [0; 4096])
+        again_over(disk, entry, version, 8, &mut [0; PREPARE_SIZE])
     } else {
-        again_over(disk, entry, version, 4, &mut [0; 2048])
+        again_over(disk, entry, version, 4, &mut [0; OLD_PREPARE_SIZE])
     }
 }
 

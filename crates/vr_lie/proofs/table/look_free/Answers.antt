@@ -11,6 +11,6 @@ returns-then-not-read_first-clause-value c = still_free c.args.held.now.some _ _
 pub look_long-requires-clause-free : goal.look_long-requires-clause-free
 look_long-requires-clause-free c = still_free c.args.held.now.some _ _ c.requires.free
 
-pub returns-then-u32_at-le512-clause-value : goal.returns-then-u32_at-le512-clause-value
-returns-then-u32_at-le512-clause-value c =
+pub returns-then-u32_at-le-SECTOR_SIZE-clause-value : goal.returns-then-u32_at-le-SECTOR_SIZE-clause-value
+returns-then-u32_at-le-SECTOR_SIZE-clause-value c =
     ap (λ (p : List ℕ). cond c.is_short-held.result (Some (in_front p)) None) (take_at c.read_first.new.to c.split_at_mut-first.result.1.now 512 c.read_first.ensures.size) ∙ c.is_short-held.ensures.value

@@ -4,8 +4,8 @@ use Rattle.vr_lie.proofs.Copies.{one_hit}
 use Rattle.vr_lie.proofs.Trials.{far}
 use Rattle.vr_lie.proofs.trial.keeps_opening.Goals as goal
 
-pub returns-then-b-ge80-clause-value : goal.returns-then-b-ge80-clause-value
-returns-then-b-ge80-clause-value c = (λ t. far (disk_of c.args.disk.now).face c.args.a.now c.args.b.now c.if-a-ge80.true c.if-b-ge80.true, λ e. refl)
+pub returns-then-b-ge-COPIES_END-clause-value : goal.returns-then-b-ge-COPIES_END-clause-value
+returns-then-b-ge-COPIES_END-clause-value c = (λ t. far (disk_of c.args.disk.now).face c.args.a.now c.args.b.now c.if-a-ge-COPIES_END.true c.if-b-ge-COPIES_END.true, λ e. refl)
 
 -- the other copies have the value before and after
 pub returns-then-are_alike-clause-value : goal.returns-then-are_alike-clause-value
