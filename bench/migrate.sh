@@ -1,6 +1,6 @@
 #!/usr/bin/env bash
 # How long a migration of a member's file takes, by the built program (as command/program finds it), beside a small C program that makes
-# its 597 calls on a copy of the same file (bench/node/moves.c), in turn, nine times each, on the disk of FOLDER; the median of each: from the
+# its 17 calls on a copy of the same file (bench/node/moves.c), in turn, nine times each, on the disk of FOLDER; the median of each: from the
 # first write to the end of the last sync (bench/node/span.c), and whole, from the start of the program to its end. The program reads the
 # file's sectors from the disk itself before it begins, and judges each prepare before it writes it; the C program reads nothing.
 #   bench/migrate.sh [FOLDER]     a new one in /tmp without it
@@ -40,7 +40,7 @@ for round in $(seq 9); do
     cp "$folder/0" "$folder/copy" && sync "$folder/copy"
     timed calls "$folder/moves" "$folder/copy"
 done
-awk '$2 != 597 { exit 1 }' "$folder/program.span" "$folder/calls.span" || { echo 'not 597 calls' >&2; exit 2; }
+awk '$2 != 17 { exit 1 }' "$folder/program.span" "$folder/calls.span" || { echo 'not 17 calls' >&2; exit 2; }
 median() { sort -n "$1" | awk '{ t[NR] = $1 } END { print t[int((NR + 1) / 2)] }'; }
 tell() {
     awk -v what="$1" -v program="$(median "$folder/program.$2")" -v calls="$(median "$folder/calls.$2")" 'BEGIN {

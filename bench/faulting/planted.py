@@ -11,8 +11,8 @@ from hunting.order import judge
 from .calls import GOES_ON, Alone, Rule, Store, ends
 from .shim import Fault, Shim
 
-CUTS, WRITES = range(20, 36, 4), range(260, 340, 20)  # of a run's 37 syncs, and 363 writes: those of its puts
-ENTRY = 30  # writes: those of some entries
+CUTS = WRITES = range(20, 36, 4)  # of a run's 37 syncs, and as many writes: those of its puts
+ENTRY = 6  # writes: those of some entries
 
 
 class Found(NamedTuple):

@@ -1,7 +1,7 @@
 // The floor of a group of three on this machine: programs that make the calls that the rules ask for, with no protocol between them.
-//   floor member R FILE PORT      member R (0 to 2) at PORT + R: an entry is written as a slot is (four sectors, a sync, a sector, a sync),
+//   floor member R FILE PORT      member R (0 to 2) at PORT + R: an entry is written as a slot is (four sectors at once, a sync, a sector, a sync),
 //                                 at member 0 before it is sent to the others, at these before they acknowledge it; member 0 answers with the
-//                                 first acknowledgement. Each reads the entry back, as one does that applies it, and ends when its input does.
+//                                 first acknowledgement. Each ends when its input does.
 //   floor ask PORT COUNT          one asker with one request under way: prints the microseconds of each
 //   floor sync FILE COUNT         overwrites 512 bytes and syncs; floor trip PORT COUNT and floor echo PORT: a round trip of 256 bytes
 #include <arpa/inet.h>
@@ -52,17 +52,12 @@ static int file_of(const char *name) {
 }
 
 static void write_entry(int f, uint32_t op, const char *entry) {
-    char sector[SECTOR] = { 0 };
-    memcpy(sector, entry, ENTRY);
-    for (int k = 0; k < 4; k++) need(pwrite(f, sector, SECTOR, (off_t)(144 + 4 * (op % 64) + k) * SECTOR) == SECTOR, "write");
+    char sectors[4 * SECTOR] = { 0 };
+    memcpy(sectors, entry, ENTRY);
+    need(pwrite(f, sectors, sizeof sectors, (off_t)(144 + 4 * (op % 64)) * SECTOR) == sizeof sectors, "write");
     need(fdatasync(f) == 0, "sync");
-    need(pwrite(f, sector, SECTOR, (off_t)(80 + op % 64) * SECTOR) == SECTOR, "write");
+    need(pwrite(f, sectors, SECTOR, (off_t)(80 + op % 64) * SECTOR) == SECTOR, "write");
     need(fdatasync(f) == 0, "sync");
-}
-
-static void read_entry(int f, uint32_t op) {
-    char sector[SECTOR];
-    for (int k = 0; k < 4; k++) need(pread(f, sector, SECTOR, (off_t)(144 + 4 * (op % 64) + k) * SECTOR) == SECTOR, "read");
 }
 
 // A datagram: what it is ('r' a request, 'p' a prepare, 'a' an acknowledgement, 'o' an answer), its op, and the rest of an entry.
@@ -96,10 +91,8 @@ static int member(int r, const char *file, int port) {
             write_entry(f, l.op, (char *)&l);
             l.kind = 'a';
             sendto(s, &l, 256, 0, (struct sockaddr *)&from, sizeof from);
-            read_entry(f, l.op);
         } else if (l.kind == 'a' && open_ops[l.op % MOST]) {
             open_ops[l.op % MOST] = 0;
-            read_entry(f, l.op);
             l.kind = 'o';
             sendto(s, &l, 256, 0, (struct sockaddr *)&askers[l.op % MOST], sizeof from);
         }

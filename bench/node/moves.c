@@ -1,5 +1,5 @@
 // The calls of a migration on a data file, with no thought behind them: prints the microseconds that they took.
-//   moves FILE      512 sectors from 1,424 on and a sync; then four times the 20 sectors of a copy of the superblock and a sync
+//   moves FILE      512 sectors from 1,424 on, 64 at once, and a sync; then four times the 20 sectors of a copy of the superblock and a sync
 #include <fcntl.h>
 #include <stdio.h>
 #include <stdlib.h>
@@ -7,7 +7,7 @@
 #include <time.h>
 #include <unistd.h>
 
-enum { SECTOR = 512, FIRST = 1424, MOVED = 512, COPIES = 4, COPY = 20 };
+enum { SECTOR = 512, MOST = 64, FIRST = 1424, MOVED = 512, COPIES = 4, COPY = 20 };
 
 static void need(int ok, const char *what) {
     if (!ok) { perror(what); exit(1); }
@@ -20,10 +20,11 @@ static double now(void) {
 }
 
 static void write_sectors(int file, int first, int count) {
-    char sector[SECTOR];
-    for (int i = first; i < first + count; i++) {
-        memset(sector, i, sizeof sector);
-        need(pwrite(file, sector, sizeof sector, (off_t)i * SECTOR) == SECTOR, "pwrite");
+    char run[MOST * SECTOR];
+    for (int i = first; i < first + count; i += MOST) {
+        int size = (first + count - i < MOST ? first + count - i : MOST) * SECTOR;
+        memset(run, i, size);
+        need(pwrite(file, run, size, (off_t)i * SECTOR) == size, "pwrite");
     }
 }
 

@@ -2,6 +2,7 @@
 ghost use Rattle.std.specs.Prelude.{◌≡◌, ◌<◌, None};
 
 use crate::counting::counted;
+use crate::kept::{Kept, place};
 use crate::real_clock::millis_of;
 use std::alloc::{AllocError, Global};
 use std::fs::{File, Files, OpenOptions};
@@ -18,7 +19,7 @@ use vr_policy::Again;
 /// The bytes of the file.
 const FILE_SIZE: u64 = SECTORS as u64 * SECTOR_SIZE as u64;
 
-/// For how many milliseconds reads may come from the system's copies of the file, until it is to read them anew.
+/// For how many milliseconds reads may come from copies of the file in memory, until it is to be read anew.
 const KEPT_MILLIS: u64 = 60_000;
 
 /// How many bytes the system is asked at once to read: what it usually reads ahead, so that it doesn't cut them short.
@@ -27,10 +28,14 @@ const PIECE: i64 = 131_072;
 /// As many pieces as the file has, the last one not whole.
 const PIECES: i64 = (FILE_SIZE as i64 + PIECE - 1) / PIECE;
 
-/// A disk of sectors in a file of the system: sector i stands at byte 512 i. It tells nothing. Each call is a call of the
-/// system, and fails where that does or where no file is attached; a read is made again a few times first. The file is locked as long as it is attached. What is
-/// written goes through the system's page cache; at each attach, and once a minute, the system is told to forget what it
-/// keeps of the file and to read it anew, so that reads tell what the disk has.
+/// A disk of sectors in a file of the system: sector i stands at byte 512 i. It tells nothing. A call fails where a call of the
+/// system does that is made for it, or where no file is attached; a read is made again a few times first. The file is locked as long as it is attached.
+///
+/// From `remember` on a read of a sector that is known makes no call. Neighbors that are written one after the other go to the
+/// system together: before the next write that is none of them, a sync or an attach. Where that fails, it is this call that tells so.
+///
+/// What is written goes through the system's page cache; at each attach, and once a minute, no sector is known any more, and the
+/// system is told to forget what it keeps of the file and to read it anew, so that reads tell what the disk has.
 #[derive(Drop)]
 pub struct FileDisk<R> {
     system: R,
@@ -41,6 +46,8 @@ pub struct FileDisk<R> {
     read_faults: u64,
     /// Texts with their names, from `remember` on.
     memo: Option<Memo>,
+    /// Sectors, from `remember` on.
+    kept: Option<Kept>,
 }
 
 /// Writes zeros to each sector that lies wholly behind this length, so that no later write has to find room for it.
@@ -112,15 +119,10 @@ fn open<R: Files<File = File>>(files: &R, name: &str) -> io::Result<File> {
     Ok(file)
 }
 
-/// The place of a sector in the file.
-fn place(i: u32) -> u64 {
-    u64::from(i) * SECTOR_SIZE as u64
-}
-
 impl<R> FileDisk<R> {
     /// A disk without its file, which `attach` opens through the system that is handed in.
     pub fn new(system: R) -> FileDisk<R>
-        ensures { result ≡ record { system = system; file = None; forgotten = 0; faults = 0; read_faults = 0; memo = None } }
+        ensures { result ≡ record { system = system; file = None; forgotten = 0; faults = 0; read_faults = 0; memo = None; kept = None } }
     {
         FileDisk {
             system,
@@ -129,15 +131,20 @@ impl<R> FileDisk<R> {
             faults: 0,
             read_faults: 0,
             memo: None,
+            kept: None,
         }
     }
 
-    /// From now on it keeps texts with their names. After an `Err` it goes on to make a digest for each name.
+    /// From now on it keeps texts with their names, and sectors. After an `Err` it goes on without what there was no memory for.
     pub fn remember(&mut self, alloc: Global) -> Result<(), AllocError>
         ensures faults { self.new.faults ≡ self.old.faults }
         ensures reads { self.new.read_faults ≡ self.old.read_faults }
     {
         self.memo = Some(Memo::new(alloc)?);
+        // What is there already may have sectors that are yet to be written.
+        if self.kept.is_none() {
+            self.kept = Some(Kept::new(alloc)?);
+        }
         Ok(())
     }
 
@@ -148,19 +155,72 @@ impl<R> FileDisk<R> {
             .ok_or(io::Error::from(ErrorKind::NotFound))
     }
 
+    /// Gives a sector where it is known, and says whether it is.
+    fn recalls(&self, i: u32, to: &mut Sector) -> bool {
+        match &self.kept {
+            Some(kept) => kept.recall(i, to),
+            None => false,
+        }
+    }
+
+    /// Takes note of a sector that was read.
+    fn note(&mut self, i: u32, sector: &Sector)
+        ensures faults { self.new.faults ≡ self.old.faults }
+        ensures reads { self.new.read_faults ≡ self.old.read_faults }
+    {
+        if let Some(kept) = &mut self.kept {
+            kept.note(i, sector);
+        }
+    }
+
     /// Reads a sector from its place.
     fn read_at(&self, i: u32, to: &mut Sector) -> io::Result<()> {
         self.opened()?.read_exact_at(&mut to.bytes, place(i))
     }
 
-    /// Writes a sector to its place.
-    fn write_at(&self, i: u32, from: &Sector) -> io::Result<()> {
-        self.opened()?.write_all_at(&from.bytes, place(i))
+    /// Writes a sector to its place, or has it written later.
+    fn write_at(&mut self, i: u32, from: &Sector) -> io::Result<()>
+        ensures faults { self.new.faults ≡ self.old.faults }
+        ensures reads { self.new.read_faults ≡ self.old.read_faults }
+    {
+        let Some(file) = &self.file else {
+            return Err(io::Error::from(ErrorKind::NotFound));
+        };
+        match &mut self.kept {
+            Some(kept) => kept.write(file, i, from),
+            None => file.write_all_at(&from.bytes, place(i)),
+        }
+    }
+
+    /// Writes what is to be written later.
+    fn flush(&mut self) -> io::Result<()>
+        ensures faults { self.new.faults ≡ self.old.faults }
+        ensures reads { self.new.read_faults ≡ self.old.read_faults }
+    {
+        match (&self.file, &mut self.kept) {
+            (Some(file), Some(kept)) => kept.flush(file),
+            _ => Ok(()),
+        }
     }
 
     /// Waits until the disk has what was written.
-    fn sync_data(&self) -> io::Result<()> {
+    fn sync_data(&mut self) -> io::Result<()>
+        ensures faults { self.new.faults ≡ self.old.faults }
+        ensures reads { self.new.read_faults ≡ self.old.read_faults }
+    {
+        self.flush()?;
         self.opened()?.sync_data()
+    }
+
+    /// From now on no sector is known, where none is yet to be written; says whether that is so.
+    fn forget(&mut self) -> bool
+        ensures faults { self.new.faults ≡ self.old.faults }
+        ensures reads { self.new.read_faults ≡ self.old.read_faults }
+    {
+        match &mut self.kept {
+            Some(kept) => kept.forget(),
+            None => true,
+        }
     }
 }
 
@@ -177,19 +237,33 @@ impl<R: Clock> FileDisk<R> {
         self.read_at(i, to)
     }
 
-    /// Has the system's copies read anew, where that was a minute ago.
+    /// Forgets the copies, and has the system's read anew, where that was a minute ago.
     fn refresh(&mut self)
         ensures faults { self.new.faults ≡ self.old.faults }
         ensures reads { self.new.read_faults ≡ self.old.read_faults }
     {
         let now = millis_of(&self.system, self.forgotten);
-        if now.saturating_sub(self.forgotten) < KEPT_MILLIS {
+        if now.saturating_sub(self.forgotten) < KEPT_MILLIS || !self.forget() {
             return;
         }
         self.forgotten = now;
         if let Some(file) = &self.file {
             renew_copies(file);
         }
+    }
+}
+
+impl<R: Files<File = File>> FileDisk<R> {
+    /// Opens the file with this name in the place of the one that it had, which gets what is yet to be written.
+    fn open_anew(&mut self, name: &str) -> io::Result<File>
+        ensures faults { self.new.faults ≡ self.old.faults }
+        ensures reads { self.new.read_faults ≡ self.old.read_faults }
+    {
+        self.flush()?;
+        self.forget();
+        // The lock of the file that it had would keep the next open of that file out.
+        self.file = None;
+        open(&self.system, name)
     }
 }
 
@@ -203,9 +277,7 @@ impl<R: Files<File = File> + Clock> SectorDisk for FileDisk<R> {
     ghost whole = { λ _. tt };
 
     fn attach(&mut self, name: &str) -> Result<(), DiskFailed> {
-        // The lock of the file that it had would keep the next open of that file out.
-        self.file = None;
-        let opened = open(&self.system, name);
+        let opened = self.open_anew(name);
         self.file = Some(counted(opened, &mut self.faults, DiskFailed)?);
         self.forgotten = millis_of(&self.system, self.forgotten);
         Ok(())
@@ -213,7 +285,12 @@ impl<R: Files<File = File> + Clock> SectorDisk for FileDisk<R> {
 
     fn read(&mut self, i: u32, to: &mut Sector) -> Result<(), DiskFailed> {
         self.refresh();
-        counted(self.read_again(i, to), &mut self.read_faults, DiskFailed)
+        if self.recalls(i, to) {
+            return Ok(());
+        }
+        counted(self.read_again(i, to), &mut self.read_faults, DiskFailed)?;
+        self.note(i, to);
+        Ok(())
     }
 
     fn write(&mut self, i: u32, from: &Sector) -> Result<(), DiskFailed> {
