@@ -39,7 +39,11 @@ pub(crate) fn note_block<D: SectorDisk>(disk: &mut D, block: &[u8])
     let header = sum_at(block, 0);
     let payload = sum_at(block, 16);
     disk.keep_name(Room::Header, &block[16..HEADER_SIZE], header);
-    disk.keep_name(Room::Payload(u64_at(block, 112)), &block[PAYLOAD_AT..end], payload);
+    disk.keep_name(
+        Room::Payload(u64_at(block, 112)),
+        &block[PAYLOAD_AT..end],
+        payload,
+    );
 }
 
 /// Makes the block of checkpoint `op` at an address below 384, of this kind (`DATA` or `ROOT`), with a payload of at most

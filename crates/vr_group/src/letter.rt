@@ -29,11 +29,7 @@ impl Model for Letter {
 
 impl Letter {
     /// A message on its way from one member to another, sent after these letters.
-    pub fn new(
-        alloc: Global,
-        letters: &[Letter],
-        sent: &Sent,
-    ) -> Result<Letter, AllocError>
+    pub fn new(alloc: Global, letters: &[Letter], sent: &Sent) -> Result<Letter, AllocError>
         ensures { IfOk result (λ l. l ≡ sent.now) }
     {
         Ok(Letter {

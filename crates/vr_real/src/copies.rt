@@ -3,9 +3,13 @@ ghost use Rattle.std.specs.Prelude.{◌≡◌, List, Option, Some, None, IfOk, l
 
 use std::alloc::{AllocError, Global};
 use std::marker::Model;
-use vr_disk::{SECTORS, Sector};
+use vr_disk::Sector;
 
-/// Each sector as it was read or written last, `None` where it isn't known.
+/// So many sectors from the first one on are kept where they are known: those of the superblock, of all headers and of all prepares,
+/// and the grid's first blocks. The blocks behind them are seldom read.
+pub const KEPT: usize = 1936;
+
+/// Each of the first sectors as it was read or written last, `None` where it isn't known.
 #[derive(Drop)]
 pub struct Copies {
     sectors: Vec<Option<Sector>>,
@@ -32,10 +36,10 @@ fn unknown(alloc: Global, count: usize) -> Result<Vec<Option<Sector>>, AllocErro
 impl Copies {
     /// No sector is known.
     pub fn new(alloc: Global) -> Result<Copies, AllocError>
-        ensures { IfOk result (λ c. c ≡ replicate SECTORS None) }
+        ensures { IfOk result (λ c. c ≡ replicate KEPT None) }
     {
         Ok(Copies {
-            sectors: unknown(alloc, SECTORS as usize)?,
+            sectors: unknown(alloc, KEPT)?,
         })
     }
 
@@ -52,7 +56,7 @@ impl Copies {
         }
     }
 
-    /// Takes note of a sector.
+    /// Takes note of a sector, where it is one of the first.
     pub fn keep(&mut self, i: u32, sector: &Sector)
         ensures { self.new ≡ slice_set self.old i (Some sector.now) }
     {

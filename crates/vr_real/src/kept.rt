@@ -1,13 +1,13 @@
 //! What is kept of a file in memory.
 ghost use Rattle.std.specs.Prelude.{◌≡◌, ◌+◌, ◌*◌, [], List, Option, Some, None, IfOk, OnOk, OnErr, length, replicate, true, false, slice_get, slice_set};
 
-use crate::copies::Copies;
+use crate::copies::{Copies, KEPT};
 use crate::run::Run;
 use std::alloc::{AllocError, Global};
 use std::fs::File;
 use std::io;
 use std::os::unix::fs::FileExt;
-use vr_disk::{SECTOR_SIZE, SECTORS, Sector};
+use vr_disk::{SECTOR_SIZE, Sector};
 
 /// The sectors of a file that are known, and those of them that are yet to be written to it.
 #[derive(Drop)]
@@ -24,7 +24,7 @@ pub fn place(i: u32) -> u64 {
 impl Kept {
     /// No sector is known. All its memory is taken here.
     pub fn new(alloc: Global) -> Result<Kept, AllocError>
-        ensures copies { IfOk result (λ k. k.copies ≡ replicate SECTORS None) }
+        ensures copies { IfOk result (λ k. k.copies ≡ replicate KEPT None) }
         ensures run { IfOk result (λ k. k.run.bytes.items ≡ []) }
     {
         Ok(Kept {

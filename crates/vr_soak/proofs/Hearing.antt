@@ -42,6 +42,7 @@ message_counts h s before c = record {
   done = count_kept is_done before (output.Send s) h.faults.done refl c.done;
   kept_out = count_kept is_kept_out before (output.Send s) h.faults.kept_out refl c.kept_out;
 }
+
 pub hears_message : (h : Heard) (o : Output) (s : Sent) → o ≡ output.Send s → CountsOn h h (o ∷ [])
 hears_message h o s is before c = rw is (message_counts h s before c)
 

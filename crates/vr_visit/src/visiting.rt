@@ -23,6 +23,7 @@ use vr_rings::read_header;
 
 // The places that are visited: each slot, then the superblock, then each block of the checkpoint.
 const SUPERBLOCK: u64 = SLOTS as u64;
+
 const FIRST_BLOCK: u64 = SUPERBLOCK + 1;
 
 // ---- slots
