@@ -74,6 +74,24 @@ puts_none m = refl
 pub count_more : (m : ℕ) (o : Output) (os : List Output) → m + length (messages (o ∷ os)) ≡ (m + length (message_of o)) + length (messages os)
 count_more m o os = let all = ap length (messages_more o os) in let both = length-append (message_of o) (messages os) in omega (arith, all, both)
 
+-- one output more is put out
+pub count_fits : (m end : ℕ) (o : Output) (os rest : List Output) → os ≡ o ∷ rest → m + length (messages os) ≡ end → m + length (message_of o) ≤ end
+count_fits m end o os rest is room =
+    let all : length (messages os) ≡ length (messages (o ∷ rest)) = ap (λ xs. length (messages xs)) is in
+    let more = count_more m o rest in
+    omega (arith, all, more, room)
+
+pub count_rest : (m end next : ℕ) (o : Output) (os rest : List Output) → os ≡ o ∷ rest → next ≡ m + length (message_of o) → m + length (messages os) ≡ end → next + length (messages rest) ≡ end
+count_rest m end next o os rest is e room =
+    let all : length (messages os) ≡ length (messages (o ∷ rest)) = ap (λ xs. length (messages xs)) is in
+    let more = count_more m o rest in
+    omega (arith, all, more, e, room)
+
+pub puts_rest : (m next : ℕ) (o : Output) (os rest : List Output) (p : Put) (puts new all : List Put) → os ≡ o ∷ rest → next ≡ m + length (message_of o) → p ≡ put_as m o → new ≡ puts ++ p ∷ [] → puts ++ puts_of m os ≡ all → new ++ puts_of next rest ≡ all
+puts_rest m next o os rest p puts new all is e f g h =
+    let split : puts ++ puts_of m os ≡ puts ++ put_as m o ∷ puts_of (m + length (message_of o)) rest = ap (λ xs. puts ++ puts_of m xs) is ∙ ap (λ x. puts ++ x) (puts_more m o rest) in
+    rw (g, f, e) (append_assoc puts (put_as m o ∷ []) (puts_of (m + length (message_of o)) rest) ∙ sym split ∙ h)
+
 abbrev outputs_as : List Put → List ℕ → Outputs
 outputs_as puts text = record { puts = puts; text = text }
 

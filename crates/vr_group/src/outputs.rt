@@ -101,7 +101,7 @@ fn number_after(number: u64, end: u64, output: &Output) -> u64
 }
 
 /// Puts each output out, in order. The first message among them has this number, and behind them comes that of `end`.
-#[tactic(auto, using(std::proofs::lemmas::Grind::common_steps, crate::proofs::Numbering::puts_more, crate::proofs::Numbering::puts_none, crate::proofs::Numbering::count_more))]
+#[tactic(auto, using(std::proofs::lemmas::Grind::common_steps, crate::proofs::Numbering::puts_none))]
 pub fn put_out(
     number: u64,
     end: u64,

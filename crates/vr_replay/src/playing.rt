@@ -42,7 +42,8 @@ fn play(alloc: Global, group: &mut World, line: &Line, to: &mut ByteList) -> Res
         *group = World::new(alloc, *n, *kind)?;
         return Ok(());
     }
-    group.step(alloc, line, to)
+    group.step(alloc, line, to)?;
+    Ok(())
 }
 
 /// The line of a version that these bytes spell, behind so many others.
