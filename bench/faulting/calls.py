@@ -20,7 +20,7 @@ PASSES = 100  # so often a call is interrupted
 TURNS, ASKS = "4", 10
 TRIES = 3  # of a run without a fault, which a busy machine may hold up
 PATIENCE = 15.0  # seconds in which a group of three answers though one of its members fails
-ALONE_PATIENCE, OUTPUT_PATIENCE, LONG_PATIENCE = 1.0, 5.0, 60.0
+ALONE_PATIENCE, DISK_PATIENCE, OUTPUT_PATIENCE, LONG_PATIENCE = 1.0, 1.0, 5.0, 60.0
 
 
 class Rule(NamedTuple):
@@ -114,8 +114,10 @@ class Store:
 
 
 def patience_of(env: Dict[str, str]) -> float:
-    """How long a member may take to end: where no line is taken it tries again for a second."""
-    return OUTPUT_PATIENCE if env.get("FAULT_CALL") == "say" and int(env["FAULT_TIMES"]) > 1 else 0.0
+    """How long a member may take to end: where no line is taken it tries again for a second; the last write of a run may fail as the last answer comes."""
+    if not env.get("FAULT_CALL") or int(env["FAULT_TIMES"]) == 1:
+        return 0.0
+    return {"say": OUTPUT_PATIENCE, "write": DISK_PATIENCE, "sync": DISK_PATIENCE}.get(env["FAULT_CALL"], 0.0)
 
 
 class Run:
