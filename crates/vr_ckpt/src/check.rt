@@ -12,7 +12,7 @@ use crate::block::header_over;
 use crate::{BLOCK_SIZE, Name, PAYLOAD_AT};
 use vr_base::{is_zeros, sum_at};
 use vr_disk::{BLOCKS, Room, SectorDisk};
-use vr_header::{HEADER_SIZE, Header, decode_by};
+use vr_header::{HEADER_SIZE, Header, NAMED_AT, decode_by};
 
 fn is_kind(kind: u8) -> bool
     ensures { result ≡ is_kind kind }
@@ -93,7 +93,10 @@ pub fn payload_of<D: SectorDisk>(disk: &mut D, bytes: &[u8], name: &Name) -> Opt
     ensures faults { D.faults disk.new ≡ D.faults disk.old }
     ensures reads { D.read_faults disk.new ≡ D.read_faults disk.old }
 {
-    let front = disk.name_of(Room::Header, &bytes[16..HEADER_SIZE]);
+    let front = disk.name_of(
+        Room::BlockHeader(name.address),
+        &bytes[NAMED_AT..HEADER_SIZE],
+    );
     match decode_by(bytes, front) {
         Err(_) => None,
         Ok(header) => payload_behind(disk, header, bytes, name),

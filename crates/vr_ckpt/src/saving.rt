@@ -100,7 +100,7 @@ fn write_all<D: SectorDisk>(disk: &mut D, blocks: &[Block]) -> Result<(), DiskFa
 {
     for block in blocks {
         let bytes = block.bytes.as_slice();
-        note_block(disk, bytes);
+        note_block(disk, block.name.address, bytes);
         write_at(disk, block.name.address, bytes)?;
     }
     Ok(())

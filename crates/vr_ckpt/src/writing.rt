@@ -9,12 +9,12 @@ ghost use Rattle.vr_ckpt.specs.GridLaws.{PutLeaves};
 
 use crate::{Block, Name, PAYLOAD_AT};
 use std::alloc::Global;
-use vr_base::{sum_at, u32_at, u64_at};
+use vr_base::{sum_at, u32_at};
 use vr_disk::{
     BLOCK_SECTORS, BLOCKS, DiskFailed, DiskFault, Halt, Room, SectorDisk, block_place,
     write_sectors,
 };
-use vr_header::{HEADER_SIZE, SIZE_AT};
+use vr_header::{HEADER_SIZE, NAMED_AT, SIZE_AT};
 
 /// Writes the eight sectors of a block; it takes no memory.
 #[tactic(auto, unfolding(crate::specs::Grid::block_calls))]
@@ -28,8 +28,8 @@ pub fn write_at<D: SectorDisk>(disk: &mut D, address: u64, bytes: &[u8]) -> Resu
     write_sectors(disk, block_place(address as u32), BLOCK_SECTORS, bytes)
 }
 
-/// The disk takes note of the names of a whole block's header and payload, which stand in its bytes.
-pub(crate) fn note_block<D: SectorDisk>(disk: &mut D, block: &[u8])
+/// The disk takes note of the names of the header and the payload of a whole block, which stand in its bytes.
+pub(crate) fn note_block<D: SectorDisk>(disk: &mut D, address: u64, block: &[u8])
     requires { is_some (content_of block.now) ≡ true }
     ensures told { D.told disk.new ≡ D.told disk.old }
     ensures faults { D.faults disk.new ≡ D.faults disk.old }
@@ -38,12 +38,12 @@ pub(crate) fn note_block<D: SectorDisk>(disk: &mut D, block: &[u8])
     let end = u32_at(block, SIZE_AT) as usize;
     let header = sum_at(block, 0);
     let payload = sum_at(block, 16);
-    disk.keep_name(Room::Header, &block[16..HEADER_SIZE], header);
     disk.keep_name(
-        Room::Payload(u64_at(block, 112)),
-        &block[PAYLOAD_AT..end],
-        payload,
+        Room::BlockHeader(address),
+        &block[NAMED_AT..HEADER_SIZE],
+        header,
     );
+    disk.keep_name(Room::Payload(address), &block[PAYLOAD_AT..end], payload);
 }
 
 /// Makes the block of checkpoint `op` at an address below 384, of this kind (`DATA` or `ROOT`), with a payload of at most
@@ -82,7 +82,7 @@ pub fn put_block<D: SectorDisk>(disk: &mut D, name: &Name, block: &[u8]) -> Resu
     // At the end the block reads as it was put. A stop at any of these calls changes no other sector.
     ensures stop { IfSome (D.told disk.old) (λ d. d.face.waiting ≡ [] → PutLeaves name.now.address block.now d.face) }
 {
-    note_block(disk, block);
+    note_block(disk, name.address, block);
     write_at(disk, name.address, block)?;
     disk.sync()?;
     Ok(())

@@ -1,5 +1,5 @@
 //! Texts with their names, so that a digest of a text is made once.
-ghost use Rattle.std.specs.Prelude.{◌≡◌, ◌≤◌, ◌-◌, IfSome, drop, length, replicate};
+ghost use Rattle.std.specs.Prelude.{◌≡◌, ◌≤◌, ◌<◌, ◌-◌, IfSome, drop, length, replicate};
 ghost use Rattle.vr_base.specs.Bytes.{name_of};
 
 use crate::{BLOCKS, SECTOR_SIZE, SLOTS};
@@ -9,15 +9,6 @@ use vr_base::{Sum, checksum, is_zeros};
 
 // How many bytes a header without its name has.
 const NAMELESS: usize = 112;
-
-// In a header without its name: the last byte of its op, its kind, the last two bytes of its address.
-const OP_END: usize = 79;
-
-const KIND: usize = 95;
-
-const AUX_HIGH: usize = 102;
-
-const AUX_END: usize = 103;
 
 // A text with its name. What stands here before the first text is kept, or where there was no memory for one, has none.
 #[derive(Drop)]
@@ -161,9 +152,10 @@ impl Model for Memo {
 /// Which kept text another one replaces: at most one is kept in each room.
 #[derive(Clone, Copy, Debug, PartialEq, Eq)]
 pub enum Room {
-    /// Of a header without its name, of 112 bytes: one for each address of a block, which addresses 128 apart share, and one for
-    /// each 256th op of others.
-    Header,
+    /// Of an entry's header without its name, of 112 bytes, by its op: ops that are 256 apart share one.
+    Header(u64),
+    /// Of a block's header without its name, of 112 bytes: one for each address.
+    BlockHeader(u64),
     /// Of an entry's operation: one for each slot.
     Body(u32),
     /// Of a block's payload: one for each address.
@@ -172,10 +164,13 @@ pub enum Room {
     Value(u64),
 }
 
+// How many headers of entries are kept.
+const OPS: u64 = 256;
+
 // Where the places of headers begin by op, and those by address.
 const BY_OP: usize = 0;
 
-const BY_ADDRESS: usize = 256;
+const BY_ADDRESS: usize = BY_OP + OPS as usize;
 
 const HEADERS: usize = BY_ADDRESS + BLOCKS as usize;
 
@@ -188,37 +183,27 @@ const VALUES: usize = PAYLOADS + BLOCKS as usize;
 
 const TEXTS: usize = VALUES + 2;
 
-// The place of a header by its address, of which these are the last two bytes.
-fn address_place(high: u8, low: u8) -> usize {
-    BY_ADDRESS + (256 * usize::from(high) + usize::from(low)) % BLOCKS as usize
-}
-
-// The place of a header without its name: those of blocks have theirs by address, and all others by op.
-fn header_place(bytes: &[u8]) -> usize {
-    if let (Some(op), Some(0)) = (bytes.get(OP_END), bytes.get(KIND)) {
-        return BY_OP + usize::from(*op);
-    }
-    match (bytes.get(AUX_HIGH), bytes.get(AUX_END)) {
-        (Some(high), Some(low)) => address_place(*high, *low),
-        _ => BY_OP,
-    }
-}
-
-// Where a text is kept: a header by its bytes, or another text.
+// Where a text is kept: a header without its name, or another text.
 #[derive(Clone, Copy)]
 enum Place {
     Header(usize),
     Text(usize),
 }
 
+// The block at an address, or one that its place is shared with where there is none.
+fn block_of(address: u64) -> usize
+    ensures { result < BLOCKS }
+{
+    (address % u64::from(BLOCKS)) as usize
+}
+
 impl Room {
-    fn place(self, bytes: &[u8]) -> Place {
+    fn place(self) -> Place {
         match self {
-            Room::Header => Place::Header(header_place(bytes)),
+            Room::Header(op) => Place::Header(BY_OP + (op % OPS) as usize),
+            Room::BlockHeader(address) => Place::Header(BY_ADDRESS + block_of(address)),
             Room::Body(slot) => Place::Text(BODIES + (slot % SLOTS) as usize),
-            Room::Payload(address) => {
-                Place::Text(PAYLOADS + (address % u64::from(BLOCKS)) as usize)
-            }
+            Room::Payload(address) => Place::Text(PAYLOADS + block_of(address)),
             Room::Value(sequence) => Place::Text(VALUES + (sequence % 2) as usize),
         }
     }
@@ -252,7 +237,7 @@ impl Memo {
     fn kept(&self, room: Room, bytes: &[u8]) -> Option<Sum>
         ensures { IfSome result (λ name. name.0 ≡ name_of bytes.now) }
     {
-        match room.place(bytes) {
+        match room.place() {
             Place::Header(at) => self.headers.as_slice().get(at)?.name_of(bytes),
             Place::Text(at) => self.texts.as_slice().get(at)?.name_of(bytes),
         }
@@ -262,7 +247,7 @@ impl Memo {
     pub fn keep(&mut self, room: Room, bytes: &[u8], name: Sum)
         requires { name.0 ≡ name_of bytes.now }
     {
-        match room.place(bytes) {
+        match room.place() {
             Place::Header(at) => {
                 if let Some(header) = self.headers.as_mut_slice().get_mut(at) {
                     header.set(bytes, name);

@@ -20,7 +20,7 @@ pub use codec::{decode, decode_by, decoded_header, encode, nameless, spelled};
 pub use command::Command;
 pub use entry::Entry;
 pub use header::{Header, HeaderFault, HeaderList};
-pub use limits::{HEADER_SIZE, LAST_OP, MESSAGE_MOST, NAMED_AT, SIZE_AT};
+pub use limits::{HEADER_SIZE, LAST_OP, MESSAGE_MOST, NAMED_AT, OP_AT, SIZE_AT};
 pub use names::Names;
 pub use operation::Operation;
 pub use outcome::Outcome;

@@ -6,6 +6,9 @@ pub const HEADER_SIZE: usize = 128;
 /// Where the bytes begin whose name stands in front of them.
 pub const NAMED_AT: usize = 16;
 
+/// Where the op stands in a header.
+pub const OP_AT: usize = 88;
+
 /// Where the size of the message stands in its header.
 pub const SIZE_AT: usize = 104;
 

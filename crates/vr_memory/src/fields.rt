@@ -262,7 +262,7 @@ impl Replica {
         if self.names.kept(header).is_none() {
             let bytes = nameless(header);
             let (_, named) = bytes.split_at(16);
-            let name = disk.name_of(Room::Header, named);
+            let name = disk.name_of(Room::Header(header.op), named);
             self.names.keep(header, name);
         }
     }

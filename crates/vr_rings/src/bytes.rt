@@ -10,10 +10,10 @@ ghost use Rattle.vr_rings.specs.Slots.{IsWhole, header_of, in_front, prepare_byt
 
 use crate::sizes::PREPARE_SIZE;
 use crate::slot::slot_of;
-use vr_base::{is_zeros, put, u32_at};
+use vr_base::{is_zeros, put, u32_at, u64_at};
 use vr_disk::{Room, Sector, SectorDisk, ZEROS};
 use vr_header::{
-    Entry, HEADER_SIZE, Header, NAMED_AT, SIZE_AT, decode_by, encode, nameless, spelled,
+    Entry, HEADER_SIZE, Header, NAMED_AT, OP_AT, SIZE_AT, decode_by, encode, nameless, spelled,
 };
 
 /// The header sector of an entry of this header. The disk may have its name.
@@ -27,7 +27,7 @@ pub fn sector_by<D: SectorDisk>(disk: &mut D, header: &Header) -> Sector
 {
     let bytes = nameless(header);
     let (_, named) = bytes.split_at(NAMED_AT);
-    let name = disk.name_of(Room::Header, named);
+    let name = disk.name_of(Room::Header(header.op), named);
     let mut sector = ZEROS;
     put(&mut sector.bytes, 0, &spelled(header, name));
     sector
@@ -96,7 +96,7 @@ fn header_in<D: SectorDisk>(disk: &mut D, bytes: &[u8]) -> Option<Header>
 {
     let (front, _) = bytes.split_at(HEADER_SIZE);
     let (_, named) = front.split_at(NAMED_AT);
-    let name = disk.name_of(Room::Header, named);
+    let name = disk.name_of(Room::Header(u64_at(bytes, OP_AT)), named);
     decode_by(bytes, name).ok()
 }
 

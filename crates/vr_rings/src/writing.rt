@@ -86,7 +86,7 @@ fn note<D: SectorDisk>(disk: &mut D, entry: &Entry, bytes: &[u8])
     let (whole, _) = bytes.split_at(header.size.get() as usize);
     let (front, body) = whole.split_at(HEADER_SIZE);
     let (_, named) = front.split_at(NAMED_AT);
-    disk.keep_name(Room::Header, named, entry.name());
+    disk.keep_name(Room::Header(header.op), named, entry.name());
     disk.keep_name(Room::Body(slot_of(&header)), body, header.body);
 }
 

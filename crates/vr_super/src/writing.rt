@@ -82,7 +82,7 @@ fn keep_header<D: SectorDisk>(disk: &mut D, value: &Super, at: usize)
     let bytes = value.bytes();
     let start = LIST_AT + HEADER_SIZE * at;
     disk.keep_name(
-        Room::Header,
+        Room::Header(value.headers()[at].op),
         &bytes[start + NAMED_AT..start + HEADER_SIZE],
         sum_at(bytes, start),
     );

@@ -17,9 +17,6 @@ slice_bounds-keep_name-end g c = let s = (sealed c.args.block.now c.requires).si
 pub keep_name-requires : goal.keep_name-requires
 keep_name-requires g c = header_kept c.args.block.now c.sum_at-header.result.0 (sealed c.args.block.now c.requires) c.sum_at-header.ensures
 
-pub u64_at-requires : goal.u64_at-requires
-u64_at-requires g c = let s = (sealed c.args.block.now c.requires).size in omega arith
-
 pub slice_bounds-keep_name-count-2 : goal.slice_bounds-keep_name-count-2
 slice_bounds-keep_name-count-2 g c =
     let l = (sealed c.args.block.now c.requires).least in
