@@ -31,8 +31,8 @@ const PIECES: i64 = (FILE_SIZE as i64 + PIECE - 1) / PIECE;
 /// A disk of sectors in a file of the system: sector i stands at byte 512 i. It tells nothing. A call fails where a call of the
 /// system does that is made for it, or where no file is attached; a read is made again a few times first. The file is locked as long as it is attached.
 ///
-/// From `remember` on a read of a sector that is known makes no call. Neighbors that are written one after the other go to the
-/// system together: before the next write that is none of them, a sync or an attach. Where that fails, it is this call that tells so.
+/// From the first attach after `remember` on a read of a sector that is known makes no call. Neighbors that are written one after
+/// the other go to the system together: before the next write that is none of them, a sync or an attach. Where that fails, it is this call that tells so.
 ///
 /// What is written goes through the system's page cache; at each attach, and once a minute, no sector is known any more, and the
 /// system is told to forget what it keeps of the file and to read it anew, so that reads tell what the disk has.
@@ -46,7 +46,9 @@ pub struct FileDisk<R> {
     read_faults: u64,
     /// Texts with their names, from `remember` on.
     memo: Option<Memo>,
-    /// Sectors, from `remember` on.
+    /// From `remember` on: what memory for sectors is taken from.
+    memory: Option<Global>,
+    /// Sectors, from the first attach after `remember` on.
     kept: Option<Kept>,
 }
 
@@ -122,7 +124,7 @@ fn open<R: Files<File = File>>(files: &R, name: &str) -> io::Result<File> {
 impl<R> FileDisk<R> {
     /// A disk without its file, which `attach` opens through the system that is handed in.
     pub fn new(system: R) -> FileDisk<R>
-        ensures { result ≡ record { system = system; file = None; forgotten = 0; faults = 0; read_faults = 0; memo = None; kept = None } }
+        ensures { result ≡ record { system = system; file = None; forgotten = 0; faults = 0; read_faults = 0; memo = None; memory = None; kept = None } }
     {
         FileDisk {
             system,
@@ -131,21 +133,30 @@ impl<R> FileDisk<R> {
             faults: 0,
             read_faults: 0,
             memo: None,
+            memory: None,
             kept: None,
         }
     }
 
-    /// From now on it keeps texts with their names, and sectors. After an `Err` it goes on without what there was no memory for.
+    /// From now on it keeps texts with their names, and from the next attach on sectors. After an `Err` it keeps no texts.
     pub fn remember(&mut self, alloc: Global) -> Result<(), AllocError>
         ensures faults { self.new.faults ≡ self.old.faults }
         ensures reads { self.new.read_faults ≡ self.old.read_faults }
     {
+        self.memory = Some(alloc);
         self.memo = Some(Memo::new(alloc)?);
-        // What is there already may have sectors that are yet to be written.
-        if self.kept.is_none() {
-            self.kept = Some(Kept::new(alloc)?);
-        }
         Ok(())
+    }
+
+    /// Takes memory for sectors, which only a disk with a file needs. Where there is none, it goes on without.
+    fn take_room(&mut self)
+        ensures faults { self.new.faults ≡ self.old.faults }
+        ensures reads { self.new.read_faults ≡ self.old.read_faults }
+    {
+        // What is there already may have sectors that are yet to be written.
+        if let (Some(alloc), None) = (self.memory, &self.kept) {
+            self.kept = Kept::new(alloc).ok();
+        }
     }
 
     /// The file, once it was opened.
@@ -280,6 +291,7 @@ impl<R: Files<File = File> + Clock> SectorDisk for FileDisk<R> {
         let opened = self.open_anew(name);
         self.file = Some(counted(opened, &mut self.faults, DiskFailed)?);
         self.forgotten = millis_of(&self.system, self.forgotten);
+        self.take_room();
         Ok(())
     }
 
