@@ -6,6 +6,7 @@ ghost use Rattle.vr_base.specs.Bytes.{IsBytes};
 ghost use Rattle.vr_header.specs.Made.{entry_bytes, entry_of};
 ghost use Rattle.vr_header.specs.Spelling.{IsHeader, decoded};
 ghost use Rattle.vr_rings.specs.Held.{header_sector};
+ghost use Rattle.vr_rings.specs.Readings.{AsksNames};
 ghost use Rattle.vr_rings.specs.Slots.{IsWhole, header_of, in_front, prepare_bytes, sector_of, size_at, whole_of};
 
 use crate::sizes::PREPARE_SIZE;
@@ -21,9 +22,7 @@ use vr_header::{
 pub fn sector_by<D: SectorDisk>(disk: &mut D, header: &Header) -> Sector
     ensures bytes { result.bytes ≡ sector_of header.now }
     ensures header { IsHeader header.now }
-    ensures told { D.told disk.new ≡ D.told disk.old }
-    ensures faults { D.faults disk.new ≡ D.faults disk.old }
-    ensures reads { D.read_faults disk.new ≡ D.read_faults disk.old }
+    ensures names { AsksNames D.SectorDisk disk.old disk.new }
 {
     let bytes = nameless(header);
     let (_, named) = bytes.split_at(NAMED_AT);
@@ -73,9 +72,7 @@ pub fn put_prepare(entry: &Entry, to: &mut [u8])
 #[tactic(auto, unfolding(crate::specs::Slots::header_of))]
 pub fn header_of<D: SectorDisk>(disk: &mut D, sector: &Sector) -> Option<Header>
     ensures value { result ≡ header_of sector.now.bytes }
-    ensures told { D.told disk.new ≡ D.told disk.old }
-    ensures faults { D.faults disk.new ≡ D.faults disk.old }
-    ensures reads { D.read_faults disk.new ≡ D.read_faults disk.old }
+    ensures names { AsksNames D.SectorDisk disk.old disk.new }
 {
     let (_, padding) = sector.bytes.split_at(HEADER_SIZE);
     if is_zeros(padding) {
@@ -90,9 +87,7 @@ pub fn header_of<D: SectorDisk>(disk: &mut D, sector: &Sector) -> Option<Header>
 fn header_in<D: SectorDisk>(disk: &mut D, bytes: &[u8]) -> Option<Header>
     requires { 128 ≤ length bytes.now }
     ensures value { result ≡ result_ok (decoded bytes.now) }
-    ensures told { D.told disk.new ≡ D.told disk.old }
-    ensures faults { D.faults disk.new ≡ D.faults disk.old }
-    ensures reads { D.read_faults disk.new ≡ D.read_faults disk.old }
+    ensures names { AsksNames D.SectorDisk disk.old disk.new }
 {
     let (front, _) = bytes.split_at(HEADER_SIZE);
     let (_, named) = front.split_at(NAMED_AT);
@@ -104,9 +99,7 @@ fn header_in<D: SectorDisk>(disk: &mut D, bytes: &[u8]) -> Option<Header>
 #[tactic(auto, using(crate::proofs::Spelling::short_none, crate::proofs::Spelling::headless_none, crate::proofs::Spelling::sized_none, crate::proofs::Spelling::header_ok))]
 fn entry_in<D: SectorDisk>(disk: &mut D, bytes: &[u8]) -> Option<Header>
     ensures value { result ≡ option_map (λ e. e.header) (entry_of bytes.now) }
-    ensures told { D.told disk.new ≡ D.told disk.old }
-    ensures faults { D.faults disk.new ≡ D.faults disk.old }
-    ensures reads { D.read_faults disk.new ≡ D.read_faults disk.old }
+    ensures names { AsksNames D.SectorDisk disk.old disk.new }
 {
     if bytes.len() < HEADER_SIZE {
         return None;
@@ -128,9 +121,7 @@ fn whole_by<D: SectorDisk>(disk: &mut D, bytes: &[u8], size: usize) -> Option<He
     requires least { 128 ≤ length bytes.now }
     requires most { length bytes.now ≤ 4096 }
     ensures value { result ≡ option_map (λ e. e.header) (whole_of (in_front bytes.now)) }
-    ensures told { D.told disk.new ≡ D.told disk.old }
-    ensures faults { D.faults disk.new ≡ D.faults disk.old }
-    ensures reads { D.read_faults disk.new ≡ D.read_faults disk.old }
+    ensures names { AsksNames D.SectorDisk disk.old disk.new }
 {
     let (entry, padding) = bytes.split_at(size);
     if is_zeros(padding) {
@@ -146,9 +137,7 @@ fn whole_beyond<D: SectorDisk>(disk: &mut D, bytes: &[u8], size: usize) -> Optio
     requires least { 128 ≤ length bytes.now }
     requires most { length bytes.now ≤ 4096 }
     ensures value { result ≡ option_map (λ e. e.header) (whole_of (in_front bytes.now)) }
-    ensures told { D.told disk.new ≡ D.told disk.old }
-    ensures faults { D.faults disk.new ≡ D.faults disk.old }
-    ensures reads { D.read_faults disk.new ≡ D.read_faults disk.old }
+    ensures names { AsksNames D.SectorDisk disk.old disk.new }
 {
     let mut room = [0; PREPARE_SIZE];
     put(&mut room, 0, bytes);
@@ -162,9 +151,7 @@ pub fn whole_front<D: SectorDisk>(disk: &mut D, bytes: &[u8]) -> Option<Header>
     requires most { length bytes.now ≤ 4096 }
     ensures value { result ≡ option_map (λ e. e.header) (whole_of (in_front bytes.now)) }
     ensures each { IsBytes (in_front bytes.now) }
-    ensures told { D.told disk.new ≡ D.told disk.old }
-    ensures faults { D.faults disk.new ≡ D.faults disk.old }
-    ensures reads { D.read_faults disk.new ≡ D.read_faults disk.old }
+    ensures names { AsksNames D.SectorDisk disk.old disk.new }
 {
     let size = (u32_at(bytes, SIZE_AT) as usize).min(PREPARE_SIZE);
     if size <= bytes.len() {
@@ -179,9 +166,7 @@ pub fn whole_of<D: SectorDisk>(disk: &mut D, bytes: &[u8]) -> Option<Header>
     requires { length bytes.now ≡ 4096 }
     ensures value { result ≡ option_map (λ e. e.header) (whole_of bytes.now) }
     ensures each { IsBytes bytes.now }
-    ensures told { D.told disk.new ≡ D.told disk.old }
-    ensures faults { D.faults disk.new ≡ D.faults disk.old }
-    ensures reads { D.read_faults disk.new ≡ D.read_faults disk.old }
+    ensures names { AsksNames D.SectorDisk disk.old disk.new }
 {
     whole_front(disk, bytes)
 }

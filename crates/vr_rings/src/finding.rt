@@ -1,9 +1,9 @@
 //! Finding the entry of a header.
-ghost use Rattle.std.specs.Prelude.{◌≡◌, ◌≤◌, IfOk, IfSome, take, length, min};
+ghost use Rattle.std.specs.Prelude.{◌≡◌, ◌≤◌, IfOk, take, length, min};
 ghost use Rattle.std.specs.Int.{w32};
 ghost use Rattle.vr_base.specs.Bytes.{number};
-ghost use Rattle.vr_rings.specs.Readings.{BeginsWith};
-ghost use Rattle.vr_rings.specs.Slots.{IsWhole, entry_for, whole_of};
+ghost use Rattle.vr_rings.specs.Readings.{BeginsWith, FindsEntry};
+ghost use Rattle.vr_rings.specs.Slots.{IsWhole, whole_of};
 
 use crate::reading::read_prepare;
 use crate::sizes::PREPARE_SIZE;
@@ -50,12 +50,7 @@ pub fn find_entry<D: SectorDisk>(
     buffer: &mut Buffer,
     version: Version,
 ) -> Result<Option<Entry>, NoMemory>
-    ensures told { D.told disk.new ≡ D.told disk.old }
-    ensures faults { D.faults disk.new ≡ D.faults disk.old }
-    ensures value { IfSome (D.told disk.old) (λ d. IfOk result (λ e. e ≡ entry_for version d.face header.now)) }
-
-    // What is handed out was checked, whatever the disk gave.
-    ensures whole { IfOk result (λ e. IfSome e (λ e. (e.header ≡ header.now) × IsWhole e)) }
+    ensures { FindsEntry D.SectorDisk version header.now disk.old disk.new result }
 {
     match read_prepare(disk, slot_of(header), header, buffer, version) {
         Err(_) => Ok(None),
