@@ -1,5 +1,5 @@
 //! What is kept of a file in memory.
-ghost use Rattle.std.specs.Prelude.{◌≡◌, ◌+◌, ◌*◌, [], List, Option, Some, None, IfOk, OnOk, OnErr, length, replicate, true, false, slice_get, slice_set};
+ghost use Rattle.std.specs.Prelude.{◌≡◌, ◌+◌, ◌*◌, ◌/◌, ◌++◌, ◌⊎◌, [], List, Option, Some, None, IfOk, OnOk, OnErr, length, replicate, true, false, slice_get, slice_set};
 
 use crate::copies::{Copies, KEPT};
 use crate::run::Run;
@@ -25,7 +25,7 @@ impl Kept {
     /// No sector is known. All its memory is taken here.
     pub fn new(alloc: Global) -> Result<Kept, AllocError>
         ensures copies { IfOk result (λ k. k.copies ≡ replicate KEPT None) }
-        ensures run { IfOk result (λ k. k.run.bytes.items ≡ []) }
+        ensures run { IfOk result (λ k. k.run.1 ≡ []) }
     {
         Ok(Kept {
             copies: Copies::new(alloc)?,
@@ -48,16 +48,16 @@ impl Kept {
         self.copies.keep(i, sector);
     }
 
-    /// Has a sector written together with those that it is the next to. Those that it isn't the next to are written first.
+    /// Has a sector written together with those that it is the next to. Those that it isn't the next to are written first. After
+    /// an `Ok` it waits, alone or behind them.
     pub fn write(&mut self, file: &File, i: u32, from: &Sector) -> io::Result<()>
-        ensures ok { OnOk result (self.new.copies ≡ slice_set self.old.copies i (Some from.now)) }
-        ensures err { OnErr result (self.new.copies ≡ self.old.copies) }
+        ensures waits { OnOk result ((self.new.run ≡ (i, from.now.bytes)) ⊎ ((i ≡ self.old.run.0 + length self.old.run.1 / 512) × (self.new.run ≡ (self.old.run.0, self.old.run.1 ++ from.now.bytes)))) }
+        ensures known { OnOk result (self.new.copies ≡ slice_set self.old.copies i (Some from.now)) }
+        ensures err { OnErr result (self.new ≡ self.old) }
     {
         if !self.run.take(i, from) {
             self.flush(file)?;
-            if !self.run.take(i, from) {
-                file.write_all_at(&from.bytes, place(i))?;
-            }
+            self.run.take(i, from);
         }
         self.copies.keep(i, from);
         Ok(())
@@ -66,7 +66,7 @@ impl Kept {
     /// Writes the sectors that are yet to be written. After an `Err` they still are.
     pub fn flush(&mut self, file: &File) -> io::Result<()>
         ensures copies { self.new.copies ≡ self.old.copies }
-        ensures ok { OnOk result (self.new.run.bytes.items ≡ []) }
+        ensures ok { OnOk result (self.new.run.1 ≡ []) }
         ensures err { OnErr result (self.new.run ≡ self.old.run) }
     {
         if !self.run.as_slice().is_empty() {
@@ -79,7 +79,7 @@ impl Kept {
     /// From now on no sector is known, where none is yet to be written; says whether that is so.
     pub fn forget(&mut self) -> bool
         ensures forgot { result ≡ true → self.new.copies ≡ replicate (length self.old.copies) None }
-        ensures written { result ≡ true → self.old.run.bytes.items ≡ [] }
+        ensures written { result ≡ true → self.old.run.1 ≡ [] }
         ensures stays { result ≡ false → self.new ≡ self.old }
     {
         let is_written = self.run.as_slice().is_empty();
