@@ -4,7 +4,7 @@
 # first write to the end of the last sync (bench/node/span.c), and whole, from the start of the program to its end. The program reads the
 # file's sectors from the disk itself before it begins, and judges each prepare before it writes it; the C program reads nothing.
 #   bench/migrate.sh [FOLDER]     a new one in /tmp without it
-# It ends with status 1 where the program takes more than 1.3 times as long from the first write to the last sync. Needs bash, awk and a C
+# It ends with status 1 where the program takes more than five times as long from the first write to the last sync. Needs bash, awk and a C
 # compiler.
 . "$(dirname "$0")/../command/help.sh"
 set -u
@@ -45,7 +45,7 @@ median() { sort -n "$1" | awk '{ t[NR] = $1 } END { print t[int((NR + 1) / 2)] }
 tell() {
     awk -v what="$1" -v program="$(median "$folder/program.$2")" -v calls="$(median "$folder/calls.$2")" 'BEGIN {
         printf "%s: a migration takes %.2f ms, its calls %.2f ms: %.2f times\n", what, program / 1000, calls / 1000, program / calls
-        exit !(program <= 1.3 * calls)
+        exit !(program <= 5 * calls)
     }'
 }
 tell 'whole' whole
