@@ -1,5 +1,5 @@
 //! A disk of sectors in a file.
-ghost use Rattle.std.specs.Prelude.{◌≡◌, ◌<◌, None};
+ghost use Rattle.std.specs.Prelude.{◌≡◌, ◌<◌, None, Some, IfSome};
 
 use crate::counting::counted;
 use crate::kept::{Kept, place};
@@ -138,8 +138,10 @@ impl<R> FileDisk<R> {
         }
     }
 
-    /// From now on it keeps texts with their names, and from the next attach on sectors. After an `Err` it keeps no texts.
+    /// From now on it keeps texts with their names, and from the next attach on sectors. After an `Err` it keeps no more texts than
+    /// before. Sectors that it keeps already stay.
     pub fn remember(&mut self, alloc: Global) -> Result<(), AllocError>
+        ensures kept { self.new.kept ≡ self.old.kept }
         ensures faults { self.new.faults ≡ self.old.faults }
         ensures reads { self.new.read_faults ≡ self.old.read_faults }
     {
@@ -150,6 +152,7 @@ impl<R> FileDisk<R> {
 
     /// Takes memory for sectors, which only a disk with a file needs. Where there is none, it goes on without.
     fn take_room(&mut self)
+        ensures stays { IfSome self.old.kept (λ k. self.new.kept ≡ Some k) }
         ensures faults { self.new.faults ≡ self.old.faults }
         ensures reads { self.new.read_faults ≡ self.old.read_faults }
     {
