@@ -8,6 +8,7 @@
 # compiler.
 . "$(dirname "$0")/../command/help.sh"
 set -u
+[ $# -le 1 ] || { echo "usage: bench/migrate.sh [FOLDER]" >&2; exit 2; }
 cd "$(dirname "$0")/.." || exit 2
 program=$(command/program) || exit 2
 folder=$(mktemp -d "${1:-/tmp}/migrate.XXXXXX") || exit 2
