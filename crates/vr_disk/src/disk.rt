@@ -3,9 +3,10 @@ ghost use Rattle.std.specs.Prelude.{◌≡◌, ◌<◌, ◌≤◌, ℕ, [], ◌�
 ghost use Rattle.vr_base.specs.Causes.{HasCause};
 ghost use Rattle.vr_base.specs.Bytes.{name_of};
 ghost use Rattle.vr_disk.specs.DiskState.{Disk, IsFace, Attaches, ReadsTo, Runs, Write, Sync, reads};
+ghost use Rattle.vr_disk.specs.Fronts.{front};
 ghost use Rattle.vr_disk.specs.Sectors.{has};
 
-use crate::{Room, SECTORS, Sector};
+use crate::{Room, SECTORS, Sector, front_sector};
 use vr_base::Sum;
 
 /// The most bytes of the name of a disk: as many as a system takes for that of a file.
@@ -91,6 +92,32 @@ pub trait SectorDisk {
         ensures told { told self.new ≡ told self.old }
         ensures faults { faults self.new ≡ faults self.old }
         ensures reads { read_faults self.new ≡ read_faults self.old };
+
+    /// Writes to a sector the name of a text, and the text behind it as far as it fits. A disk may make the name when the
+    /// sector is read.
+    fn write_front(&mut self, i: u32, room: Room, text: &[u8]) -> Result<(), DiskFailed>
+        requires i { i < SECTORS }
+        requires size { 496 ≤ length text.now }
+        ensures told { Runs (Write i (front text.now) ∷ []) (told self.old) (told self.new) (is_ok result) }
+        ensures cause { HasCause (faults self.old) (faults self.new) result }
+        ensures others { read_faults self.new ≡ read_faults self.old }
+    {
+        let name = self.name_of(room, text);
+        self.write(i, &front_sector(name, text))
+    }
+
+    /// Whether a sector reads as the name of a text, and the text behind it as far as it fits.
+    fn reads_front(&mut self, i: u32, room: Room, text: &[u8]) -> bool
+        requires i { i < SECTORS }
+        requires size { 496 ≤ length text.now }
+        ensures told { told self.new ≡ told self.old }
+        ensures value { IfSome (told self.old) (λ d. result ≡ has (front text.now) (reads d.face i)) }
+        ensures faults { faults self.new ≡ faults self.old }
+        ensures reads { read_faults self.old ≤ read_faults self.new }
+    {
+        let name = self.name_of(room, text);
+        self.reads_as(i, &front_sector(name, text).bytes)
+    }
 
     /// What is told is a disk of 3,984 sectors of 512 bytes.
     ghost whole: { (s : Self) → IfSome (told s) (λ d. IsFace d.face) };

@@ -21,7 +21,7 @@ pub use regions::{
     BLOCK_SECTORS, BLOCKS, COPIES, COPY_SECTORS, COPY_SIZE, SECTORS, SLOTS, block_place,
     copy_place, header_place, prepare_place, prepare_sectors,
 };
-pub use sector::{SECTOR_SIZE, Sector, ZEROS};
+pub use sector::{FRONT_TEXT, SECTOR_SIZE, Sector, ZEROS, front_sector};
 pub use sectors::{
     are_zeros, read_sectors, sector_at, sectors_read_as, write_sectors, write_zeros,
 };
