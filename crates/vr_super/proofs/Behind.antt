@@ -55,25 +55,25 @@ zeros_rest filled b rest l m e z =
 
 -- ---- compared
 
-has_filled : (at filled : ℕ) (b : List ℕ) (f : Face) → IsFace f → at + 20 ≤ sectors → filled ≤ 20 → drop (512 * filled) b ≡ replicate (512 * (20 - filled)) 0
-    → has b (together at 20 f) ≡ (has (take (512 * filled) b) (together at filled f) && has (replicate (512 * (20 - filled)) 0) (together (at + filled) (20 - filled) f))
-has_filled at filled b f h l m z =
-    let all : 20 ≡ filled + (20 - filled) = omega arith in
+has_filled : (at count filled : ℕ) (b : List ℕ) (f : Face) → IsFace f → at + count ≤ sectors → filled ≤ count → drop (512 * filled) b ≡ replicate (512 * (count - filled)) 0
+    → has b (together at count f) ≡ (has (take (512 * filled) b) (together at filled f) && has (replicate (512 * (count - filled)) 0) (together (at + filled) (count - filled) f))
+has_filled at count filled b f h l m z =
+    let all : count ≡ filled + (count - filled) = omega arith in
     ap (λ n. has b (together at n f)) all
-    ∙ (has_split filled (20 - filled) at b f h (omega arith) ∙ ap (λ t. has (take (512 * filled) b) (together at filled f) && has t (together (at + filled) (20 - filled) f)) z)
+    ∙ (has_split filled (count - filled) at b f h (omega arith) ∙ ap (λ t. has (take (512 * filled) b) (together at filled f) && has t (together (at + filled) (count - filled) f)) z)
 
-compared : (at filled : ℕ) (b front : List ℕ) (f : Face) (p q : Bool) → IsFace f → at + 20 ≤ sectors → filled ≤ 20 → drop (512 * filled) b ≡ replicate (512 * (20 - filled)) 0 → front ≡ take (512 * filled) b
-    → p ≡ has front (together at filled f) → q ≡ has (replicate (512 * (20 - filled)) 0) (together (at + filled) (20 - filled) f) → (p && q) ≡ has b (together at 20 f)
-compared at filled b front f p q h l m z e v w =
-    ap (λ t. t && q) (v ∙ ap (λ x. has x (together at filled f)) e) ∙ (ap (λ t. has (take (512 * filled) b) (together at filled f) && t) w ∙ sym (has_filled at filled b f h l m z))
+compared : (at count filled : ℕ) (b front : List ℕ) (f : Face) (p q : Bool) → IsFace f → at + count ≤ sectors → filled ≤ count → drop (512 * filled) b ≡ replicate (512 * (count - filled)) 0 → front ≡ take (512 * filled) b
+    → p ≡ has front (together at filled f) → q ≡ has (replicate (512 * (count - filled)) 0) (together (at + filled) (count - filled) f) → (p && q) ≡ has b (together at count f)
+compared at count filled b front f p q h l m z e v w =
+    ap (λ t. t && q) (v ∙ ap (λ x. has x (together at filled f)) e) ∙ (ap (λ t. has (take (512 * filled) b) (together at filled f) && t) w ∙ sym (has_filled at count filled b f h l m z))
 
-pub filled_same : (at filled : ℕ) (b front : List ℕ) (t : Option Disk) (p q : Bool) → IfSome t (λ d. IsFace d.face) → at + 20 ≤ sectors → filled ≤ 20 → drop (512 * filled) b ≡ replicate (512 * (20 - filled)) 0 → front ≡ take (512 * filled) b
-    → IfSome t (λ d. p ≡ has front (together at filled d.face)) → IfSome t (λ d. q ≡ has (replicate (512 * (20 - filled)) 0) (together (at + filled) (20 - filled) d.face)) → IfSome t (λ d. (p && q) ≡ has b (together at 20 d.face))
-filled_same at filled b front None p q h l m z e v w = tt
-filled_same at filled b front (Some d) p q h l m z e v w = compared at filled b front d.face p q h l m z e v w
+pub filled_same : (at count filled : ℕ) (b front : List ℕ) (t : Option Disk) (p q : Bool) → IfSome t (λ d. IsFace d.face) → at + count ≤ sectors → filled ≤ count → drop (512 * filled) b ≡ replicate (512 * (count - filled)) 0 → front ≡ take (512 * filled) b
+    → IfSome t (λ d. p ≡ has front (together at filled d.face)) → IfSome t (λ d. q ≡ has (replicate (512 * (count - filled)) 0) (together (at + filled) (count - filled) d.face)) → IfSome t (λ d. (p && q) ≡ has b (together at count d.face))
+filled_same at count filled b front None p q h l m z e v w = tt
+filled_same at count filled b front (Some d) p q h l m z e v w = compared at count filled b front d.face p q h l m z e v w
 
 -- the front is another
-pub filled_other : (at filled : ℕ) (b front : List ℕ) (t : Option Disk) → IfSome t (λ d. IsFace d.face) → at + 20 ≤ sectors → filled ≤ 20 → drop (512 * filled) b ≡ replicate (512 * (20 - filled)) 0 → front ≡ take (512 * filled) b
-    → IfSome t (λ d. false ≡ has front (together at filled d.face)) → IfSome t (λ d. false ≡ has b (together at 20 d.face))
-filled_other at filled b front None h l m z e v = tt
-filled_other at filled b front (Some d) h l m z e v = compared at filled b front d.face false (has (replicate (512 * (20 - filled)) 0) (together (at + filled) (20 - filled) d.face)) h l m z e v refl
+pub filled_other : (at count filled : ℕ) (b front : List ℕ) (t : Option Disk) → IfSome t (λ d. IsFace d.face) → at + count ≤ sectors → filled ≤ count → drop (512 * filled) b ≡ replicate (512 * (count - filled)) 0 → front ≡ take (512 * filled) b
+    → IfSome t (λ d. false ≡ has front (together at filled d.face)) → IfSome t (λ d. false ≡ has b (together at count d.face))
+filled_other at count filled b front None h l m z e v = tt
+filled_other at count filled b front (Some d) h l m z e v = compared at count filled b front d.face false (has (replicate (512 * (count - filled)) 0) (together (at + filled) (count - filled) d.face)) h l m z e v refl

@@ -9,9 +9,9 @@ use Rattle.vr_header.specs.declared.header.HeaderFault.{HeaderFault}
 use Rattle.vr_header.specs.Spelling.{decoded, fault_of, decoded_header}
 use Rattle.vr_super.specs.declared.fields.Fields.{Fields}
 use Rattle.vr_base.specs.Bytes.{IsBytes}
-use Rattle.vr_super.specs.Copies.{SuperValue, count_at, fields_at, first_op, list_at, value_of}
+use Rattle.vr_super.specs.Copies.{SuperValue, count_at, fields_at, first_op, list_at, named_bytes, value_of}
 use Rattle.vr_super.specs.Laws.{IsSpelled}
-use Rattle.vr_super.proofs.Format.{With, count_fits, value_found, valued, with_by}
+use Rattle.vr_super.proofs.Format.{With, count_fits, length-named, rest-copy_bytes, value_found, valued, with_by}
 use Rattle.vr_super.proofs.Sealing.{list_past, list_start, list_step}
 
 -- the headers so far, and those that are still to come
@@ -91,8 +91,11 @@ value_is b hs e h =
     let same = h (fields_at b) (first_op (fields_at b) (count_at b)) p.0.headers x.headers in
     p.1 ∙ (ap (λ (f : Fields). let v : SuperValue = record { fields = f; headers = p.0.headers } in Some v) x.fields ∙ ap (λ (l : List Header). let v : SuperValue = record { fields = fields_at b; headers = l } in Some v) (sym same))
 
-pub read_is : (b : List ℕ) (v : SuperValue) → IsBytes b → length b ≡ 10240 → value_of b ≡ Some v → IsSpelled v b
-read_is b v h l e = let p = value_found b v h e in record { good = p.1; spelled = p.0; size = l }
+pub read_is : (b : List ℕ) (v : SuperValue) → IsBytes b → value_of b ≡ Some v → IsSpelled v (drop 16 b)
+read_is b v h e =
+    let p = value_found b v h e in
+    let text : drop 16 b ≡ named_bytes v = ap (drop 16) p.0 ∙ rest-copy_bytes v in
+    record { good = p.1; spelled = text; size = ap length text ∙ length-named v p.1 }
 
 pub spelled_at : (b : List ℕ) (i : ℕ) → is_some (value_of b) ≡ true → i < count_at b → fault_of (drop (128 * i) (drop 128 b)) ≡ None
 spelled_at b i e l =

@@ -5,6 +5,7 @@ pub mod Choice
 pub mod Choosing
 pub mod Filling
 pub mod Format
+pub mod Fronts
 pub mod Heads
 pub mod Keeping
 pub mod Readings

@@ -75,8 +75,8 @@ MendLaw = (v : SuperValue) (f : Face) → IsFace f → f.waiting ≡ [] → open
 abbrev pub WriteLaw : Type 0
 WriteLaw = (old new : SuperValue) (f : Face) → IsFace f → f.waiting ≡ [] → opens f ≡ Some old → IsGood new → WriteLeads old new f
 
--- these are the bytes of a value that makes a good copy
-pub record IsSpelled (v : SuperValue) (bytes : List ℕ) : Type 0 where
+-- this is the text of a value that makes a good copy: the bytes behind the name
+pub record IsSpelled (v : SuperValue) (text : List ℕ) : Type 0 where
   pub good : IsGood v
-  pub spelled : bytes ≡ copy_bytes v
-  pub size : length bytes ≡ 10240
+  pub spelled : text ≡ named_bytes v
+  pub size : length text ≡ 10224

@@ -3,6 +3,7 @@
 
 mod bytes;
 mod check;
+mod copies;
 mod fields;
 mod laws;
 mod listing;

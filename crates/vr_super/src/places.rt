@@ -1,4 +1,9 @@
-//! Where the parts of a copy stand, and how many bytes some of them have.
+//! Where the parts of a copy stand, and how many bytes some of them have. Its text is what stands behind the name.
+use vr_disk::COPY_SIZE;
+use vr_header::NAMED_AT;
+
+/// The bytes of a text.
+pub const TEXT_SIZE: usize = COPY_SIZE - NAMED_AT;
 
 pub const SEQUENCE_AT: usize = 16;
 
@@ -37,3 +42,9 @@ pub const RESERVED: usize = 34;
 
 /// The headers, and zeros behind them.
 pub const LIST_AT: usize = 128;
+
+/// Where the headers stand in the text.
+pub const TEXT_LIST_AT: usize = LIST_AT - NAMED_AT;
+
+/// Where the sequence stands in the text.
+pub const TEXT_SEQUENCE_AT: usize = SEQUENCE_AT - NAMED_AT;

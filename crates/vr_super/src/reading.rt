@@ -6,7 +6,7 @@ ghost use Rattle.vr_super.specs.Copies.{value_of};
 ghost use Rattle.vr_super.specs.Seen.{IsHonest, IsRead, seen};
 
 use crate::check::is_good;
-use crate::sectors::reads_as;
+use crate::copies::reads_as;
 use vr_disk::{COPY_SECTORS, COPY_SIZE, SectorDisk, read_sectors};
 
 /// A copy that was read.

@@ -2,25 +2,26 @@
 ghost use Rattle.std.specs.Prelude.{◌≡◌, ◌≤◌, ◌+◌, ◌-◌, ◌*◌, IfOk, Some, drop, is_some, length, replicate, true};
 ghost use Rattle.vr_base.specs.Bytes.{piece};
 ghost use Rattle.vr_header.specs.Spelling.{header_bytes};
-ghost use Rattle.vr_super.specs.Copies.{IsGood, SuperValue, copy_bytes, count_at, value_of};
+ghost use Rattle.vr_super.specs.Copies.{IsGood, SuperValue, copy_bytes, copy_of, count_at, named_bytes, value_of};
 
 use crate::Fields;
 use crate::bytes::spell;
 use crate::check::{count_at, fields_at};
 use crate::listing::read_list;
-use crate::places::LIST_AT;
+use crate::places::{LIST_AT, TEXT_LIST_AT, TEXT_SIZE};
 use std::alloc::Global;
 use std::marker::Model;
 use vr_base::{NoMemory, sum_at};
 use vr_disk::COPY_SIZE;
-use vr_header::{HEADER_SIZE, Header, HeaderList, Names, spelled};
+use vr_header::{HEADER_SIZE, Header, HeaderList, NAMED_AT, Names, spelled};
 
 /// What a member keeps in its superblock: numbers, and the headers of the last ops up to the head. It makes a good copy.
 #[derive(Drop)]
 pub struct Super {
     fields: Fields,
     headers: HeaderList,
-    bytes: Vec<u8>,
+    // What a copy has behind its name.
+    text: Vec<u8>,
 }
 
 impl Model for Super {
@@ -31,7 +32,7 @@ impl Model for Super {
 
     ghost view = { λ s. record { fields = s.fields; headers = s.headers } };
 
-    ghost invariant = { λ s. IsSpelled (record { fields = s.fields; headers = s.headers }) s.bytes.items };
+    ghost invariant = { λ s. IsSpelled (record { fields = s.fields; headers = s.headers }) s.text.items };
 }
 
 // How many headers a good copy has.
@@ -89,11 +90,11 @@ impl Super {
         requires { IsGood (record { fields = fields; headers = headers }) }
         ensures { IfOk result (λ s. s ≡ record { fields = fields; headers = headers }) }
     {
-        let bytes = spell(alloc, &fields, headers.as_slice(), old)?;
+        let text = spell(alloc, &fields, headers.as_slice(), old)?;
         Ok(Super {
             fields,
             headers,
-            bytes,
+            text,
         })
     }
 
@@ -106,11 +107,12 @@ impl Super {
         let count = few_at(bytes);
         let (_, list) = bytes.split_at(LIST_AT);
         let headers = read_list(alloc, list, count)?;
-        let copied = Vec::from_slice(alloc, bytes)?;
+        let (_, named) = bytes.split_at(NAMED_AT);
+        let text = Vec::from_slice(alloc, named)?;
         Ok(Super {
             fields: fields_at(bytes),
             headers,
-            bytes: copied,
+            text,
         })
     }
 
@@ -138,20 +140,26 @@ impl Super {
         };
         let at = header.op.saturating_sub(first.op) as usize;
         match self.headers.get(at) {
-            Some(same) if same == *header => header_bytes(&self.bytes, LIST_AT + HEADER_SIZE * at),
+            Some(same) if same == *header => header_bytes(
+                &self.text,
+                TEXT_LIST_AT + HEADER_SIZE * at,
+            ),
             _ => spelled(header, names.name_of(header)),
         }
     }
 
-    // Keeps a header of the list with its name, which stands in the bytes.
+    // Keeps a header of the list with its name, which stands in the text.
     fn tell_name(&self, at: usize, names: &mut Names) {
         match self.headers.get(at) {
-            Some(header) => names.keep(&header, sum_at(&self.bytes, LIST_AT + HEADER_SIZE * at)),
+            Some(header) => names.keep(
+                &header,
+                sum_at(&self.text, TEXT_LIST_AT + HEADER_SIZE * at),
+            ),
             None => {}
         }
     }
 
-    /// Keeps the headers with their names, which stand in the bytes.
+    /// Keeps the headers with their names, which stand in the text.
     pub fn tell_names(&self, names: &mut Names) {
         for at in 0..self.headers.len() {
             self.tell_name(at, names);
@@ -180,12 +188,13 @@ impl Super {
         1 + self.headers.len() as u32 / 4
     }
 
-    // The 10,240 bytes of a copy.
-    pub(crate) fn bytes(&self) -> &[u8]
-        ensures bytes { result.now ≡ copy_bytes self.now }
-        ensures size { length result.now ≡ COPY_SIZE }
+    // What a copy has behind its name.
+    pub(crate) fn text(&self) -> &[u8]
+        ensures text { result.now ≡ named_bytes self.now }
+        ensures copy { copy_of result.now ≡ copy_bytes self.now }
+        ensures size { length result.now ≡ TEXT_SIZE }
         ensures good { IsGood self.now }
     {
-        self.bytes.as_slice()
+        self.text.as_slice()
     }
 }

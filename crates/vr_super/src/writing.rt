@@ -3,45 +3,46 @@ ghost use Rattle.std.specs.Prelude.{◌≡◌, ◌≤◌, ◌<◌, ◌-◌, ◌*
 ghost use Rattle.vr_base.specs.Causes.{HasCause};
 ghost use Rattle.vr_disk.specs.DiskState.{Runs, RunsFrom};
 ghost use Rattle.vr_super.specs.Calls.{mend_calls, mend_from, save_from, write_calls};
-ghost use Rattle.vr_super.specs.Copies.{IsGood, copy_bytes};
+ghost use Rattle.vr_super.specs.Copies.{IsGood, copy_bytes, copy_of};
 ghost use Rattle.vr_super.specs.Laws.{WriteLeads, Written};
 ghost use Rattle.vr_super.specs.Opens.{opens};
 
-use crate::places::{LIST_AT, SEQUENCE_AT};
-use crate::sectors::{mend_unless, write_copy};
+use crate::copies::{mend_unless, write_copy};
+use crate::places::{TEXT_LIST_AT, TEXT_SIZE};
 use crate::{Super, SuperFault};
-use vr_base::{sum_at, u64_at};
-use vr_disk::{COPIES, COPY_SIZE, DiskFailed, DiskFault, Room, SectorDisk};
+use vr_base::sum_at;
+use vr_disk::{COPIES, DiskFailed, DiskFault, Room, SectorDisk};
 use vr_header::{HEADER_SIZE, NAMED_AT};
 
-// Mends each copy that doesn't read as these bytes, of which so many sectors stand in front of zeros.
-fn mend<D: SectorDisk>(disk: &mut D, filled: u32, bytes: &[u8]) -> Result<(), DiskFailed>
-    requires size { length bytes.now ≡ COPY_SIZE }
+// Mends each copy that doesn't read as that of this text, of which so many sectors stand in front of zeros.
+fn mend<D: SectorDisk>(disk: &mut D, filled: u32, text: &[u8]) -> Result<(), DiskFailed>
+    requires size { length text.now ≡ TEXT_SIZE }
     requires least { 1 ≤ filled }
     requires filled { filled ≤ 20 }
-    requires zeros { drop (512 * filled) bytes.now ≡ replicate (512 * (20 - filled)) 0 }
-    ensures runs { RunsFrom (mend_from 0 4 bytes.now) (D.told disk.old) (D.told disk.new) (is_ok result) }
+    requires zeros { drop (512 * filled) (copy_of text.now) ≡ replicate (512 * (20 - filled)) 0 }
+    ensures runs { RunsFrom (mend_from 0 4 (copy_of text.now)) (D.told disk.old) (D.told disk.new) (is_ok result) }
     ensures cause { HasCause (D.faults disk.old) (D.faults disk.new) result }
     ensures reads { D.read_faults disk.old ≤ D.read_faults disk.new }
 {
     for copy in 0..COPIES {
-        mend_unless(disk, copy, filled, bytes)?;
+        mend_unless(disk, copy, filled, text)?;
     }
     Ok(())
 }
 
-// Writes all four copies, of which so many sectors stand in front of zeros.
+// Writes all four copies of this text, of which so many sectors stand in front of zeros.
 #[tactic(auto, using(vr_disk::proofs::Running::Runs_then, vr_disk::proofs::Running::Runs_stopped))]
-fn save<D: SectorDisk>(disk: &mut D, filled: u32, bytes: &[u8]) -> Result<(), DiskFailed>
-    requires size { length bytes.now ≡ COPY_SIZE }
+fn save<D: SectorDisk>(disk: &mut D, filled: u32, text: &[u8]) -> Result<(), DiskFailed>
+    requires size { length text.now ≡ TEXT_SIZE }
+    requires least { 1 ≤ filled }
     requires filled { filled ≤ 20 }
-    requires zeros { drop (512 * filled) bytes.now ≡ replicate (512 * (20 - filled)) 0 }
-    ensures runs { Runs (save_from 0 4 bytes.now) (D.told disk.old) (D.told disk.new) (is_ok result) }
+    requires zeros { drop (512 * filled) (copy_of text.now) ≡ replicate (512 * (20 - filled)) 0 }
+    ensures runs { Runs (save_from 0 4 (copy_of text.now)) (D.told disk.old) (D.told disk.new) (is_ok result) }
     ensures cause { HasCause (D.faults disk.old) (D.faults disk.new) result }
     ensures others { D.read_faults disk.new ≡ D.read_faults disk.old }
 {
     for copy in 0..COPIES {
-        write_copy(disk, copy, filled, bytes)?;
+        write_copy(disk, copy, filled, text)?;
     }
     Ok(())
 }
@@ -52,23 +53,8 @@ pub fn mend_value<D: SectorDisk>(disk: &mut D, value: &Super) -> Result<(), Disk
     ensures cause { HasCause (D.faults disk.old) (D.faults disk.new) result }
     ensures reads { D.read_faults disk.old ≤ D.read_faults disk.new }
 {
-    mend(disk, value.filled(), value.bytes())?;
+    mend(disk, value.filled(), value.text())?;
     Ok(())
-}
-
-// The disk keeps the bytes of a value with their name.
-fn keep_value<D: SectorDisk>(disk: &mut D, value: &Super)
-    ensures told { D.told disk.new ≡ D.told disk.old }
-    ensures faults { D.faults disk.new ≡ D.faults disk.old }
-    ensures reads { D.read_faults disk.new ≡ D.read_faults disk.old }
-{
-    let bytes = value.bytes();
-    let (_, rest) = bytes.split_at(NAMED_AT);
-    disk.keep_name(
-        Room::Value(u64_at(bytes, SEQUENCE_AT)),
-        rest,
-        sum_at(bytes, 0),
-    );
 }
 
 // The disk keeps the bytes of a header of its list with their name.
@@ -79,22 +65,21 @@ fn keep_header<D: SectorDisk>(disk: &mut D, value: &Super, at: usize)
     ensures faults { D.faults disk.new ≡ D.faults disk.old }
     ensures reads { D.read_faults disk.new ≡ D.read_faults disk.old }
 {
-    let bytes = value.bytes();
-    let start = LIST_AT + HEADER_SIZE * at;
+    let text = value.text();
+    let start = TEXT_LIST_AT + HEADER_SIZE * at;
     disk.keep_name(
         Room::Header(value.headers()[at].op),
-        &bytes[start + NAMED_AT..start + HEADER_SIZE],
-        sum_at(bytes, start),
+        &text[start + NAMED_AT..start + HEADER_SIZE],
+        sum_at(text, start),
     );
 }
 
-// The disk keeps what stands in a value with its name: the whole, and each header of its list.
+// The disk keeps each header of a value's list with its name.
 fn keep_names<D: SectorDisk>(disk: &mut D, value: &Super)
     ensures told { D.told disk.new ≡ D.told disk.old }
     ensures faults { D.faults disk.new ≡ D.faults disk.old }
     ensures reads { D.read_faults disk.new ≡ D.read_faults disk.old }
 {
-    keep_value(disk, value);
     for at in 0..value.headers().len() {
         keep_header(disk, value, at);
     }
@@ -112,13 +97,12 @@ fn keep_new_header<D: SectorDisk>(disk: &mut D, old: &Super, value: &Super, at: 
     }
 }
 
-// The disk keeps what stands in a value with its name: the whole, and each header that the old value doesn't have.
+// The disk keeps each header of a value's list with its name, but those that the old value has.
 fn keep_new_names<D: SectorDisk>(disk: &mut D, old: &Super, value: &Super)
     ensures told { D.told disk.new ≡ D.told disk.old }
     ensures faults { D.faults disk.new ≡ D.faults disk.old }
     ensures reads { D.read_faults disk.new ≡ D.read_faults disk.old }
 {
-    keep_value(disk, value);
     for at in 0..value.headers().len() {
         keep_new_header(disk, old, value, at);
     }
@@ -131,7 +115,7 @@ pub fn write_copies<D: SectorDisk>(disk: &mut D, value: &Super) -> Result<(), Di
     ensures others { D.read_faults disk.new ≡ D.read_faults disk.old }
 {
     keep_names(disk, value);
-    save(disk, value.filled(), value.bytes())?;
+    save(disk, value.filled(), value.text())?;
     Ok(())
 }
 
@@ -144,10 +128,10 @@ fn write_value<D: SectorDisk>(disk: &mut D, old: &Super, new: &Super) -> Result<
     ensures stop { IfSome (D.told disk.old) (λ d. d.face.waiting ≡ [] → opens d.face ≡ Some old.now → WriteLeads old.now new.now d.face) }
     ensures good { IsGood new.now }
 {
-    let bytes = new.bytes();
+    let text = new.text();
     keep_new_names(disk, old, new);
-    mend(disk, old.filled(), old.bytes())?;
-    save(disk, new.filled(), bytes)?;
+    mend(disk, old.filled(), old.text())?;
+    save(disk, new.filled(), text)?;
     Ok(())
 }
 

@@ -2,13 +2,14 @@ use Rattle.std.proofs.Common.{◌∙◌, ◌+◌, ◌-◌, ◌<◌, ◌≤◌, a
 use Rattle.std.proofs.lemmas.Result.{err_from_is_err_and}
 use Rattle.vr_disk.proofs.Running.{Runs_then, Runs_stopped, runs_nothing}
 use Rattle.vr_super.specs.Calls.{copy_calls, save_from}
+use Rattle.vr_super.specs.Copies.{copy_of}
 use Rattle.vr_super.proofs.Steps.{save_past, save_step}
 use Rattle.vr_super.proofs.writing.save.Goals as goal
 
 pub loop-copy-preserved : goal.loop-copy-preserved
 loop-copy-preserved g c =
     let k = c.loop-copy.copy in
-    let bytes = c.args.bytes.now in
+    let bytes = copy_of c.args.text.now in
     let l : k < 4 = omega arith in
     record {
       runs = λ new ok h. c.loop-copy.invariant.runs new ok (rw (save_step k bytes l) (Runs_then (copy_calls k bytes) (save_from (k + 1) (4 - (k + 1)) bytes) _ _ _ _ c.in_ok-write_copy.ensures.runs h));
@@ -20,7 +21,7 @@ pub returns-in_err-write_copy-clause-runs : goal.returns-in_err-write_copy-claus
 returns-in_err-write_copy-clause-runs g c =
     let p = err_from_is_err_and c.from_residual.result c.from_residual.ensures.1 in
     let k = c.loop-copy.copy in
-    let bytes = c.args.bytes.now in
+    let bytes = copy_of c.args.text.now in
     let l : k < 4 = omega arith in
     rw p.1 (c.loop-copy.invariant.runs _ _ (rw (save_step k bytes l) (Runs_stopped (copy_calls k bytes) (save_from (k + 1) (4 - (k + 1)) bytes) _ _ c.in_err-write_copy.ensures.runs)))
 
@@ -28,4 +29,4 @@ pub returns-clause-runs : goal.returns-clause-runs
 returns-clause-runs g c =
     let k = c.loop-copy.copy in
     let l : 4 ≤ k = omega arith in
-    c.loop-copy.invariant.runs _ _ (rw (save_past k c.args.bytes.now l) (runs_nothing (g.D.SectorDisk.told c.loop-copy.disk)))
+    c.loop-copy.invariant.runs _ _ (rw (save_past k (copy_of c.args.text.now) l) (runs_nothing (g.D.SectorDisk.told c.loop-copy.disk)))

@@ -16,7 +16,7 @@ invariant_of-result c =
     let b = c.args.bytes.now in
     let hs = c.in_ok-headers.headers in
     let h : (f : Fields) (op : ℕ) (all : List Header) → list_at f op (count_at b) (drop 128 b) ≡ Some all → hs ≡ all = rw (c.few_at-count.ensures.count, c.split_at.ensures.back) at c.in_ok-headers.ensures in
-    rw (c.in_ok-copied.ensures.items, c.fields_at.ensures) (read_is b _ (λ i. omega (arith, c.type_inv.bytes i)) c.requires.size (value_is b hs c.requires.good h))
+    rw (c.in_ok-text.ensures.items, c.split_at-2.ensures.back, c.fields_at.ensures) (read_is b _ (λ i. omega (arith, c.type_inv.bytes i)) (value_is b hs c.requires.good h))
 
 pub returns : goal.returns
 returns c =

@@ -34,4 +34,4 @@ returns-in-Some-get c =
     let v : SuperValue = record { fields = c.self.inside.fields; headers = c.self.inside.headers } in
     let same = same_header_is c.in-Some-get.same c.args.header.now (sym c.eq.ensures ∙ c.if-eq.true) in
     c.header_bytes.ensures
-    ∙ (ap (piece (128 + 128 * i) 128) (c.deref.ensures.value ∙ c.self.invariant.spelled) ∙ (header_stands v i c.in-Some-get.same c.self.invariant.good (sym c.get-2.ensures ∙ c.in-Some-get.is) ∙ ap header_bytes same))
+    ∙ (ap (piece (112 + 128 * i) 128) (c.deref.ensures.value ∙ c.self.invariant.spelled) ∙ (header_stands v i c.in-Some-get.same c.self.invariant.good (sym c.get-2.ensures ∙ c.in-Some-get.is) ∙ ap header_bytes same))

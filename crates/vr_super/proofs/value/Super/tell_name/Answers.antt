@@ -29,4 +29,4 @@ pub keep-requires : goal.keep-requires
 keep-requires c =
     let v : SuperValue = record { fields = c.self.inside.fields; headers = c.self.inside.headers } in
     let made : List ℕ → Sum = λ x. record { 0 = x } in
-    ap made (c.sum_at.ensures ∙ (ap (piece (128 + 128 * c.args.at) 16) (c.deref.ensures.value ∙ c.self.invariant.spelled) ∙ name_stands v c.args.at c.in-Some.header c.self.invariant.good (sym c.get.ensures ∙ c.in-Some.is)))
+    ap made (c.sum_at.ensures ∙ (ap (piece (112 + 128 * c.args.at) 16) (c.deref.ensures.value ∙ c.self.invariant.spelled) ∙ name_stands v c.args.at c.in-Some.header c.self.invariant.good (sym c.get.ensures ∙ c.in-Some.is)))
