@@ -11,7 +11,6 @@ use Rattle.vr_disk.specs.Regions.{sectors}
 use Rattle.vr_disk.proofs.Faces.{face_after, face_settled}
 use Rattle.vr_mem.specs.Seen.{copies, once, zero_cell}
 use Rattle.vr_mem.proofs.Room.{once_push, room_left}
-use Rattle.vr_mem.proofs.Settling.{waiting_below}
 use Rattle.vr_embed.specs.declared.sectors.Sectors.{Sectors}
 use Rattle.vr_embed.specs.declared.sectors.Slot.{Slot}
 use Rattle.vr_embed.specs.declared.sectors.Unsynced.{Unsynced}
@@ -31,6 +30,9 @@ below_from n [] h = tt
 below_from n (w ∷ ws) h = (h.0, below_from n ws h.1)
 
 -- each that waits is a sector
+waiting_below : (n : ℕ) (ws : List Waiting) → All IsWaiting ws → n ≡ sectors → All (λ (w : Waiting). w.index < n) ws
+waiting_below n ws h e = λ k d l. (let i = (h k d l).index in omega arith)
+
 pub unsynced_below : (n : ℕ) (ws : List Unsynced) → All IsWaiting (map waiting_of ws) → n ≡ sectors → All (λ (w : Unsynced). w.index < n) ws
 unsynced_below n ws h e = All-from_recursion (λ (w : Unsynced). w.index < n) ws (below_from n ws (recursion_from_All (λ (w : Waiting). w.index < n) (map waiting_of ws) (waiting_below n (map waiting_of ws) h e)))
 

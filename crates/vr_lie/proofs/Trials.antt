@@ -33,6 +33,10 @@ undone_told d m e g h a b was back w l n x y p q i j k t =
     let c = w.count in
     h' ∙ ap (with_face d) (undone d.face a b was back (omega arith) (omega arith) x y p q)
 
+-- what a sector reads as on a disk that tells the same
+pub same_seen : (d m : Disk) (w : Lie) → m ≡ d → shown m.face w ≡ m.face → shown d.face w ≡ d.face
+same_seen d m w e s = subst (λ (x : Disk). shown x.face w ≡ x.face) e s
+
 pub tried : (d m e g : Disk) (a b : Lie) → m ≡ d → e ≡ record m { face = both m.face a b } → g ≡ e → g.face ≡ both d.face a b
 tried d m e g a b i j k = ap (λ (g : Disk). g.face) (k ∙ j) ∙ ap (λ (m : Disk). both m.face a b) i
 

@@ -17,4 +17,4 @@ abbrev pub version_by : LieDisk → ℕ
 version_by m = m.version
 
 pub told_is_whole : (m : LieDisk) → IfSome (Some (told_by m)) (λ d. IsFace d.face)
-told_is_whole m = m.disk.sectors.face
+told_is_whole m = m.disk.sectors.whole

@@ -3,6 +3,7 @@ ghost use Rattle.std.specs.Prelude.{◌≡◌, ◌≤◌, ◌<◌, ◌*◌, None
 ghost use Rattle.std.specs.Cmp.Lexicographic.{pointwise};
 ghost use Rattle.vr_base.specs.Bytes.{piece};
 ghost use Rattle.vr_disk.specs.DiskState.{Sync, Write, after, settle};
+ghost use Rattle.vr_disk.specs.Fronts.{front};
 ghost use Rattle.vr_lie.specs.Faults.{HeldAfter, HeldLooked, held_at};
 ghost use Rattle.vr_rings.specs.Held.{found, header_sector, held_after, held_begun, is_prepare, keeps, kept, looked};
 ghost use Rattle.vr_rings.specs.Readings.{Begins};
@@ -12,9 +13,10 @@ ghost use Rattle.vr_lie.specs.Table.{HeldBegun, HeldCut, IsOwnHeader, IsTable, h
 ghost use Rattle.vr_mem.specs.Cells.{disk_of};
 
 use crate::reading::{begins_alike, ends_first, has_header, is_prepare, read_first};
-use vr_base::{Version, is_zeros, u32_at};
+use vr_base::{Version, checksum, is_zeros, u32_at};
 use vr_disk::{
-    SECTOR_SIZE, SECTORS, SLOTS, Sector, header_place, prepare_place, prepare_sectors, sector_at,
+    Room, SECTOR_SIZE, SECTORS, SLOTS, Sector, SectorDisk, front_sector, header_place,
+    prepare_place, prepare_sectors, sector_at,
 };
 use vr_mem::CellDisk;
 use vr_rings::{PREPARE_SIZE, SIZE_AT, header_sector, read_bytes, read_front, whole_front};
@@ -362,6 +364,54 @@ pub fn put(disk: &mut CellDisk, held: &mut [Held], i: u32, from: &Sector, versio
         Some(slot) => put_in(disk, held, slot, i, from, version),
         None => disk.put(i, from),
     }
+}
+
+/// A write of the name of a text, and of the text behind it as far as it fits, that goes through.
+pub fn put_front(
+    disk: &mut CellDisk,
+    held: &mut [Held],
+    i: u32,
+    room: Room,
+    text: &[u8],
+    version: Version,
+)
+    requires i { i < SECTORS }
+    requires size { 496 ≤ length text.now }
+    requires table { IsTable version (disk_of disk.old).face (table_of held.old) }
+    ensures told { disk_of disk.new ≡ record (disk_of disk.old) { face = after (disk_of disk.old).face (Write i (front text.now)) } }
+    ensures faults { disk.new.faults ≡ disk.old.faults }
+    ensures held { HeldAfter version (disk_of disk.old).face (Write i (front text.now)) (table_of held.old) (table_of held.new) }
+    ensures table { IsTable version (disk_of disk.new).face (table_of held.new) }
+{
+    match slot_of(i, version) {
+        Some(slot) => {
+            let sector = front_sector(checksum(text), text);
+            put_in(disk, held, slot, i, &sector, version);
+        }
+        None => disk.put_front(i, room, text),
+    }
+}
+
+/// A write of the name of a text, and of the text behind it as far as it fits, that is cut by this code.
+pub fn cut_put_front(
+    disk: &mut CellDisk,
+    held: &mut [Held],
+    i: u32,
+    room: Room,
+    text: &[u8],
+    code: u64,
+    version: Version,
+)
+    requires i { i < SECTORS }
+    requires size { 496 ≤ length text.now }
+    requires table { IsTable version (disk_of disk.old).face (table_of held.old) }
+    ensures told { disk_of disk.new ≡ record (disk_of disk.old) { face = settle code (after (disk_of disk.old).face (Write i (front text.now))) } }
+    ensures faults { disk.new.faults ≡ disk.old.faults }
+    ensures held { HeldCut version code (disk_of disk.old).face (Write i (front text.now)) (table_of held.old) (table_of held.new) }
+    ensures table { IsTable version (disk_of disk.new).face (table_of held.new) }
+{
+    let name = disk.name_of(room, text);
+    cut_put(disk, held, i, &front_sector(name, text), code, version);
 }
 
 // Begins to write a sector of a slot, which the code then settles.

@@ -2,6 +2,7 @@
 ghost use Rattle.std.specs.Prelude.{◌≡◌, ◌-◌, ◌<◌, ◌≤◌, [], ◌∷◌, Some, IfOk, length, replicate};
 ghost use Rattle.vr_base.specs.Bytes.{name_of};
 ghost use Rattle.vr_disk.specs.DiskState.{Attaches, Runs, Sync, Write, reads};
+ghost use Rattle.vr_disk.specs.Fronts.{front};
 ghost use Rattle.vr_disk.specs.Sectors.{has};
 ghost use Rattle.vr_lie.specs.Faults.{IsFault};
 ghost use Rattle.vr_lie.specs.Told.{version_by};
@@ -116,6 +117,23 @@ impl SectorDisk for HostDisk {
         ensures { Calls (Runs (Write i from.now.bytes ∷ [])) self.old self.new result }
     {
         self.lie.write(i, from)
+    }
+
+    fn write_front(&mut self, i: u32, room: Room, text: &[u8]) -> Result<(), DiskFailed>
+        requires i { i < SECTORS }
+        requires size { 496 ≤ length text.now }
+        ensures { Calls (Runs (Write i (front text.now) ∷ [])) self.old self.new result }
+    {
+        self.lie.write_front(i, room, text)
+    }
+
+    fn reads_front(&mut self, i: u32, room: Room, text: &[u8]) -> bool
+        requires i { i < SECTORS }
+        requires size { 496 ≤ length text.now }
+        ensures value { result ≡ has (front text.now) (reads (told_by self.old).face i) }
+        ensures same { Tells (told_by self.old) self.old self.new }
+    {
+        self.lie.reads_front(i, room, text)
     }
 
     fn sync(&mut self) -> Result<(), DiskFailed>

@@ -1,7 +1,12 @@
+pub mod Cutting
+pub mod Faces
 pub mod Honest
 pub mod Made
+pub mod Marks
+pub mod Named
 pub mod Noted
 pub mod Places
+pub mod Plain
 pub mod Room
 pub mod Settling
 pub mod Shelves

@@ -1,21 +1,20 @@
-use Rattle.std.proofs.Common.{ℕ, suc, ◌+◌, ◌/◌, ◌%◌, ◌≤◌, ◌<◌, ◌≡◌, arith, refl, sym, ap, ◌∙◌, true, false, cond, eqb, not, ◌++◌, inl, inr, List, Option, None, Some, length-set, get_or-set_other, get_or-set_same, [], ◌∷◌, length, get_or, set, drop, drop-cons, add-one}
+use Rattle.std.proofs.Common.{ℕ, suc, ◌+◌, ◌/◌, ◌%◌, ◌≤◌, ◌<◌, ◌≡◌, arith, refl, sym, ap, ◌∙◌, true, false, cond, eqb, not, ◌++◌, inl, inr, List, Option, None, get_or-set_other, get_or-set_same, [], ◌∷◌, length, get_or, set, drop, drop-cons, add-one}
 use Rattle.std.specs.Prelude.{map}
 use Rattle.std.proofs.lemmas.List.{drop_all, get_or-map, length-map, map-set}
 use Rattle.std.specs.List.{All}
-use Rattle.std.proofs.lemmas.List.Elements.{All-set}
+use Rattle.std.proofs.lemmas.List.Elements.{All-push}
 use Rattle.std.proofs.lemmas.Bool.{and_parts, cases_eq, cond_both, not-true}
 use Rattle.vr_disk.specs.Regions.{sectors}
-use Rattle.vr_disk.specs.DiskState.{Cell, Face, IsCell, IsContent, IsFace, Waiting, Write, after, cell, digit_at, IsWaiting, blank, noted, settled, settled_cell, waits}
+use Rattle.vr_disk.specs.DiskState.{Cell, Face, Waiting, Write, after, cell, digit_at, blank, noted, settled, settled_cell, waits}
 use Rattle.vr_mem.specs.declared.cells.MemKept.{MemKept}
 use Rattle.vr_mem.specs.declared.cells.MemRoom.{MemRoom}
 use Rattle.vr_mem.specs.declared.cells.MemWaits.{MemWaits}
 use Rattle.vr_mem.specs.declared.cells.MemWaiting.{MemWaiting}
-use Rattle.vr_disk.proofs.Faces.{face_after, there}
 use Rattle.vr_mem.specs.declared.cells.MemFace.{MemFace}
 use Rattle.vr_mem.specs.Lies.{lied}
 use Rattle.vr_mem.specs.Seen.{AreRooms, AreWaits, IsMemFace, blank_room, face_of, hidden, noted_of, once, room_of, waiting_in, waiting_of, was_of}
 use Rattle.vr_mem.proofs.Room.{once_push}
-use Rattle.vr_mem.proofs.Places.{seen_here}
+use Rattle.vr_mem.proofs.Places.{length_seen, seen_here}
 use Rattle.vr_mem.proofs.Waits.{apart, is_in, once_of}
 
 pub same_face : (a b : List Cell) (p q : List Waiting) → a ≡ b → p ≡ q → let f : Face = record { cells = a; waiting = p } in let g : Face = record { cells = b; waiting = q } in f ≡ g
@@ -46,9 +45,6 @@ once_behind kept ws i d xs ys l o =
     let parts = and_parts (not (waits (get_or ws i d).index (waiting_of kept xs rest))) (once (waiting_of kept xs rest)) (rw (drop-cons ws i d) at o) in
     rw add-one (once_of kept ys xs rest ∙ parts.1)
 
-pub waiting_below : (n : ℕ) (ws : List Waiting) → All IsWaiting ws → n ≡ sectors → All (λ (w : Waiting). w.index < n) ws
-waiting_below n ws h e = λ k d l. (let i = (h k d l).index in omega arith)
-
 pub waits_below : (n : ℕ) (kept : List MemKept) (xs : List MemRoom) (ws : List MemWaiting) → All (λ (w : Waiting). w.index < n) (waiting_of kept xs ws) → All (λ (w : MemWaiting). w.index < n) ws
 waits_below n kept xs ws h = λ k d l.
     (let t : (get_or (waiting_of kept xs ws) k (noted_of kept xs d)).index < n = h k (noted_of kept xs d) (rw length-map l) in
@@ -60,37 +56,38 @@ none_wait : (f : MemFace) → f.waits.notes.items ≡ [] → (face_of f).waiting
 none_wait f e = rw e refl
 
 -- a disk of which nothing waits
-pub settled_is : (f : MemFace) → IsFace (face_of f) → f.waits.notes.items ≡ [] → AreRooms f.rooms → AreWaits f.waits → IsMemFace f
-settled_is f h n r w = record { face = h; rooms = r; once = rw (none_wait f n) refl; waits = w }
+pub settled_is : (f : MemFace) → f.waits.notes.items ≡ [] → AreRooms f.rooms → AreWaits f.waits → IsMemFace f
+settled_is f n r w = record { count = length_seen f.rooms r; waiting = rw (none_wait f n) (λ k d l. absurd (omega arith)); rooms = r; once = rw (none_wait f n) refl; waits = w }
 
 -- a sector that is noted
 once_noted : (ws : List Waiting) (i : ℕ) (c : Cell) → once ws ≡ true → once (noted ws i c) ≡ true
 once_noted ws i c o = cond_both (waits i ws) ws (ws ++ record { index = i; was = c } ∷ []) (λ ws. once ws ≡ true) (λ _. o) (λ f. once_push ws (record { index = i; was = c }) o f)
 
+abbrev IsBelow : Waiting → Type 0
+IsBelow w = w.index < sectors
+
+noted_below : (ws : List Waiting) (i : ℕ) (c : Cell) → All IsBelow ws → i < sectors → All IsBelow (noted ws i c)
+noted_below ws i c h l = cond_both (waits i ws) ws (ws ++ record { index = i; was = c } ∷ []) (All IsBelow) (λ _. h) (λ _. All-push IsBelow ws (record { index = i; was = c }) h l)
+
 -- a disk with a sector written
-pub written_is : (old new : MemFace) (i : ℕ) (bytes : List ℕ) → IsMemFace old → i < sectors → IsContent bytes → face_of new ≡ after (face_of old) (Write i bytes) → AreRooms new.rooms → AreWaits new.waits → IsMemFace new
-written_is old new i bytes h l n same r p =
+pub written_is : (old new : MemFace) (i : ℕ) (bytes : List ℕ) → IsMemFace old → i < sectors → face_of new ≡ after (face_of old) (Write i bytes) → AreRooms new.rooms → AreWaits new.waits → IsMemFace new
+written_is old new i bytes h l same r p =
     let ws = (face_of old).waiting in
     let w : (face_of new).waiting ≡ noted ws i (cell (face_of old) i) = ap (λ (f : Face). f.waiting) same in
     record {
-      face = rw same (face_after (face_of old) (Write i bytes) h.face (l, n));
+      count = length_seen new.rooms r;
+      waiting = rw w (noted_below ws i (cell (face_of old) i) h.waiting l);
       rooms = r;
       once = rw w (once_noted ws i (cell (face_of old) i) h.once);
       waits = p;
     }
 
--- a sector that reads as something else
-lied_face : (f : Face) (i : ℕ) (r : Option (List ℕ)) → IsFace f → i < sectors → ((b : List ℕ) → r ≡ Some b → IsContent b) → IsFace (lied f i r)
+-- a disk of which a sector reads as something else
+pub lied_is : (old new : MemFace) (i : ℕ) (r : Option (List ℕ)) → IsMemFace old → face_of new ≡ lied (face_of old) i r → AreRooms new.rooms → AreWaits new.waits → IsMemFace new
 unfolding lied
-lied_face f i r h l n =
-    let was = there f i h l in
-    record { count = length-set f.cells i (record (cell f i) { reads = r }) ∙ h.count; cells = All-set IsCell f.cells i (record (cell f i) { reads = r }) (record { truth = was.truth; reads = n; before = was.before }) h.cells; waiting = h.waiting }
-
-pub lied_is : (old new : MemFace) (i : ℕ) (r : Option (List ℕ)) → IsMemFace old → i < sectors → ((b : List ℕ) → r ≡ Some b → IsContent b) → face_of new ≡ lied (face_of old) i r → AreRooms new.rooms → AreWaits new.waits → IsMemFace new
-unfolding lied
-lied_is old new i r h l n same m p =
+lied_is old new i r h same m p =
     let x : (face_of new).waiting ≡ (face_of old).waiting = ap (λ (f : Face). f.waiting) same in
-    record { face = rw same (lied_face (face_of old) i r h.face l n); rooms = m; once = rw x h.once; waits = p }
+    record { count = length_seen new.rooms m; waiting = rw x h.waiting; rooms = m; once = rw x h.once; waits = p }
 
 was_hidden : (kept : List MemKept) (w : MemWaiting) (room : MemRoom) → was_of kept w (hidden room) ≡ was_of kept w room
 unfolding was_of

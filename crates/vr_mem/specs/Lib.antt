@@ -1,5 +1,6 @@
 pub mod Cells
 pub mod Honesty
 pub mod Lies
+pub mod Owed
 pub mod Seen
 pub mod Told

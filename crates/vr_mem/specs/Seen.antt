@@ -3,11 +3,12 @@ use Rattle.std.specs.List.{All, count_by, list_any}
 use Rattle.std.specs.Option.{is_none}
 use Rattle.std.specs.Vec.{vec_capacity}
 use Rattle.std.specs.Prelude.{◌==◌, ◌&&◌, ◌≡◌, ◌≤◌, ◌<◌, ◌+◌, Bool, true, not, if◌then◌else◌, ℕ, List, [], ◌∷◌, length, map, replicate, Option, Some, None, slice_index_or, slice_set}
-use Rattle.vr_disk.specs.DiskState.{Cell, Waiting, Face, IsFace, Fate, Fuse, CallVerdict, Goes, Fails, Cuts, written}
+use Rattle.vr_disk.specs.DiskState.{Cell, Waiting, Face, Fate, Fuse, CallVerdict, Goes, Fails, Cuts, written}
 use Rattle.vr_disk.specs.Regions.{sectors}
 use Rattle.vr_disk.specs.declared.sector.Sector.{Sector}
+use Rattle.vr_mem.specs.declared.bytes.Mark.{Mark}
+use Rattle.vr_mem.specs.declared.bytes.Mark.TheVariants as mark
 use Rattle.vr_mem.specs.declared.bytes.MemBytes.{MemBytes}
-use Rattle.vr_mem.specs.declared.cells.MemCell.{MemCell}
 use Rattle.vr_mem.specs.declared.cells.MemReads.{MemReads}
 use Rattle.vr_mem.specs.declared.cells.MemReads.TheVariants as r
 use Rattle.vr_mem.specs.declared.cells.MemRoom.{MemRoom}
@@ -29,22 +30,34 @@ abbrev pub reads_of : Option Sector → Option (List ℕ)
 reads_of None = None
 reads_of (Some s) = Some s.bytes
 
-abbrev pub cell_of : MemCell → Cell
-cell_of c = record { truth = c.truth.bytes; reads = reads_of c.reads; before = c.before.bytes }
-
 -- so many copies of an item
 unfoldable pub copies : {X : Type 0} → ℕ → X → List X
 copies n x = replicate n x
 
+-- bytes with their mark: those that stand for another content are none that can be written as they are
+abbrev pub marked : Mark → List ℕ → List ℕ
+marked mark.Plain bytes = bytes
+marked mark.Owed bytes = map (λ b. b + 256) bytes
+
+-- zeros are plain
+abbrev pub mark_of : MemBytes → Mark
+mark_of m = if m.zeros then mark.Plain else m.mark
+
 -- what it holds: zeros are only noted
 unfoldable pub bytes_of : MemBytes → List ℕ
-bytes_of m = if m.zeros then copies 512 0 else m.sector.bytes
+bytes_of m = if m.zeros then copies 512 0 else marked m.mark m.sector.bytes
 
 -- what a sector reads as, by what it should hold and its lie
 abbrev pub reads_by : MemReads → List ℕ → List ℕ → Option (List ℕ)
 reads_by r.Truth truth lie = Some truth
 reads_by r.Lie truth lie = Some lie
 reads_by r.Nothing truth lie = None
+
+-- the mark of what a sector reads as, by that of what it should hold: a lie has none
+abbrev pub mark_by : MemReads → Mark → Mark
+mark_by r.Truth truth = truth
+mark_by r.Lie truth = mark.Plain
+mark_by r.Nothing truth = mark.Plain
 
 -- of three shelves
 abbrev pub by_shelf : {X : Type 0} → Shelf → X → X → X → X
@@ -68,6 +81,10 @@ put_on m s x = record m { one = by_shelf s x m.one m.one; two = by_shelf s m.two
 
 unfoldable pub room_of : MemRoom → Cell
 room_of m = record { truth = held_on m m.truth_on; reads = reads_by m.reads (held_on m m.truth_on) m.lie.bytes; before = held_on m m.before_on }
+
+-- the mark of what it reads as
+abbrev pub read_mark_of : MemRoom → Mark
+read_mark_of m = mark_by m.reads (mark_of (on m m.truth_on))
 
 -- it reads as something else
 abbrev pub shown : MemRoom → List ℕ → MemRoom
@@ -118,7 +135,7 @@ was_of kept w room = was_by w.reads (kept_by w.kept kept (copied w room))
 unfoldable pub blank_room : MemRoom
 blank_room =
     let zeros : Sector = record { bytes = copies 512 0 } in
-    let none : MemBytes = record { zeros = true; sector = zeros } in
+    let none : MemBytes = record { zeros = true; mark = mark.Plain; sector = zeros } in
     record { truth_on = shelf.One; before_on = shelf.One; reads = r.Truth; one = none; two = none; three = none; lie = zeros }
 
 abbrev pub noted_of : List MemKept → List MemRoom → MemWaiting → Waiting
@@ -151,6 +168,10 @@ seen m = map room_of (rooms_of m)
 
 abbrev pub face_of : MemFace → Face
 face_of f = record { cells = seen f.rooms; waiting = waiting_in f.waits (rooms_of f.rooms) }
+
+-- the mark of what a sector reads as
+abbrev pub read_mark_at : MemFace → ℕ → Mark
+read_mark_at f i = read_mark_of (room_at f.rooms i)
 
 abbrev pub fuse_of : Option MemFuse → Option Fuse
 fuse_of None = None
@@ -206,7 +227,8 @@ pub record Keeps (old new : MemWaits) (index : ℕ) (room : MemRoom) : Type 0 wh
 
 -- 3,984 sectors, each of which can wait
 pub record IsMemFace (f : MemFace) : Type 0 where
-  pub face : IsFace (face_of f)
+  pub count : length (face_of f).cells ≡ sectors
+  pub waiting : All (λ w. w.index < sectors) (face_of f).waiting
   pub rooms : AreRooms f.rooms
   pub once : once (face_of f).waiting ≡ true
   pub waits : AreWaits f.waits

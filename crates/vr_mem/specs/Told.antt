@@ -9,7 +9,7 @@ abbrev pub told_by : MemDisk → Disk
 told_by m = disk_of m.disk
 
 pub told_is_whole : (m : MemDisk) → IfSome (Some (told_by m)) (λ d. IsFace d.face)
-told_is_whole m = m.disk.sectors.face
+told_is_whole m = m.disk.sectors.whole
 
 -- each sector reads as what it should hold
 abbrev pub Honest : Type 0

@@ -1,29 +1,44 @@
 //! A disk in memory whose sectors may read as something else than they should hold.
-ghost use Rattle.std.specs.Prelude.{◌≡◌, ◌-◌, ◌≤◌, ◌<◌, Some, None, false, [], IfOk, is_ok};
+ghost use Rattle.std.specs.Prelude.{◌≡◌, ◌-◌, ◌≤◌, ◌<◌, ℕ, List, length, Some, None, false, true, [], IfOk, IfSome, is_ok};
 ghost use Rattle.std.specs.Option.{option_map};
 ghost use Rattle.vr_base.specs.Causes.{HasCause};
 ghost use Rattle.vr_disk.specs.DiskState.{Sync, Write, after, cell, digit_at, judged, nothing_beside, settle, reads};
+ghost use Rattle.vr_disk.specs.Fronts.{front};
 ghost use Rattle.vr_mem.specs.Lies.{lied};
-ghost use Rattle.vr_mem.specs.Seen.{IsMemFace, cell_of, copies, call_verdict, zero_cell};
+ghost use Rattle.vr_mem.specs.Owed.{AreFree, AreSectors, IsFree, is_front, named, stands_for, text_of};
+ghost use Rattle.vr_mem.specs.Seen.{bytes_of, call_verdict, copies, face_of, zero_cell};
 
-use crate::cells::{MemCell, MemFace};
+use crate::bytes::{Mark, MemBytes};
+use crate::cells::MemFace;
 use crate::fate::{MemFate, MemFuse, MemVerdict};
 use crate::name::DiskName;
+use crate::owed::{Number, OWED_TEXT, Owed};
 use std::alloc::Global;
 use vr_base::{NoMemory, Sum};
-use vr_disk::{DiskFailed, Memo, NAME_MOST, Room, SECTORS, Sector, SectorDisk};
+use vr_disk::{
+    COPIES, COPY_SECTORS, DiskFailed, Memo, NAME_MOST, Room, SECTORS, Sector, SectorDisk, ZEROS,
+    front_sector,
+};
 
 /// A disk of 3,984 sectors in memory, by whatever name it is attached. A read gives what the sector reads as, and fails where
 /// it can't be read.
 #[derive(Drop)]
 pub struct CellDisk {
     face: MemFace,
+    owed: Owed,
     fate: MemFate,
     faults: u64,
     read_faults: u64,
     memo: Memo,
     name: DiskName,
-    ghost sectors: { IsMemFace face },
+    ghost sectors: { AreSectors owed face },
+}
+
+// Whether a copy of the superblock begins with this sector.
+fn is_front(i: u32) -> bool
+    ensures { result ≡ is_front i }
+{
+    i < COPIES * COPY_SECTORS && i % COPY_SECTORS == 0
 }
 
 impl CellDisk {
@@ -39,6 +54,7 @@ impl CellDisk {
     {
         Ok(CellDisk {
             face: MemFace::new(alloc)?,
+            owed: Owed::new(alloc)?,
             fate: MemFate {
                 fuse: None,
                 made: 0,
@@ -88,17 +104,34 @@ impl CellDisk {
         self.fate.dead = false;
     }
 
-    /// A sector.
-    pub fn cell(&self, i: u32) -> MemCell
-        requires { i < SECTORS }
-        ensures { cell (disk_of self.now).face i ≡ cell_of result }
+    // What a content is.
+    fn made(&self, content: &MemBytes) -> Sector
+        ensures { result.bytes ≡ named self.now.owed (bytes_of content.now) }
     {
-        self.face.cell(i)
+        self.owed.made(content.mark(), &content.raw().bytes)
     }
 
-    /// What a sector reads as, `None` where it can't be read.
-    pub fn reading(&self, i: u32) -> Option<&Sector>
+    /// What a sector should hold. Where its name is owed, it is made.
+    pub fn truth(&self, i: u32) -> Sector
         requires { i < SECTORS }
+        ensures { result.bytes ≡ (cell (disk_of self.now).face i).truth }
+    {
+        self.made(self.face.truth(i))
+    }
+
+    /// What a sector held before its last write. Where its name is owed, it is made.
+    pub fn before(&self, i: u32) -> Sector
+        requires { i < SECTORS }
+        ensures { result.bytes ≡ (cell (disk_of self.now).face i).before }
+    {
+        self.made(self.face.before(i))
+    }
+
+    /// What a sector reads as, `None` where it can't be read. Those of the superblock are read by `read` and `reads_as`, since a
+    /// name may be still to be made there.
+    pub fn reading(&self, i: u32) -> Option<&Sector>
+        requires own { 80 ≤ i }
+        requires within { i < SECTORS }
         ensures { option_map (λ s. s.now.bytes) result ≡ reads (disk_of self.now).face i }
     {
         self.face.reading(i)
@@ -141,7 +174,139 @@ impl CellDisk {
         ensures faults { self.new.faults ≡ self.old.faults }
         ensures read_faults { self.new.read_faults ≡ self.old.read_faults }
     {
-        self.face.write(i, from);
+        self.face.write(i, Mark::Plain, from);
+    }
+
+    // Whether no content of a sector stands for the text of this number.
+    fn is_free_at(&self, i: u32, number: Number) -> bool
+        requires { i < SECTORS }
+        ensures { result ≡ true → IsFree number (cell (face_of self.now.face) i) }
+    {
+        let truth = self.face.truth(i);
+        let before = self.face.before(i);
+        !number.stands(truth.mark(), &truth.raw().bytes)
+            && !number.stands(before.mark(), &before.raw().bytes)
+            && !self.reads_by(i, number)
+    }
+
+    // Whether a sector reads as what stands for the text of this number.
+    fn reads_by(&self, i: u32, number: Number) -> bool
+        requires { i < SECTORS }
+        ensures { result ≡ false → (x : List ℕ) → reads (face_of self.now.face) i ≡ Some x → stands_for number x ≡ false }
+    {
+        match self.face.reading(i) {
+            Some(sector) => number.stands(self.face.read_mark(i), &sector.bytes),
+            None => false,
+        }
+    }
+
+    // Whether no sector that begins a copy of the superblock stands for the text of this number.
+    fn is_free(&self, number: Number) -> bool
+        ensures { result ≡ true → AreFree number (face_of self.now.face) }
+    {
+        self.is_free_at(0, number)
+            && self.is_free_at(COPY_SECTORS, number)
+            && self.is_free_at(2 * COPY_SECTORS, number)
+            && self.is_free_at(3 * COPY_SECTORS, number)
+    }
+
+    // A number whose text no sector stands for, `None` where there may be none.
+    fn free_number(&self) -> Option<Number>
+        ensures free { IfSome result (λ k. AreFree k (face_of self.now.face)) }
+        ensures waiting { IfSome result (λ k. (face_of self.now.face).waiting ≡ []) }
+    {
+        if !self.face.none_waits() {
+            return None;
+        }
+        if self.is_free(Number::One) {
+            return Some(Number::One);
+        }
+        if self.is_free(Number::Two) {
+            return Some(Number::Two);
+        }
+        if self.is_free(Number::Three) {
+            return Some(Number::Three);
+        }
+        None
+    }
+
+    // Keeps a text under a number that no sector stands for.
+    fn keep(&mut self, number: Number, text: &[u8])
+        requires size { length text.now ≡ 10224 }
+        requires free { AreFree number (face_of self.old.face) }
+        requires waiting { (face_of self.old.face).waiting ≡ [] }
+        ensures text { text_of self.new.owed number ≡ text.now }
+        ensures told { disk_of self.new ≡ disk_of self.old }
+        ensures faults { self.new.faults ≡ self.old.faults }
+        ensures read_faults { self.new.read_faults ≡ self.old.read_faults }
+    {
+        self.owed.keep(number, text);
+    }
+
+    // The number of this text, which is kept where it has none; `None` where a sector can't be owed to it.
+    fn number_for(&mut self, i: u32, text: &[u8]) -> Option<Number>
+        ensures front { IfSome result (λ k. is_front i ≡ true) }
+        ensures text { IfSome result (λ k. text_of self.new.owed k ≡ text.now) }
+        ensures told { disk_of self.new ≡ disk_of self.old }
+        ensures faults { self.new.faults ≡ self.old.faults }
+        ensures read_faults { self.new.read_faults ≡ self.old.read_faults }
+    {
+        if !is_front(i) || text.len() != OWED_TEXT {
+            return None;
+        }
+        if let Some(number) = self.owed.find(text) {
+            return Some(number);
+        }
+        let number = self.free_number()?;
+        self.keep(number, text);
+        Some(number)
+    }
+
+    // A write that goes through of the name of the text of this number, and the text behind it as far as it fits.
+    fn owe(&mut self, i: u32, number: Number, text: &[u8])
+        requires front { is_front i ≡ true }
+        requires within { i < SECTORS }
+        requires size { 496 ≤ length text.now }
+        requires text { text_of self.old.owed number ≡ text.now }
+        ensures told { disk_of self.new ≡ record (disk_of self.old) { face = after (disk_of self.old).face (Write i (front text.now)) } }
+        ensures faults { self.new.faults ≡ self.old.faults }
+        ensures read_faults { self.new.read_faults ≡ self.old.read_faults }
+    {
+        let full = Sector {
+            bytes: [number.byte(); 512],
+        };
+        self.face.write(i, Mark::Owed, &full);
+    }
+
+    /// A write that goes through of the name of a text, and the text behind it as far as it fits. Where a copy of the superblock
+    /// begins, the name may be made only when the sector is read.
+    pub fn put_front(&mut self, i: u32, room: Room, text: &[u8])
+        requires i { i < SECTORS }
+        requires size { 496 ≤ length text.now }
+        ensures told { disk_of self.new ≡ record (disk_of self.old) { face = after (disk_of self.old).face (Write i (front text.now)) } }
+        ensures faults { self.new.faults ≡ self.old.faults }
+        ensures read_faults { self.new.read_faults ≡ self.old.read_faults }
+    {
+        match self.number_for(i, text) {
+            Some(number) => self.owe(i, number, text),
+            None => {
+                let name = self.memo.name_of(room, text);
+                self.put(i, &front_sector(name, text));
+            }
+        }
+    }
+
+    // Whether a sector surely reads as the name of this text, and the text behind it as far as it fits.
+    fn begins(&self, i: u32, text: &[u8]) -> bool
+        requires { i < SECTORS }
+        ensures { result ≡ true → reads (disk_of self.now).face i ≡ Some (front text.now) }
+    {
+        match self.face.reading(i) {
+            Some(sector) => self
+                .owed
+                .begins(self.face.read_mark(i), &sector.bytes, text),
+            None => false,
+        }
     }
 
     /// A sync that goes through.
@@ -197,14 +362,15 @@ impl SectorDisk for CellDisk {
         if !self.fate.judge_attach() || name.len() > NAME_MOST {
             return self.fault();
         }
-        self.face.sync();
+        self.clear();
         self.name.set(name.as_bytes());
         Ok(())
     }
 
     fn read(&mut self, i: u32, to: &mut Sector) -> Result<(), DiskFailed> {
         if let Some(sector) = self.face.reading(i) {
-            *to = *sector;
+            self.owed
+                .copy(self.face.read_mark(i), &sector.bytes, &mut self.memo, to);
             return Ok(());
         }
         self.read_faults = self.read_faults.saturating_add(1);
@@ -213,26 +379,34 @@ impl SectorDisk for CellDisk {
 
     fn reads_as(&mut self, i: u32, bytes: &[u8]) -> bool {
         match self.face.reading(i) {
-            Some(sector) => sector.bytes.as_slice() == bytes,
+            Some(sector) => self.owed.is(
+                self.face.read_mark(i),
+                &sector.bytes,
+                &mut self.memo,
+                bytes,
+            ),
             None => false,
         }
     }
 
     fn reads_zeros(&mut self, i: u32) -> bool {
+        if is_front(i) {
+            return self.reads_as(i, &ZEROS.bytes);
+        }
         self.face.reads_zeros(i)
     }
 
     #[tactic(auto, using(vr_disk::proofs::Running::one_goes, vr_disk::proofs::Running::one_fails, vr_disk::proofs::Running::write_cuts))]
     fn write(&mut self, i: u32, from: &Sector) -> Result<(), DiskFailed> {
-        match self.fate.judge() {
+        match self.judge() {
             MemVerdict::Goes => {
-                self.face.write(i, from);
+                self.put(i, from);
                 Ok(())
             }
             MemVerdict::Fails => self.fault(),
             MemVerdict::Cuts(code) => {
-                self.face.write(i, from);
-                self.face.settle(code);
+                self.put(i, from);
+                self.settle(code);
                 self.fault()
             }
         }
@@ -240,17 +414,41 @@ impl SectorDisk for CellDisk {
 
     #[tactic(auto, using(vr_disk::proofs::Running::one_goes, vr_disk::proofs::Running::one_fails, vr_disk::proofs::Running::sync_cuts))]
     fn sync(&mut self) -> Result<(), DiskFailed> {
-        match self.fate.judge() {
+        match self.judge() {
             MemVerdict::Goes => {
-                self.face.sync();
+                self.clear();
                 Ok(())
             }
             MemVerdict::Fails => self.fault(),
             MemVerdict::Cuts(code) => {
-                self.face.settle(code);
+                self.settle(code);
                 self.fault()
             }
         }
+    }
+
+    #[tactic(auto, using(vr_disk::proofs::Running::one_goes, vr_disk::proofs::Running::one_fails, vr_disk::proofs::Running::write_cuts))]
+    fn write_front(&mut self, i: u32, room: Room, text: &[u8]) -> Result<(), DiskFailed> {
+        match self.judge() {
+            MemVerdict::Goes => {
+                self.put_front(i, room, text);
+                Ok(())
+            }
+            MemVerdict::Fails => self.fault(),
+            MemVerdict::Cuts(code) => {
+                self.put_front(i, room, text);
+                self.settle(code);
+                self.fault()
+            }
+        }
+    }
+
+    fn reads_front(&mut self, i: u32, room: Room, text: &[u8]) -> bool {
+        if self.begins(i, text) {
+            return true;
+        }
+        let name = self.memo.name_of(room, text);
+        self.reads_as(i, &front_sector(name, text).bytes)
     }
 
     fn name_of(&mut self, room: Room, bytes: &[u8]) -> Sum {

@@ -7,21 +7,12 @@ ghost use Rattle.vr_base.specs.Bytes.{is_zeros};
 ghost use Rattle.vr_disk.specs.DiskState.{Cell, after, blank, cell, damaged, digit_at, IsContent, noted, reads, settle, settled, settled_cell, written, Write, Sync};
 ghost use Rattle.vr_disk.specs.Sectors.{has};
 ghost use Rattle.vr_mem.specs.Lies.{lied};
-ghost use Rattle.vr_mem.specs.Seen.{AreRooms, AreWaits, Holds, IsMemFace, IsShown, IsWritten, Keeps, Stays, blank_room, bytes_of, cell_of, copied, copies, face_of, free_of, held_on, hidden, on, once, place_end, put_on, room_at, room_of, rooms_of, seen, shown, waiting_in, waiting_of, was_of, zero_cell};
+ghost use Rattle.vr_mem.specs.Seen.{AreRooms, AreWaits, Holds, IsMemFace, IsShown, IsWritten, Keeps, Stays, blank_room, bytes_of, copied, copies, face_of, free_of, held_on, hidden, marked, on, once, place_end, put_on, read_mark_at, read_mark_of, room_at, room_of, rooms_of, seen, shown, waiting_in, waiting_of, was_of, zero_cell};
 
-use crate::bytes::{MemBytes, damage};
+use crate::bytes::{Mark, MemBytes, are_zeros, damage};
 use std::alloc::Global;
-use vr_base::{NoMemory, is_zeros};
+use vr_base::NoMemory;
 use vr_disk::{SECTORS, Sector, ZEROS};
-
-/// A sector: what it should hold, what it reads as, and what it held before its last write.
-#[derive(Clone, Copy)]
-pub struct MemCell {
-    pub truth: Sector,
-    /// `None` where it can't be read.
-    pub reads: Option<Sector>,
-    pub before: Sector,
-}
 
 /// What a sector reads as.
 #[derive(Clone, Copy)]
@@ -83,6 +74,7 @@ pub struct MemKept {
 /// A content of zeros.
 const NO_BYTES: MemBytes = MemBytes {
     zeros: true,
+    mark: Mark::Plain,
     sector: ZEROS,
 };
 
@@ -159,7 +151,8 @@ impl MemRoom {
 
     #[tactic(auto, unfolding(crate::specs::Seen::room_of))]
     fn truth(&self) -> &MemBytes
-        ensures { bytes_of result.now ≡ (room_of self.now).truth }
+        ensures on { result.now ≡ on self.now self.now.truth_on }
+        ensures bytes { bytes_of result.now ≡ (room_of self.now).truth }
     {
         self.on(self.truth_on)
     }
@@ -171,26 +164,25 @@ impl MemRoom {
         self.on(self.before_on)
     }
 
-    // What it reads as.
+    // What it reads as, without its mark.
     #[tactic(auto, unfolding(crate::specs::Seen::room_of))]
     fn reading(&self) -> Option<&Sector>
-        ensures { option_map (λ s. s.now.bytes) result ≡ (room_of self.now).reads }
+        ensures { option_map (λ s. marked (read_mark_of self.now) s.now.bytes) result ≡ (room_of self.now).reads }
     {
         match self.reads {
-            MemReads::Truth => Some(self.truth().get()),
+            MemReads::Truth => Some(self.truth().raw()),
             MemReads::Lie => Some(&self.lie),
             MemReads::Nothing => None,
         }
     }
 
-    #[tactic(auto, unfolding(crate::specs::Seen::room_of))]
-    fn cell(&self) -> MemCell
-        ensures { cell_of result ≡ room_of self.now }
+    // The mark of what it reads as.
+    fn read_mark(&self) -> Mark
+        ensures { result ≡ read_mark_of self.now }
     {
-        MemCell {
-            truth: *self.truth().get(),
-            reads: self.reading().copied(),
-            before: *self.before().get(),
+        match self.reads {
+            MemReads::Truth => self.truth().mark(),
+            _ => Mark::Plain,
         }
     }
 
@@ -206,43 +198,43 @@ impl MemRoom {
     }
 
     // Puts these bytes on a shelf.
-    fn put(&mut self, shelf: Shelf, bytes: &[u8])
+    fn put(&mut self, shelf: Shelf, mark: Mark, bytes: &[u8])
         requires { length bytes.now ≡ 512 }
         ensures same { self.new ≡ put_on self.old shelf (on self.new shelf) }
-        ensures bytes { held_on self.new shelf ≡ bytes.now }
+        ensures bytes { held_on self.new shelf ≡ marked mark bytes.now }
         ensures content { IsContent bytes.now }
     {
         match shelf {
-            Shelf::One => self.one.set(bytes),
-            Shelf::Two => self.two.set(bytes),
-            Shelf::Three => self.three.set(bytes),
+            Shelf::One => self.one.set(mark, bytes),
+            Shelf::Two => self.two.set(mark, bytes),
+            Shelf::Three => self.three.set(mark, bytes),
         }
     }
 
     // It should hold these bytes from now on. What it should have held stays on its shelf, and so does what it held before its
     // last write. Nothing is copied where it should hold these bytes already.
-    fn hold(&mut self, bytes: &[u8])
+    fn hold(&mut self, mark: Mark, bytes: &[u8])
         requires { length bytes.now ≡ 512 }
-        ensures holds { Holds self.old self.new bytes.now }
+        ensures holds { Holds self.old self.new (marked mark bytes.now) }
         ensures content { IsContent bytes.now }
     {
-        if self.truth().is(bytes) {
+        if self.truth().is(mark, bytes) {
             return;
         }
         let free = Shelf::free(self.truth_on, self.before_on);
-        self.put(free, bytes);
+        self.put(free, mark, bytes);
         self.truth_on = free;
     }
 
     // Writes these bytes.
     #[tactic(auto, using(crate::proofs::Shelves::written_room))]
-    fn write(&mut self, bytes: &[u8])
+    fn write(&mut self, mark: Mark, bytes: &[u8])
         requires { length bytes.now ≡ 512 }
-        ensures written { IsWritten self.old self.new bytes.now }
+        ensures written { IsWritten self.old self.new (marked mark bytes.now) }
         ensures content { IsContent bytes.now }
     {
         let last = self.truth_on;
-        self.hold(bytes);
+        self.hold(mark, bytes);
         self.before_on = last;
         self.reads = MemReads::Truth;
     }
@@ -326,8 +318,10 @@ impl MemRoom {
         ensures truth { (room_of self.new).truth ≡ damaged (room_of self.old).truth }
         ensures before { (room_of self.new).before ≡ (room_of self.old).before }
     {
-        let damaged = damage(self.truth().get());
-        self.hold(&damaged.bytes);
+        let truth = self.truth();
+        let mark = truth.mark();
+        let damaged = damage(truth.raw());
+        self.hold(mark, &damaged.bytes);
     }
 }
 
@@ -386,30 +380,31 @@ impl MemRooms {
     }
 
     // Whether a sector has no room, and these bytes are the zeros that it holds and reads as.
-    fn has_zeros(&self, at: usize, bytes: &[u8]) -> bool
+    fn has_zeros(&self, at: usize, mark: Mark, bytes: &[u8]) -> bool
         requires rooms { AreRooms self.now }
         requires at { at < SECTORS }
+        requires size { length bytes.now ≡ 512 }
         ensures none { result ≡ true → room_at self.now at ≡ blank_room }
-        ensures zeros { result ≡ true → is_zeros bytes.now ≡ true }
+        ensures zeros { result ≡ true → is_zeros (marked mark bytes.now) ≡ true }
     {
-        self.places[at] == 0 && is_zeros(bytes)
+        self.places[at] == 0 && are_zeros(mark, bytes)
     }
 
     // Writes these bytes into a sector. Zeros that are written into one with no room change nothing, so it gets none.
-    fn write(&mut self, at: usize, bytes: &[u8])
+    fn write(&mut self, at: usize, mark: Mark, bytes: &[u8])
         requires rooms { AreRooms self.old }
         requires at { at < SECTORS }
         requires size { length bytes.now ≡ 512 }
         ensures rooms { AreRooms self.new }
         ensures others { rooms_of self.new ≡ slice_set (rooms_of self.old) at (room_at self.new at) }
-        ensures written { IsWritten (room_at self.old at) (room_at self.new at) bytes.now }
+        ensures written { IsWritten (room_at self.old at) (room_at self.new at) (marked mark bytes.now) }
         ensures content { IsContent bytes.now }
     {
-        if self.has_zeros(at, bytes) {
+        if self.has_zeros(at, mark, bytes) {
             return;
         }
         let place = self.place(at);
-        self.rooms[place].write(bytes);
+        self.rooms[place].write(mark, bytes);
     }
 
     // From now on a sector reads as these bytes. One with no room reads as zeros already, so it gets none for them.
@@ -422,7 +417,7 @@ impl MemRooms {
         ensures shown { IsShown (room_at self.old at) (room_at self.new at) bytes.now }
         ensures content { IsContent bytes.now }
     {
-        if self.has_zeros(at, bytes) {
+        if self.has_zeros(at, Mark::Plain, bytes) {
             return;
         }
         let place = self.place(at);
@@ -577,22 +572,40 @@ impl MemFace {
         })
     }
 
-    /// A sector with what it should hold, what it reads as and what it held before its last write.
-    pub fn cell(&self, index: u32) -> MemCell
+    /// What a sector should hold.
+    pub fn truth(&self, index: u32) -> &MemBytes
         requires face { IsMemFace self.now }
         requires index { index < SECTORS }
-        ensures { cell (face_of self.now) index ≡ cell_of result }
+        ensures { bytes_of result.now ≡ (cell (face_of self.now) index).truth }
     {
-        self.rooms.room(index as usize).cell()
+        self.rooms.room(index as usize).truth()
     }
 
-    /// What a sector reads as, `None` where it can't be read.
+    /// What a sector held before its last write.
+    pub fn before(&self, index: u32) -> &MemBytes
+        requires face { IsMemFace self.now }
+        requires index { index < SECTORS }
+        ensures { bytes_of result.now ≡ (cell (face_of self.now) index).before }
+    {
+        self.rooms.room(index as usize).before()
+    }
+
+    /// What a sector reads as, without its mark; `None` where it can't be read.
     pub fn reading(&self, index: u32) -> Option<&Sector>
         requires face { IsMemFace self.now }
         requires index { index < SECTORS }
-        ensures { option_map (λ s. s.now.bytes) result ≡ reads (face_of self.now) index }
+        ensures { option_map (λ s. marked (read_mark_at self.now index) s.now.bytes) result ≡ reads (face_of self.now) index }
     {
         self.rooms.room(index as usize).reading()
+    }
+
+    /// The mark of what a sector reads as.
+    pub fn read_mark(&self, index: u32) -> Mark
+        requires face { IsMemFace self.now }
+        requires index { index < SECTORS }
+        ensures { result ≡ read_mark_at self.now index }
+    {
+        self.rooms.room(index as usize).read_mark()
     }
 
     /// Whether a sector reads as zeros.
@@ -606,7 +619,7 @@ impl MemFace {
             return true;
         }
         match room.reading() {
-            Some(sector) => is_zeros(&sector.bytes),
+            Some(sector) => are_zeros(room.read_mark(), &sector.bytes),
             None => false,
         }
     }
@@ -617,6 +630,7 @@ impl MemFace {
         requires index { index < SECTORS }
         ensures after { face_of self.new ≡ lied (face_of self.old) index (Some sector.now.bytes) }
         ensures face { IsMemFace self.new }
+        ensures content { IsContent sector.now.bytes }
     {
         let at = index as usize;
         self.waits.keep(index, self.rooms.room(at));
@@ -633,15 +647,17 @@ impl MemFace {
         self.rooms.hide(index as usize);
     }
 
-    pub fn write(&mut self, index: u32, from: &Sector)
+    /// Writes bytes with their mark.
+    pub fn write(&mut self, index: u32, mark: Mark, from: &Sector)
         requires face { IsMemFace self.old }
         requires index { index < SECTORS }
-        ensures after { face_of self.new ≡ after (face_of self.old) (Write index from.now.bytes) }
+        ensures after { face_of self.new ≡ after (face_of self.old) (Write index (marked mark from.now.bytes)) }
         ensures face { IsMemFace self.new }
+        ensures content { IsContent from.now.bytes }
     {
         let at = index as usize;
         self.waits.note(index, self.rooms.room(at));
-        self.rooms.write(at, &from.bytes);
+        self.rooms.write(at, mark, &from.bytes);
     }
 
     pub fn sync(&mut self)
@@ -650,6 +666,13 @@ impl MemFace {
         ensures face { IsMemFace self.new }
     {
         self.waits.clear();
+    }
+
+    /// Whether no sector waits.
+    pub fn none_waits(&self) -> bool
+        ensures { result ≡ true → (face_of self.now).waiting ≡ [] }
+    {
+        self.waits.notes.is_empty()
     }
 
     /// The digit of the code by which a sector that waits is settled, 0 where it doesn't wait.

@@ -96,6 +96,14 @@ impl SectorDisk for MemDisk {
         self.disk.sync()
     }
 
+    fn write_front(&mut self, i: u32, room: Room, text: &[u8]) -> Result<(), DiskFailed> {
+        self.disk.write_front(i, room, text)
+    }
+
+    fn reads_front(&mut self, i: u32, room: Room, text: &[u8]) -> bool {
+        self.disk.reads_front(i, room, text)
+    }
+
     fn name_of(&mut self, room: Room, bytes: &[u8]) -> Sum {
         self.disk.name_of(room, bytes)
     }

@@ -9,10 +9,10 @@ mod disk;
 mod fate;
 mod laws;
 mod name;
+mod owed;
 
 pub use bytes::damage;
 pub use cell_disk::CellDisk;
-pub use cells::MemCell;
 pub use disk::MemDisk;
 pub use fate::MemVerdict;
 pub use laws::honest_disk;

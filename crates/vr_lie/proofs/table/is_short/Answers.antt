@@ -15,4 +15,4 @@ returns-then-ends_first-clause-value c =
 pub returns-else-ends_first-clause-value : goal.returns-else-ends_first-clause-value
 returns-else-ends_first-clause-value c =
     ap (λ (r : Bool). cond r (Some (in_front c.args.first.now)) None) c.if-ends_first.false
-    ∙ other_looked c.args.version (disk_of c.args.disk.now).face c.args.slot c.args.first.now c.args.disk.now.sectors.face c.requires.slot c.requires.size c.requires.short c.requires.first (sym c.ends_first.ensures.value ∙ c.if-ends_first.false)
+    ∙ other_looked c.args.version (disk_of c.args.disk.now).face c.args.slot c.args.first.now c.args.disk.now.sectors.whole c.requires.slot c.requires.size c.requires.short c.requires.first (sym c.ends_first.ensures.value ∙ c.if-ends_first.false)

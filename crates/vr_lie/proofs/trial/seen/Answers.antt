@@ -1,8 +1,6 @@
-use Rattle.std.proofs.Common.{ap, sym}
-use Rattle.vr_disk.specs.DiskState.{Cell}
-use Rattle.vr_mem.specs.Seen.{reads_of}
 use Rattle.vr_lie.proofs.Lies.{lied_same}
+use Rattle.vr_mem.specs.Seen.{reads_of}
 use Rattle.vr_lie.proofs.trial.seen.Goals as goal
 
 pub returns-clause-same : goal.returns-clause-same
-returns-clause-same c = lied_same _ c.args.at (reads_of c.cell.result.reads) (sym (ap (λ (c : Cell). c.reads) c.cell.ensures))
+returns-clause-same c = lied_same _ c.args.at (reads_of c.read.result) c.read.ensures.value

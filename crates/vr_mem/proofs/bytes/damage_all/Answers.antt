@@ -11,5 +11,5 @@ loop-i-preserved c = grind (arith, common_steps, map_over_more (λ b. bit_xor b 
 whole : (f : ℕ → ℕ) (xs ys : List ℕ) (n : ℕ) → length xs ≤ n → ys ≡ map f (take n xs) ++ drop n xs → ys ≡ map f xs
 whole f xs ys n l e = grind (arith, common_steps, take_all, drop_all)
 
-pub returns : goal.returns
-returns c = whole (λ b. bit_xor b 255) c.args.bytes.now c.loop-i.bytes c.loop-i.i (omega arith) c.loop-i.invariant
+pub returns-clause-damaged : goal.returns-clause-damaged
+returns-clause-damaged c = whole (λ b. bit_xor b 255) c.args.bytes.now c.loop-i.bytes c.loop-i.i (omega arith) c.loop-i.invariant

@@ -1,8 +1,11 @@
-use Rattle.vr_disk.proofs.Running.{sync_cuts}
-use Rattle.vr_mem.specs.Seen.{face_of, fate_of}
+use Rattle.vr_mem.specs.Cells.{disk_of}
+use Rattle.vr_mem.specs.Owed.{named_face}
+use Rattle.vr_mem.specs.Seen.{face_of, fate_of, name_given}
+use Rattle.vr_mem.proofs.Cutting.{sync_cut}
 use Rattle.vr_mem.proofs.cell_disk.CellDiskSectorDisk.sync.Goals as goal
 
 pub returns-in-Cuts-clause-told : goal.returns-in-Cuts-clause-told
 returns-in-Cuts-clause-told c =
-    rw (c.fault-in-Cuts.ensures.same, c.fault-in-Cuts.ensures.failed)
-    (sync_cuts (face_of c.args.self.now.face) (face_of c.settle.new.self) (fate_of c.args.self.now.fate) (fate_of c.judge.new.self) _ c.in-Cuts.code c.in-Cuts.ensures.verdict c.in-Cuts.ensures.next c.settle.ensures.after)
+    let was = c.args.self.now in
+    sync_cut (named_face was.owed (face_of was.face)) (fate_of was.fate) (name_given was.name) (disk_of c.judge.new.self) (disk_of c.settle.new.self) (disk_of c.fault-in-Cuts.new.self) c.in-Cuts.code _
+    c.in-Cuts.ensures.verdict c.in-Cuts.ensures.told c.settle.ensures.told c.fault-in-Cuts.ensures.same c.fault-in-Cuts.ensures.failed

@@ -11,4 +11,4 @@ returns-clause-after c =
     hidden_face xs (rooms_of c.hide.new.self) c.args.self.now.waits c.args.index long c.hide.ensures.same
 
 pub returns-clause-face : goal.returns-clause-face
-returns-clause-face c = lied_is c.args.self.now _ c.args.index None c.requires.face c.requires.index (λ b e. absurd cc) (returns-clause-after c) c.hide.ensures.rooms c.requires.face.waits
+returns-clause-face c = lied_is c.args.self.now _ c.args.index None c.requires.face (returns-clause-after c) c.hide.ensures.rooms c.requires.face.waits

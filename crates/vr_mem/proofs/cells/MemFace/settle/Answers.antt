@@ -1,13 +1,10 @@
 use Rattle.std.proofs.lemmas.Grind.{common_steps}
-use Rattle.std.proofs.Common.{arith, refl}
-use Rattle.vr_disk.proofs.Faces.{face_settled}
-use Rattle.vr_disk.specs.Regions.{sectors}
-use Rattle.vr_mem.specs.Seen.{face_of}
-use Rattle.vr_mem.proofs.Settling.{settled_is, waiting_below, waits_below}
+use Rattle.std.proofs.Common.{arith}
+use Rattle.vr_mem.proofs.Settling.{settled_is, waits_below}
 use Rattle.vr_mem.proofs.cells.MemFace.settle.Goals as goal
 
 pub settle_all-requires-clause-within : goal.settle_all-requires-clause-within
-settle_all-requires-clause-within c = rw c.deref.ensures.value (waits_below _ _ _ _ (waiting_below sectors _ c.requires.face.waiting refl))
+settle_all-requires-clause-within c = rw c.deref.ensures.value (waits_below _ _ _ _ c.requires.waiting)
 
 pub settle_all-requires-clause-kept : goal.settle_all-requires-clause-kept
 settle_all-requires-clause-kept c = rw (c.deref.ensures.value, c.deref-2.ensures.value) c.requires.waits.within
@@ -19,4 +16,4 @@ pub returns-clause-after : goal.returns-clause-after
 returns-clause-after c = grind (arith, common_steps)
 
 pub returns-clause-face : goal.returns-clause-face
-returns-clause-face c = settled_is _ (rw (returns-clause-after c) (face_settled c.args.code (face_of c.args.self.now) c.requires.face)) c.clear.ensures.none c.settle_all.ensures.rooms c.clear.ensures.waits
+returns-clause-face c = settled_is _ c.clear.ensures.none c.settle_all.ensures.rooms c.clear.ensures.waits

@@ -1,5 +1,4 @@
-use Rattle.std.proofs.Common.{◌≡◌, ◌<◌, ◌∙◌, arith, ap, length, subst, Some}
-use Rattle.vr_disk.specs.DiskState.{IsContent}
+use Rattle.std.proofs.Common.{◌<◌, ◌∙◌, arith, ap, length, Some}
 use Rattle.vr_mem.specs.Seen.{room_at, rooms_of, waiting_in}
 use Rattle.vr_mem.proofs.Places.{length_rooms}
 use Rattle.vr_mem.proofs.Settling.{lied_is, lied_room}
@@ -18,4 +17,4 @@ returns-clause-after c =
     (ap (waiting_in waits) c.show.ensures.others ∙ c.keep.ensures.keeps.same xs x long c.room.ensures.room c.requires.face.once)
 
 pub returns-clause-face : goal.returns-clause-face
-returns-clause-face c = lied_is c.args.self.now _ c.args.index (Some c.args.sector.now.bytes) c.requires.face c.requires.index (λ b e. let same : c.args.sector.now.bytes ≡ b = cc in subst IsContent same c.show.ensures.content) (returns-clause-after c) c.show.ensures.rooms c.keep.ensures.waits
+returns-clause-face c = lied_is c.args.self.now _ c.args.index (Some c.args.sector.now.bytes) c.requires.face (returns-clause-after c) c.show.ensures.rooms c.keep.ensures.waits

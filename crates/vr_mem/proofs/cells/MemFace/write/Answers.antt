@@ -1,4 +1,4 @@
-use Rattle.std.proofs.Common.{ℕ, eqb, false, ◌<◌, ◌≡◌, ◌∙◌, length, sym, refl, ap, get_or, arith, subst}
+use Rattle.std.proofs.Common.{ℕ, eqb, false, ◌<◌, ◌≡◌, ◌∙◌, length, sym, ap, get_or, arith, subst}
 use Rattle.vr_disk.specs.DiskState.{blank, noted}
 use Rattle.vr_disk.specs.Regions.{sectors}
 use Rattle.std.specs.List.{list_any}
@@ -6,9 +6,9 @@ use Rattle.std.proofs.lemmas.List.{length-map}
 use Rattle.vr_mem.specs.declared.cells.MemFace.{MemFace}
 use Rattle.vr_mem.specs.declared.cells.MemRoom.{MemRoom}
 use Rattle.vr_mem.specs.declared.cells.MemWaiting.{MemWaiting}
-use Rattle.vr_mem.specs.Seen.{IsMemFace, Stays, face_of, noted_of, room_at, room_of, rooms_of, seen, waiting_in}
+use Rattle.vr_mem.specs.Seen.{IsMemFace, Stays, face_of, marked, noted_of, room_at, room_of, rooms_of, seen, waiting_in}
 use Rattle.vr_mem.proofs.Places.{length_rooms, written_cells}
-use Rattle.vr_mem.proofs.Settling.{same_face, waiting_below, written_is}
+use Rattle.vr_mem.proofs.Settling.{same_face, written_is}
 use Rattle.vr_mem.proofs.Waits.{waits_of}
 use Rattle.vr_mem.proofs.Room.{room_left}
 use Rattle.vr_mem.proofs.cells.MemFace.write.Goals as goal
@@ -17,7 +17,7 @@ waits_room : (f : MemFace) (i : ℕ) → IsMemFace f → i < sectors → list_an
 waits_room f i h l absent =
     let xs = rooms_of f.rooms in
     let ws = (face_of f).waiting in
-    let r = room_left sectors ws i h.once (waiting_below sectors ws h.face.waiting refl) l (waits_of i f.waits.kept.items xs f.waits.notes.items ∙ absent) in
+    let r = room_left sectors ws i h.once h.waiting l (waits_of i f.waits.kept.items xs f.waits.notes.items ∙ absent) in
     let n : length ws ≡ length f.waits.notes.items = length-map f.waits.notes.items (noted_of f.waits.kept.items xs) in
     omega (arith, r, n)
 
@@ -35,8 +35,8 @@ returns-clause-after c =
     let now = c.note.ensures.noted xs new long here (subst (λ (r : MemRoom). Stays r new) here c.write.ensures.written.stays) c.requires.face.once in
     let there : get_or (seen m) i blank ≡ room_of c.room.result.now = c.room.ensures.cell in
     same_face _ _ _ _
-    (written_cells xs (rooms_of c.write.new.self) i new c.args.from.now.bytes long c.write.ensures.others c.write.ensures.written.cell)
+    (written_cells xs (rooms_of c.write.new.self) i new (marked c.args.mark c.args.from.now.bytes) long c.write.ensures.others c.write.ensures.written.cell)
     (ap (waiting_in c.note.new.self) c.write.ensures.others ∙ (now ∙ ap (noted (waiting_in c.args.self.now.waits xs) i) (sym there)))
 
 pub returns-clause-face : goal.returns-clause-face
-returns-clause-face c = written_is c.args.self.now _ c.args.index c.args.from.now.bytes c.requires.face c.requires.index c.write.ensures.content (returns-clause-after c) c.write.ensures.rooms c.note.ensures.waits
+returns-clause-face c = written_is c.args.self.now _ c.args.index (marked c.args.mark c.args.from.now.bytes) c.requires.face c.requires.index (returns-clause-after c) c.write.ensures.rooms c.note.ensures.waits

@@ -1,6 +1,7 @@
-use Rattle.std.proofs.Common.{arith, refl, sym}
+use Rattle.std.proofs.Common.{◌∙◌, arith, refl, sym}
 use Rattle.std.proofs.lemmas.List.{set-get_or}
-use Rattle.vr_mem.specs.Seen.{blank_room, room_at, rooms_of}
+use Rattle.vr_mem.specs.Seen.{blank_room, marked, room_at, rooms_of}
+use Rattle.vr_mem.proofs.Marks.{length_marked}
 use Rattle.vr_mem.proofs.Zeros.{stays_zeros}
 use Rattle.vr_mem.proofs.Places.{others_stay, place_within, room_changed, rooms_set}
 use Rattle.vr_mem.proofs.cells.MemRooms.write.Goals as goal
@@ -25,4 +26,5 @@ pub returns-then-has_zeros-clause-others : goal.returns-then-has_zeros-clause-ot
 returns-then-has_zeros-clause-others c = sym (set-get_or (rooms_of c.args.self.now) c.args.at blank_room)
 
 pub returns-then-has_zeros-clause-written : goal.returns-then-has_zeros-clause-written
-returns-then-has_zeros-clause-written c = stays_zeros (room_at c.args.self.now c.args.at) c.args.bytes.now (c.has_zeros.ensures.none c.if-has_zeros.true) c.requires.size (c.has_zeros.ensures.zeros c.if-has_zeros.true)
+returns-then-has_zeros-clause-written c =
+    stays_zeros (room_at c.args.self.now c.args.at) (marked c.args.mark c.args.bytes.now) (c.has_zeros.ensures.none c.if-has_zeros.true) (length_marked c.args.mark c.args.bytes.now ∙ c.requires.size) (c.has_zeros.ensures.zeros c.if-has_zeros.true)

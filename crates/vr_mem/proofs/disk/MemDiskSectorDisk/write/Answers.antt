@@ -7,5 +7,5 @@ use Rattle.vr_mem.proofs.disk.MemDiskSectorDisk.write.Goals as goal
 pub invariant_of-self : goal.invariant_of-self
 invariant_of-self c = record {
   honest = one_honest (disk_of c.args.self.now.disk) (disk_of c.write.new.self) (Write c.args.i c.args.from.now.bytes) _
-      (let n = c.args.self.now.disk.sectors.face.count in let i = c.requires in omega arith) c.args.self.now.honest c.write.ensures.told;
+      (let n = c.args.self.now.disk.sectors.whole.count in let i = c.requires in omega arith) c.args.self.now.honest c.write.ensures.told;
 }

@@ -1,0 +1,113 @@
+-- Contents that stand for the name of a text, with the text behind it: what they are, and what a face is of which some are.
+use Rattle.std.specs.Prelude.{ℕ, ◌%◌, ◌<◌, ◌≡◌, ◌==◌, ◌&&◌, Bool, true, false, nat_lt, if◌then◌else◌, List, map, Some, slice_index_or}
+use Rattle.std.specs.List.{All}
+use Rattle.std.specs.Option.{option_map}
+use Rattle.vr_disk.specs.DiskState.{Cell, Face, IsFace, Waiting, cell, damaged}
+use Rattle.vr_disk.specs.Fronts.{front}
+use Rattle.vr_mem.specs.declared.cells.MemFace.{MemFace}
+use Rattle.vr_mem.specs.declared.owed.Number.{Number}
+use Rattle.vr_mem.specs.declared.owed.Number.TheVariants as n
+use Rattle.vr_mem.specs.declared.owed.Owed.{Owed}
+use Rattle.vr_mem.specs.Seen.{IsMemFace, face_of}
+
+-- ---- what a content is, by a function of contents
+
+abbrev pub cell_by : (List ℕ → List ℕ) → Cell → Cell
+cell_by f c = record { truth = f c.truth; reads = option_map f c.reads; before = f c.before }
+
+abbrev pub waiting_by : (List ℕ → List ℕ) → Waiting → Waiting
+waiting_by f w = record { index = w.index; was = cell_by f w.was }
+
+unfoldable pub face_by : (List ℕ → List ℕ) → Face → Face
+face_by f g = record { cells = map (cell_by f) g.cells; waiting = map (waiting_by f) g.waiting }
+
+-- ---- what stands for a text
+
+-- by three numbers
+abbrev pub by_number : {X : Type 0} → Number → X → X → X → X
+by_number n.One a b c = a
+by_number n.Two a b c = b
+by_number n.Three a b c = c
+
+-- the byte that stands for the text of this number
+abbrev pub byte_of : Number → ℕ
+byte_of k = by_number k 1 2 3
+
+-- the number that a byte stands for; each bit of it may be turned
+unfoldable pub number_of : ℕ → Number
+number_of b =
+    if b == 1 then n.One
+    else (if b == 254 then n.One
+    else (if b == 2 then n.Two
+    else (if b == 253 then n.Two
+    else n.Three)))
+
+unfoldable pub text_of : Owed → Number → List ℕ
+text_of o k = by_number k o.one.items o.two.items o.three.items
+
+-- what stands in a sector that is full of this byte
+unfoldable pub content_by : Owed → ℕ → List ℕ
+content_by o b = if nat_lt b 128 then front (text_of o (number_of b)) else damaged (front (text_of o (number_of b)))
+
+-- a content begins with this
+abbrev pub head : List ℕ → ℕ
+head x = slice_index_or x 0 0
+
+-- a content that begins with no byte stands for a text
+unfoldable pub named : Owed → List ℕ → List ℕ
+named o x = if nat_lt (head x) 256 then x else content_by o (head x % 256)
+
+abbrev pub named_cell : Owed → Cell → Cell
+named_cell o c = cell_by (named o) c
+
+-- a face with the names made
+unfoldable pub named_face : Owed → Face → Face
+named_face o f = face_by (named o) f
+
+-- ---- texts that stay
+
+-- the texts of all numbers but one stay
+abbrev pub KeepsOthers : Owed → Owed → Number → Type 0
+KeepsOthers old new k = (j : Number) → (j ≡ k → ⊥) → text_of new j ≡ text_of old j
+
+abbrev pub same_number : Number → Number → Bool
+same_number j k = by_number j (by_number k true false false) (by_number k false true false) (by_number k false false true)
+
+-- whether a content stands for the text of this number
+unfoldable pub stands_for : Number → List ℕ → Bool
+stands_for k x = if nat_lt (head x) 256 then false else same_number k (number_of (head x % 256))
+
+-- neither what a sector should hold, nor what it reads as, nor what it held before stands for the text of this number
+pub record IsFree (k : Number) (c : Cell) : Type 0 where
+  pub truth : stands_for k c.truth ≡ false
+  pub reads : (x : List ℕ) → c.reads ≡ Some x → stands_for k x ≡ false
+  pub before : stands_for k c.before ≡ false
+
+-- no sector that begins a copy of the superblock has a content that stands for it
+pub record AreFree (k : Number) (f : Face) : Type 0 where
+  pub first : IsFree k (cell f 0)
+  pub second : IsFree k (cell f 20)
+  pub third : IsFree k (cell f 40)
+  pub fourth : IsFree k (cell f 60)
+
+-- ---- where a content may stand for a text
+
+-- whether a copy of the superblock begins with this sector
+abbrev pub is_front : ℕ → Bool
+is_front i = nat_lt i 80 && ((i % 20) == 0)
+
+pub record IsPlainCell (c : Cell) : Type 0 where
+  pub truth : head c.truth < 256
+  pub reads : (x : List ℕ) → c.reads ≡ Some x → head x < 256
+  pub before : head c.before < 256
+
+-- no other sector has a content that stands for a text
+pub record ArePlain (f : Face) : Type 0 where
+  pub cells : (i : ℕ) → is_front i ≡ false → IsPlainCell (cell f i)
+  pub waiting : All (λ w. is_front w.index ≡ false → IsPlainCell w.was) f.waiting
+
+-- the sectors of a disk: what is told of them is sectors of bytes
+pub record AreSectors (o : Owed) (f : MemFace) : Type 0 where
+  pub mem : IsMemFace f
+  pub whole : IsFace (named_face o (face_of f))
+  pub plain : ArePlain (face_of f)
