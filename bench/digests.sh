@@ -4,8 +4,8 @@
 # (bench/schedule.sh), and in `soak` from the seeds 0 and 7. These are what 10,000 lines take more than one, so the start doesn't count.
 # Beside them it prints how many are needed, and how many times these are taken.
 # Needed is each text that is new to a member, once: the body and header of a request, the header of an entry (once for the group), each
-# value of a superblock, each block of a checkpoint that changed, and the outputs that `soak` sums up. The numbers below were found once for
-# these lines: where the lines or a format change, they are to be found anew.
+# value of a superblock that is read, each block of a checkpoint that changed, and the outputs that `soak` sums up. The numbers below were
+# found once for these lines: where the lines or a format change, they are to be found anew.
 #   bench/digests.sh
 # Needs bash, awk and valgrind.
 . "$(dirname "$0")/../command/help.sh"
@@ -43,7 +43,7 @@ report() {
     }'
 }
 
-report 'plain replay over two replicas' replay 2 5.8
-report 'replay view after view over three' replay 3 20.3
-report 'soak from seed 0' soak 0 6.3
-report 'soak from seed 7' soak 7 6.7
+report 'plain replay over two replicas' replay 2 2.6
+report 'replay view after view over three' replay 3 7.0
+report 'soak from seed 0' soak 0 3.1
+report 'soak from seed 7' soak 7 3.0

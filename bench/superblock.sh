@@ -1,6 +1,7 @@
 #!/bin/sh
 # Instructions of a superblock write, of making a value and of an opening over a disk in memory, for values with no
-# headers and with 64, beside those of one SHA-256 of the bytes of a copy. Needs valgrind.
+# headers and with 64, beside those of one SHA-256 of the bytes of a copy. A write on a disk in memory makes no digest of the value.
+# Needs valgrind.
 . "$(dirname "$0")/../command/help.sh"
 set -eu
 top=$(cd "$(dirname "$0")/.." && pwd)
