@@ -1,7 +1,7 @@
 #!/usr/bin/env bash
 # Measures a group of three members of the built program (as command/program finds it) on loopback, each with a file in FOLDER, beside
-# the floor of the rules on this machine in the same run: three members of a small C program that make the same calls with no protocol between
-# them (bench/node/floor.c). For 1, 2, 4 and 8 clients, each with one put of 100 bytes after the other: puts a second, and of one put the median,
+# the floor of the rules on this machine in the same run: three members of a small C program and its asker that make the same calls with no
+# protocol between them (bench/node/floor.c). For 1, 2, 4 and 8 clients, each with one put of 100 bytes after the other: puts a second, and of one put the median,
 # the 99th of 100 and the mean. Then the same puts on a group of three of etcd, where it is installed, each at its leader over its own protocol;
 # system calls a put, processor time a put, an idle group's, and the pause when the primary is killed.
 #   SCHEME=tcp: bench/node.sh ..      the group over TCP; the floor's messages are datagrams all the same
@@ -35,7 +35,7 @@ times() { sort -n "$@" | awk '{ t[NR] = $1; sum += $1 } END { if (NR) printf "%.
 mkfifo "$folder/hold" && exec {hold}<> "$folder/hold" || exit 2
 floor_members() {
     local r
-    for r in 0 1 2; do "$folder/floor" member $r "$folder/floor.$r" $port <&$hold & members+=($!); done
+    for r in 0 1 2; do "$folder/floor" member $r "$folder/floor.$r" $port <&$hold > /dev/null & members+=($!); done
     sleep 0.5
 }
 
@@ -55,7 +55,7 @@ run_clients() {
     for c in $(seq $clients); do lines $puts $c > "$folder/lines.$c"; done
     before=${EPOCHREALTIME/./}
     for c in $(seq $clients); do
-        if [ $kind = floor ]; then "$folder/floor" ask $port $puts > "$folder/times.$c" & waits+=($!)
+        if [ $kind = floor ]; then ("$folder/floor" ask $port $puts | "$folder/stamp" > "$folder/times.$c") & waits+=($!)
         elif [ $kind = etcd ]; then "$folder/etcd" $leader $puts $c > "$folder/times.$c" & waits+=($!)
         else ("$program" client 5 $((first + c)) 1000000 $addresses < "$folder/lines.$c" | "$folder/stamp" > "$folder/times.$c") & waits+=($!); fi
     done
@@ -64,12 +64,15 @@ run_clients() {
     echo "$((clients * puts * 1000000 / (after - before))) $(times "$folder"/times.*)"
 }
 
-"$folder/floor" sync "$folder/sync" 2000 > "$folder/syncs"
+for how in sync direct; do "$folder/floor" $how "$folder/sync" 2000 > "$folder/${how}s" 2> "$folder/$how.cost"; done
 "$folder/floor" echo $((port + 9)) <&$hold & members+=($!)
 sleep 0.2
 "$folder/floor" trip $((port + 9)) 5000 > "$folder/trips"
 stop
-echo "512 bytes written and synced: $(times "$folder/syncs" | awk '{ print "median " $1 " us, 99 of 100 " $2 " us" }')"
+# said HOW: what one write with its sync took, where it could be done
+said() { times "$folder/$1s" | awk -v cost="$(cat "$folder/$1.cost")" '{ print "median " $1 " us, 99 of 100 " $2 " us, " cost " us of a processor" }' | grep . || echo "not measured"; }
+echo "512 bytes written and synced: $(said sync)"
+echo "the same past the page cache, which no call of the program's toolchain can do: $(said direct)"
 echo "round trip of 256 bytes: $(times "$folder/trips" | awk '{ print "median " $1 " us, 99 of 100 " $2 " us" }')"
 
 # What each member took of a processor, in nanoseconds, as the scheduler counts it; and of that a put since then.
