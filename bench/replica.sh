@@ -24,9 +24,11 @@ rounds() {
     }'
 }
 
-# The instructions within a function on a schedule, by the functions that they are in or are called from.
+# The instructions within a function on a schedule, or of the whole run, by the functions that they are in or are called from.
 inside() {
-    valgrind --tool=callgrind --collect-atstart=no --toggle-collect="$1" --callgrind-out-file="$folder/out" "$program" replay < "$2" > /dev/null 2> "$folder/log"
+    local only=()
+    [ "$1" = whole ] || only=(--collect-atstart=no --toggle-collect="$1")
+    valgrind --tool=callgrind ${only[@]+"${only[@]}"} --callgrind-out-file="$folder/out" "$program" replay < "$2" > /dev/null 2> "$folder/log"
     callgrind_annotate --inclusive=yes --threshold=100 --show-percs=no "$folder/out" 2> /dev/null | tr -d ,
 }
 named() { awk -v name=":$1 " 'index($0, name) { sum += $1 } END { print sum + 0 }' "$2"; }
@@ -78,7 +80,7 @@ rounds 63 2 > "$folder/many"
 echo 'stop 0' >> "$folder/many"
 steps 'a view change of two, each with 63 entries in its window' $handle "$folder/many" \
     'tick 1' 'tick 1' 'tick 1' 'tick 1' 'tick 1' 'deliver 253' 'deliver 256' 'deliver 258'
-# An opening has no function of its own in the built program: these are all that the line adds.
+# An opening has no function of its own in the built program: these are all that the line adds to the run.
 rounds 63 2 > "$folder/stopped"
 echo 'stop 2' >> "$folder/stopped"
-steps 'an opening with 63 entries in its window' vr_app::main+start "$folder/stopped" 'start 2'
+steps 'an opening with 63 entries in its window' whole "$folder/stopped" 'start 2'
