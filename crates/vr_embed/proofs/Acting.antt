@@ -7,7 +7,7 @@ use Rattle.vr_base.specs.declared.table.Config.{Config}
 use Rattle.vr_disk.specs.DiskState.{Disk, Face, Fate, Runs}
 use Rattle.vr_disk.specs.Regions.{sectors}
 use Rattle.vr_lie.specs.CopyVerdict.{CopyVerdict}
-use Rattle.vr_mem.specs.Seen.{copies, zero_cell}
+use Rattle.vr_cells.specs.Seen.{copies, zero_cell}
 use Rattle.vr_msg.specs.declared.event.Event.{Event}
 use Rattle.vr_msg.specs.declared.output.Output.{Output}
 use Rattle.vr_msg.specs.declared.output.Output.TheVariants as output

@@ -8,3 +8,5 @@ pub use Rattle.vr_super.specs.declared.recovering.CopyVerdict
 pub use Rattle.vr_rings.specs.Held
 pub use Rattle.vr_super.specs.Opens
 pub use Rattle.vr_rings.specs.Slots
+pub use Rattle.vr_mem.specs.Lies
+pub use Rattle.vr_mem.specs.Seen

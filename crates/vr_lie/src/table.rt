@@ -367,7 +367,7 @@ pub fn put(disk: &mut CellDisk, held: &mut [Held], i: u32, from: &Sector, versio
 }
 
 /// A write of the name of a text, and of the text behind it as far as it fits, that goes through.
-pub fn put_front(
+pub fn put_text(
     disk: &mut CellDisk,
     held: &mut [Held],
     i: u32,
@@ -388,12 +388,12 @@ pub fn put_front(
             let sector = front_sector(checksum(text), text);
             put_in(disk, held, slot, i, &sector, version);
         }
-        None => disk.put_front(i, room, text),
+        None => disk.put_named(i, room, text),
     }
 }
 
 /// A write of the name of a text, and of the text behind it as far as it fits, that is cut by this code.
-pub fn cut_put_front(
+pub fn cut_put_text(
     disk: &mut CellDisk,
     held: &mut [Held],
     i: u32,

@@ -8,8 +8,8 @@ use Rattle.vr_lie.specs.Faults.{HeldLooked, HeldRan, KeepsPremise, faulted, held
 use Rattle.vr_lie.specs.declared.fault.Fault.{Fault}
 use Rattle.vr_lie.specs.Held.{looked}
 use Rattle.vr_lie.specs.Opens.{mode_in}
-use Rattle.vr_mem.specs.Seen as mem
-use Rattle.vr_mem.specs.Seen.{copies}
+use Rattle.vr_lie.specs.Seen as mem
+use Rattle.vr_lie.specs.Seen.{copies}
 use Rattle.vr_world.specs.Lying.{Lying, blank_lying, each_slot, in_edition, keeps_premise, lied_to, unless_kept_out, zero_face}
 use Rattle.vr_world.proofs.Premises.{premise, premise_so}
 use Rattle.vr_lying.specs.Told.{lying_in, slots}

@@ -1,14 +1,5 @@
 pub mod Cutting
-pub mod Faces
 pub mod Honest
-pub mod Made
-pub mod Marks
-pub mod Named
-pub mod Noted
-pub mod Places
+pub mod Meant
 pub mod Plain
-pub mod Room
-pub mod Settling
-pub mod Shelves
-pub mod Waits
-pub mod Zeros
+pub use Rattle.vr_cells.proofs.Zeros

@@ -1,6 +1,7 @@
+pub mod Calls
 pub mod Cells
 pub mod Honesty
-pub mod Lies
 pub mod Owed
-pub mod Seen
 pub mod Told
+pub use Rattle.vr_cells.specs.Lies
+pub use Rattle.vr_cells.specs.Seen

@@ -4,17 +4,17 @@ ghost use Rattle.std.specs.Option.{option_map};
 ghost use Rattle.vr_base.specs.Causes.{HasCause};
 ghost use Rattle.vr_disk.specs.DiskState.{Sync, Write, after, cell, digit_at, judged, nothing_beside, settle, reads};
 ghost use Rattle.vr_disk.specs.Fronts.{front};
-ghost use Rattle.vr_mem.specs.Lies.{lied};
-ghost use Rattle.vr_mem.specs.Owed.{AreFree, AreSectors, IsFree, is_front, named, stands_for, text_of};
-ghost use Rattle.vr_mem.specs.Seen.{bytes_of, call_verdict, copies, face_of, zero_cell};
+ghost use Rattle.vr_cells.specs.Lies.{lied};
+ghost use Rattle.vr_mem.specs.Owed.{AreFree, AreSectors, IsFree, begins_copy, meant, stands_for, text_of};
+ghost use Rattle.vr_mem.specs.Calls.{call_verdict};
+ghost use Rattle.vr_cells.specs.Seen.{bytes_of, copies, face_of, zero_cell};
 
-use crate::bytes::{Mark, MemBytes};
-use crate::cells::MemFace;
 use crate::fate::{MemFate, MemFuse, MemVerdict};
 use crate::name::DiskName;
-use crate::owed::{Number, OWED_TEXT, Owed};
+use crate::texts::{TEXT_SIZE, TextNumber, Texts};
 use std::alloc::Global;
 use vr_base::{NoMemory, Sum};
+use vr_cells::{Mark, MemBytes, MemFace};
 use vr_disk::{
     COPIES, COPY_SECTORS, DiskFailed, Memo, NAME_MOST, Room, SECTORS, Sector, SectorDisk, ZEROS,
     front_sector,
@@ -25,18 +25,18 @@ use vr_disk::{
 #[derive(Drop)]
 pub struct CellDisk {
     face: MemFace,
-    owed: Owed,
+    texts: Texts,
     fate: MemFate,
     faults: u64,
     read_faults: u64,
     memo: Memo,
     name: DiskName,
-    ghost sectors: { AreSectors owed face },
+    ghost sectors: { AreSectors texts face },
 }
 
 // Whether a copy of the superblock begins with this sector.
-fn is_front(i: u32) -> bool
-    ensures { result ≡ is_front i }
+fn begins_copy(i: u32) -> bool
+    ensures { result ≡ begins_copy i }
 {
     i < COPIES * COPY_SECTORS && i % COPY_SECTORS == 0
 }
@@ -54,7 +54,7 @@ impl CellDisk {
     {
         Ok(CellDisk {
             face: MemFace::new(alloc)?,
-            owed: Owed::new(alloc)?,
+            texts: Texts::new(alloc)?,
             fate: MemFate {
                 fuse: None,
                 made: 0,
@@ -104,11 +104,11 @@ impl CellDisk {
         self.fate.dead = false;
     }
 
-    // What a content is.
-    fn made(&self, content: &MemBytes) -> Sector
-        ensures { result.bytes ≡ named self.now.owed (bytes_of content.now) }
+    // What a content stands for.
+    fn meant(&self, content: &MemBytes) -> Sector
+        ensures { result.bytes ≡ meant self.now.texts (bytes_of content.now) }
     {
-        self.owed.made(content.mark(), &content.raw().bytes)
+        self.texts.meant(content.mark(), &content.raw().bytes)
     }
 
     /// What a sector should hold. Where its name is owed, it is made.
@@ -116,7 +116,7 @@ impl CellDisk {
         requires { i < SECTORS }
         ensures { result.bytes ≡ (cell (disk_of self.now).face i).truth }
     {
-        self.made(self.face.truth(i))
+        self.meant(self.face.truth(i))
     }
 
     /// What a sector held before its last write. Where its name is owed, it is made.
@@ -124,7 +124,7 @@ impl CellDisk {
         requires { i < SECTORS }
         ensures { result.bytes ≡ (cell (disk_of self.now).face i).before }
     {
-        self.made(self.face.before(i))
+        self.meant(self.face.before(i))
     }
 
     /// What a sector reads as, `None` where it can't be read. Those of the superblock are read by `read` and `reads_as`, since a
@@ -178,7 +178,7 @@ impl CellDisk {
     }
 
     // Whether no content of a sector stands for the text of this number.
-    fn is_free_at(&self, i: u32, number: Number) -> bool
+    fn is_free_at(&self, i: u32, number: TextNumber) -> bool
         requires { i < SECTORS }
         ensures { result ≡ true → IsFree number (cell (face_of self.now.face) i) }
     {
@@ -186,11 +186,11 @@ impl CellDisk {
         let before = self.face.before(i);
         !number.stands(truth.mark(), &truth.raw().bytes)
             && !number.stands(before.mark(), &before.raw().bytes)
-            && !self.reads_by(i, number)
+            && !self.reads_as_number(i, number)
     }
 
     // Whether a sector reads as what stands for the text of this number.
-    fn reads_by(&self, i: u32, number: Number) -> bool
+    fn reads_as_number(&self, i: u32, number: TextNumber) -> bool
         requires { i < SECTORS }
         ensures { result ≡ false → (x : List ℕ) → reads (face_of self.now.face) i ≡ Some x → stands_for number x ≡ false }
     {
@@ -201,7 +201,7 @@ impl CellDisk {
     }
 
     // Whether no sector that begins a copy of the superblock stands for the text of this number.
-    fn is_free(&self, number: Number) -> bool
+    fn is_free(&self, number: TextNumber) -> bool
         ensures { result ≡ true → AreFree number (face_of self.now.face) }
     {
         self.is_free_at(0, number)
@@ -210,51 +210,52 @@ impl CellDisk {
             && self.is_free_at(3 * COPY_SECTORS, number)
     }
 
-    // A number whose text no sector stands for, `None` where there may be none.
-    fn free_number(&self) -> Option<Number>
+    // A number whose text no sector stands for, `None` where there may be none. What a sector was that waits for a sync isn't
+    // looked at, though a stop may bring it back: so there is none as long as one waits.
+    fn free_number(&self) -> Option<TextNumber>
         ensures free { IfSome result (λ k. AreFree k (face_of self.now.face)) }
         ensures waiting { IfSome result (λ k. (face_of self.now.face).waiting ≡ []) }
     {
         if !self.face.none_waits() {
             return None;
         }
-        if self.is_free(Number::One) {
-            return Some(Number::One);
+        if self.is_free(TextNumber::One) {
+            return Some(TextNumber::One);
         }
-        if self.is_free(Number::Two) {
-            return Some(Number::Two);
+        if self.is_free(TextNumber::Two) {
+            return Some(TextNumber::Two);
         }
-        if self.is_free(Number::Three) {
-            return Some(Number::Three);
+        if self.is_free(TextNumber::Three) {
+            return Some(TextNumber::Three);
         }
         None
     }
 
     // Keeps a text under a number that no sector stands for.
-    fn keep(&mut self, number: Number, text: &[u8])
+    fn keep(&mut self, number: TextNumber, text: &[u8])
         requires size { length text.now ≡ 10224 }
         requires free { AreFree number (face_of self.old.face) }
         requires waiting { (face_of self.old.face).waiting ≡ [] }
-        ensures text { text_of self.new.owed number ≡ text.now }
+        ensures text { text_of self.new.texts number ≡ text.now }
         ensures told { disk_of self.new ≡ disk_of self.old }
         ensures faults { self.new.faults ≡ self.old.faults }
         ensures read_faults { self.new.read_faults ≡ self.old.read_faults }
     {
-        self.owed.keep(number, text);
+        self.texts.keep(number, text);
     }
 
     // The number of this text, which is kept where it has none; `None` where a sector can't be owed to it.
-    fn number_for(&mut self, i: u32, text: &[u8]) -> Option<Number>
-        ensures front { IfSome result (λ k. is_front i ≡ true) }
-        ensures text { IfSome result (λ k. text_of self.new.owed k ≡ text.now) }
+    fn number_for(&mut self, i: u32, text: &[u8]) -> Option<TextNumber>
+        ensures front { IfSome result (λ k. begins_copy i ≡ true) }
+        ensures text { IfSome result (λ k. text_of self.new.texts k ≡ text.now) }
         ensures told { disk_of self.new ≡ disk_of self.old }
         ensures faults { self.new.faults ≡ self.old.faults }
         ensures read_faults { self.new.read_faults ≡ self.old.read_faults }
     {
-        if !is_front(i) || text.len() != OWED_TEXT {
+        if !begins_copy(i) || text.len() != TEXT_SIZE {
             return None;
         }
-        if let Some(number) = self.owed.find(text) {
+        if let Some(number) = self.texts.find(text) {
             return Some(number);
         }
         let number = self.free_number()?;
@@ -263,11 +264,11 @@ impl CellDisk {
     }
 
     // A write that goes through of the name of the text of this number, and the text behind it as far as it fits.
-    fn owe(&mut self, i: u32, number: Number, text: &[u8])
-        requires front { is_front i ≡ true }
+    fn owe(&mut self, i: u32, number: TextNumber, text: &[u8])
+        requires front { begins_copy i ≡ true }
         requires within { i < SECTORS }
         requires size { 496 ≤ length text.now }
-        requires text { text_of self.old.owed number ≡ text.now }
+        requires text { text_of self.old.texts number ≡ text.now }
         ensures told { disk_of self.new ≡ record (disk_of self.old) { face = after (disk_of self.old).face (Write i (front text.now)) } }
         ensures faults { self.new.faults ≡ self.old.faults }
         ensures read_faults { self.new.read_faults ≡ self.old.read_faults }
@@ -280,7 +281,7 @@ impl CellDisk {
 
     /// A write that goes through of the name of a text, and the text behind it as far as it fits. Where a copy of the superblock
     /// begins, the name may be made only when the sector is read.
-    pub fn put_front(&mut self, i: u32, room: Room, text: &[u8])
+    pub fn put_named(&mut self, i: u32, room: Room, text: &[u8])
         requires i { i < SECTORS }
         requires size { 496 ≤ length text.now }
         ensures told { disk_of self.new ≡ record (disk_of self.old) { face = after (disk_of self.old).face (Write i (front text.now)) } }
@@ -303,7 +304,7 @@ impl CellDisk {
     {
         match self.face.reading(i) {
             Some(sector) => self
-                .owed
+                .texts
                 .begins(self.face.read_mark(i), &sector.bytes, text),
             None => false,
         }
@@ -369,7 +370,7 @@ impl SectorDisk for CellDisk {
 
     fn read(&mut self, i: u32, to: &mut Sector) -> Result<(), DiskFailed> {
         if let Some(sector) = self.face.reading(i) {
-            self.owed
+            self.texts
                 .copy(self.face.read_mark(i), &sector.bytes, &mut self.memo, to);
             return Ok(());
         }
@@ -379,7 +380,7 @@ impl SectorDisk for CellDisk {
 
     fn reads_as(&mut self, i: u32, bytes: &[u8]) -> bool {
         match self.face.reading(i) {
-            Some(sector) => self.owed.is(
+            Some(sector) => self.texts.is(
                 self.face.read_mark(i),
                 &sector.bytes,
                 &mut self.memo,
@@ -390,7 +391,7 @@ impl SectorDisk for CellDisk {
     }
 
     fn reads_zeros(&mut self, i: u32) -> bool {
-        if is_front(i) {
+        if begins_copy(i) {
             return self.reads_as(i, &ZEROS.bytes);
         }
         self.face.reads_zeros(i)
@@ -431,12 +432,12 @@ impl SectorDisk for CellDisk {
     fn write_front(&mut self, i: u32, room: Room, text: &[u8]) -> Result<(), DiskFailed> {
         match self.judge() {
             MemVerdict::Goes => {
-                self.put_front(i, room, text);
+                self.put_named(i, room, text);
                 Ok(())
             }
             MemVerdict::Fails => self.fault(),
             MemVerdict::Cuts(code) => {
-                self.put_front(i, room, text);
+                self.put_named(i, room, text);
                 self.settle(code);
                 self.fault()
             }

@@ -2,7 +2,7 @@
 ghost use Rattle.std.specs.Prelude.{◌≡◌, ◌==◌, ◌||◌, not};
 ghost use Rattle.std.specs.List.{list_any};
 ghost use Rattle.vr_disk.specs.DiskState.{judged, is_to_fail, counted};
-ghost use Rattle.vr_mem.specs.Seen.{fate_of, call_verdict};
+ghost use Rattle.vr_mem.specs.Calls.{fate_of, call_verdict};
 
 /// It lets so many writes and syncs through, and cuts the next one.
 #[derive(Clone, Copy)]

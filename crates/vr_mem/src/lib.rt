@@ -2,17 +2,15 @@
 //! it a disk whose sectors may read otherwise.
 #![tactic(auto)]
 
-mod bytes;
 mod cell_disk;
-mod cells;
 mod disk;
 mod fate;
 mod laws;
 mod name;
-mod owed;
+mod texts;
 
-pub use bytes::damage;
 pub use cell_disk::CellDisk;
 pub use disk::MemDisk;
 pub use fate::MemVerdict;
 pub use laws::honest_disk;
+pub use vr_cells::damage;

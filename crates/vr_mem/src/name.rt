@@ -14,7 +14,7 @@ pub struct DiskName {
 }
 
 impl DiskName {
-    ghost use Rattle.vr_mem.specs.Seen.{name_given};
+    ghost use Rattle.vr_mem.specs.Calls.{name_given};
 
     /// That of a disk that wasn't attached yet.
     pub fn none(alloc: Global) -> Result<DiskName, AllocError>

@@ -13,7 +13,7 @@ use Rattle.vr_disk.proofs.Together.{together_first, together_same}
 use Rattle.vr_header.specs.Made.{Whole, entry_bytes}
 use Rattle.vr_header.specs.Spelling.{header_bytes, named_bytes}
 use Rattle.vr_header.specs.Bodies.{operation_bytes}
-use Rattle.vr_mem.specs.Lies.{lied}
+use Rattle.vr_lie.specs.Lies.{lied}
 use Rattle.vr_super.specs.Opens.{copy_reading, good_copy, mode_in, opens}
 use Rattle.vr_rings.specs.Held.{Holds, MayRead, is_header_sector}
 use Rattle.vr_rings.specs.Slots.{IsWhole, header_in, header_of, header_reading, padded, prepare_bytes, prepare_reading, sector_of, whole_in, whole_of}

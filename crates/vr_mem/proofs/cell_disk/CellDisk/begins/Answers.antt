@@ -1,9 +1,9 @@
 use Rattle.std.proofs.Common.{◌∙◌, ap, sym, Some}
-use Rattle.vr_mem.specs.Seen.{face_of, read_mark_at}
+use Rattle.vr_cells.specs.Seen.{face_of, read_mark_at}
 use Rattle.vr_mem.proofs.Plain.{told_some}
 use Rattle.vr_mem.proofs.cell_disk.CellDisk.begins.Goals as goal
 
 pub returns-in-Some : goal.returns-in-Some
 returns-in-Some c t =
-    sym (told_some c.args.self.now.owed (face_of c.args.self.now.face) c.args.i c.read_mark.result (read_mark_at c.args.self.now.face c.args.i) c.in-Some.sector.now.bytes c.read_mark.ensures c.in-Some.ensures)
+    sym (told_some c.args.self.now.texts (face_of c.args.self.now.face) c.args.i c.read_mark.result (read_mark_at c.args.self.now.face c.args.i) c.in-Some.sector.now.bytes c.read_mark.ensures c.in-Some.ensures)
     ∙ ap Some (c.begins.ensures t)

@@ -1,5 +1,5 @@
-use Rattle.vr_mem.specs.Seen.{face_of}
-use Rattle.vr_mem.proofs.Named.{named_zeros}
+use Rattle.vr_cells.specs.Seen.{face_of}
+use Rattle.vr_mem.proofs.Meant.{meant_zeros}
 use Rattle.vr_mem.proofs.Plain.{made_sectors}
 use Rattle.vr_mem.proofs.cell_disk.CellDisk.new.Goals as goal
 
@@ -7,4 +7,4 @@ pub invariant_of-result : goal.invariant_of-result
 invariant_of-result c = record { sectors = made_sectors c.in_ok-new-2.field-0 c.in_ok-new.field-0 c.in_ok-new.ensures.whole c.in_ok-new.ensures.face }
 
 pub returns-clause-face : goal.returns-clause-face
-returns-clause-face c = named_zeros c.in_ok-new-2.field-0 (face_of c.in_ok-new.field-0) c.in_ok-new.ensures.face
+returns-clause-face c = meant_zeros c.in_ok-new-2.field-0 (face_of c.in_ok-new.field-0) c.in_ok-new.ensures.face

@@ -1,0 +1,10 @@
+pub mod Faces
+pub mod Made
+pub mod Marks
+pub mod Noted
+pub mod Once
+pub mod Places
+pub mod Settling
+pub mod Shelves
+pub mod Waiting
+pub mod Zeros
