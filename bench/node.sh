@@ -72,7 +72,7 @@ stop
 # said HOW: what one write with its sync took, where it could be done
 said() { times "$folder/$1s" | awk -v cost="$(cat "$folder/$1.cost")" '{ print "median " $1 " us, 99 of 100 " $2 " us, " cost " us of a processor" }' | grep . || echo "not measured"; }
 echo "512 bytes written and synced: $(said sync)"
-echo "the same past the page cache, which no call of the program's toolchain can do: $(said direct)"
+echo "the same past the page cache, as no member does: $(said direct)"
 echo "round trip of 256 bytes: $(times "$folder/trips" | awk '{ print "median " $1 " us, 99 of 100 " $2 " us" }')"
 
 # What each member took of a processor, in nanoseconds, as the scheduler counts it; and of that a put since then.
