@@ -16,6 +16,7 @@ folder=$(mktemp -d "${1:-/tmp}/node.XXXXXX") || exit 2
 puts=${2:-2000}
 port=$((21000 + ($$ * 7) % 8000))
 scheme=${SCHEME:-}
+case $scheme in '' | tcp:) ;; *) echo "bench/node.sh: SCHEME is tcp: or nothing, not $scheme" >&2; exit 2 ;; esac
 addresses="${scheme}127.0.0.1:$port ${scheme}127.0.0.1:$((port + 1)) ${scheme}127.0.0.1:$((port + 2))"
 members=()
 etcds=()
@@ -47,7 +48,7 @@ node_members() {
 
 lines() { awk -v count="$1" -v value="$value" -v client="$2" 'BEGIN { for (i = 0; i < count; i++) print "put c" client "k" i % 10, value }'; }
 
-# Clients side by side, numbered from the first; each one's times go to a file. Prints puts a second, and the times.
+# Clients side by side, numbered from the first; each one's times go to a file. Prints puts a second, and the times; ends with 2 where one lacks answers.
 run_clients() {
     local kind=$1 clients=$2 first=$3 c before after
     local waits=()
@@ -61,6 +62,9 @@ run_clients() {
     done
     wait "${waits[@]}"
     after=${EPOCHREALTIME/./}
+    for c in $(seq $clients); do
+        [ "$(wc -l < "$folder/times.$c")" -ge $((puts - 1)) ] || { echo "client $c of $clients ($kind) didn't get all its answers" >&2; return 2; }
+    done
     echo "$((clients * puts * 1000000 / (after - before))) $(times "$folder"/times.*)"
 }
 
@@ -82,9 +86,9 @@ busy_puts() { echo "$2 $(busy)" | awk -v puts=$puts -v kind="$1" '{ for (m = 0; 
 floor_members
 declare -A floor
 before=$(busy)
-floor[1]=$(run_clients floor 1 0)
+floor[1]=$(run_clients floor 1 0) || exit 2
 busy_puts 'member of the floor' "$before"
-for clients in 2 4 8; do floor[$clients]=$(run_clients floor $clients 0); done
+for clients in 2 4 8; do floor[$clients]=$(run_clients floor $clients 0) || exit 2; done
 stop
 
 node_members
@@ -92,7 +96,7 @@ worst=0
 printf '%8s | %8s %8s %8s %8s | %8s %8s %8s %8s | %s\n' clients floor/s median '99%' mean group/s median '99%' mean 'mean, and puts a second, to the floor'
 first=100
 for clients in 1 2 4 8; do
-    group=$(run_clients node $clients $first)
+    group=$(run_clients node $clients $first) || exit 2
     first=$((first + clients))
     echo "$clients ${floor[$clients]} $group" | awk '{ printf "%8s | %8s %8s %8s %8s | %8s %8s %8s %8s | %.2f, %.2f\n", $1, $2, $3, $4, $5, $6, $7, $8, $9, $9 / $5, $6 / $2 }'
     [ $clients = 1 ] && echo "${floor[1]} $group" | awk '{ exit !($8 > 2 * $4) }' && worst=1
@@ -126,7 +130,7 @@ else echo 'etcd: not measured (it is not installed)'; fi
 
 # Processor time of each member, and system calls, for puts of one client.
 before=$(busy)
-run_clients node 1 200 > /dev/null
+run_clients node 1 200 > /dev/null || exit 2
 busy_puts "member" "$before"
 if command -v strace > /dev/null; then
     for m in 0 1; do
