@@ -16,7 +16,7 @@ TABLE = TOP / "command" / "checks.txt"
 MARKS = frozenset(("quick", "time"))
 # A check that takes S seconds of a processor has this many on the clock: a machine may be busy and slow.
 LEAST, TIMES = 60, 10
-LEFT_OUT = re.compile(r".*skipped '(.*)'|\s*left out: (.*)")
+LEFT_OUT = re.compile(r""".*skipped (?P<quote>['"])(?P<skipped>.*)(?P=quote)|\s*left out: (?P<told>.*)""")
 LINES_OF_A_FAILURE = 60
 
 
@@ -68,7 +68,7 @@ def lacks(check: Check, program: Optional[str]) -> Optional[str]:
 def parts_left_out(text: str) -> List[str]:
     """Why a check left out parts of itself, by its output, and how many for each reason."""
     found = (LEFT_OUT.match(line) for line in text.splitlines())
-    counts = collections.Counter(one[1] or one[2] for one in found if one)
+    counts = collections.Counter(one["skipped"] or one["told"] for one in found if one)
     return [f"{count} of its tests: {why}" if count > 1 else why for why, count in sorted(counts.items())]
 
 
