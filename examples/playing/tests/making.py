@@ -6,6 +6,7 @@ import subprocess
 import sys
 import tempfile
 from pathlib import Path
+from typing import List
 
 PLAYING = Path(__file__).resolve().parents[1]
 EXAMPLES = PLAYING.parent
@@ -17,6 +18,16 @@ LONG = os.environ.get("PLAY_LONG") == "1"
 NODE = shutil.which("node") or ""
 PROGRAM = subprocess.run([str(EXAMPLES.parent / "command" / "program")], capture_output=True, text=True, check=False).stdout.strip()
 FOLDER = tempfile.TemporaryDirectory()
+# The page's program has a memory of 64 bits: the smallest module with one, and the option by which an older node takes it.
+TAKES_IT = "process.exit(WebAssembly.validate(new Uint8Array([0, 97, 115, 109, 1, 0, 0, 0, 5, 3, 1, 4, 0])) ? 0 : 1)"
+OPTION = "--experimental-wasm-memory64"
+
+
+def node_words() -> List[str]:
+    """How node is called so that it takes the page's program; nothing where it can't."""
+    calls = ([NODE], [NODE, OPTION]) if NODE else ()
+    takes = (words for words in calls if subprocess.run([*words, "-e", TAKES_IT], capture_output=True, check=False).returncode == 0)
+    return next(takes, [])
 
 
 def reason() -> str:
@@ -42,4 +53,6 @@ def made(*words: str) -> Path:
 
 
 REASON = reason()
+NODE_WORDS = node_words()
+NODE_REASON = REASON or ("" if NODE_WORDS else "this node takes no memory of 64 bits")
 WASM = None if REASON else made("--wasm")

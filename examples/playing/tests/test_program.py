@@ -11,7 +11,7 @@ import unittest
 from pathlib import Path
 from typing import Any, List
 
-from making import LONG, NODE, PROGRAM, REASON, WASM
+from making import LONG, NODE, NODE_REASON, NODE_WORDS, PROGRAM, WASM
 from schedules import schedule
 
 HERE = Path(__file__).resolve().parent
@@ -47,7 +47,7 @@ def native(*words: str, text: bytes = b"") -> "subprocess.CompletedProcess[bytes
 
 def at_work(*words: str) -> Any:
     """What the page's parts come to under node (at_work.mjs)."""
-    made = subprocess.run([NODE, str(HERE / "at_work.mjs"), str(WASM), *words], capture_output=True, check=False)
+    made = subprocess.run([*NODE_WORDS, str(HERE / "at_work.mjs"), str(WASM), *words], capture_output=True, check=False)
     if made.returncode:
         raise AssertionError(made.stderr.decode())
     return json.loads(made.stdout)
@@ -58,7 +58,7 @@ def text_of(lines: List[str]) -> bytes:
     return "".join(line + "\n" for line in lines).encode()
 
 
-@unittest.skipIf(REASON, REASON)
+@unittest.skipIf(NODE_REASON, NODE_REASON)
 class SameBytes(unittest.TestCase):
     """The program in WebAssembly writes what the native one does."""
 
@@ -102,7 +102,7 @@ class SameBytes(unittest.TestCase):
         return path
 
 
-@unittest.skipIf(REASON, REASON)
+@unittest.skipIf(NODE_REASON, NODE_REASON)
 class Lines(unittest.TestCase):
     """Why a line is refused: the page says a reason exactly where the program refuses."""
 
