@@ -1,15 +1,16 @@
 #!/usr/bin/env bash
 # Measures a group of three members of the built program (as command/program finds it) on loopback, each with a file in FOLDER, beside
 # the floor of the rules on this machine in the same run: three members of a small C program and its asker that make the same calls with no
-# protocol between them (bench/node/floor.c). For 1, 2, 4 and 8 clients, each with one put of 100 bytes after the other: puts a second, and of one put the median,
-# the 99th of 100 and the mean. Then the same puts on a group of three of etcd, where it is installed, each at its leader over its own protocol;
-# system calls a put, processor time a put, an idle group's, and the pause when the primary is killed.
+# protocol between them (bench/node/floor.c). For 1, 2, 4 and 8 clients, each with one put of 100 bytes after the other: puts a second, and
+# of one put the median, the 99th of 100 and the mean. Then the same puts on a group of three of etcd, where it is installed, each at its
+# leader over its own protocol; system calls a put, processor time a put, an idle group's, and the pause when the primary is killed.
 #   SCHEME=tcp: bench/node.sh ..      the group over TCP; the floor's messages are datagrams all the same
-#   bench/node.sh [FOLDER [PUTS]]     FOLDER on the disk that is to be measured (a new one in /tmp without it), PUTS a client (2000)
-# It ends with status 1 where one client's mean is above twice the floor's. Needs bash, awk, a C compiler, and strace for the system calls.
+#   bench/node.sh [FOLDER [PUTS]]     FOLDER on the disk that is to be measured (a new one in /tmp without it), PUTS a client: 2 and more (2000)
+# It ends with status 1 where one client's mean is above twice the floor's, and with 2 where a client lacks answers. Needs bash, awk, a C compiler, and strace for the system calls.
 # Where other work goes on, run all of it at real-time priority (chrt -f 10 bench/node.sh): else a sync's end waits for time slices.
 . "$(dirname "$0")/../command/help.sh"
 set -u
+[ $# -le 2 ] && [[ ${2:-2000} =~ ^[1-9][0-9]{0,6}$ ]] && [ "${2:-2000}" -ge 2 ] || { echo "usage: bench/node.sh [FOLDER [PUTS]], PUTS 2 and more" >&2; exit 2; }
 cd "$(dirname "$0")/.." || exit 2
 program=$(command/program) || exit 2
 folder=$(mktemp -d "${1:-/tmp}/node.XXXXXX") || exit 2
@@ -68,7 +69,7 @@ run_clients() {
     echo "$((clients * puts * 1000000 / (after - before))) $(times "$folder"/times.*)"
 }
 
-for how in sync direct; do "$folder/floor" $how "$folder/sync" 2000 > "$folder/${how}s" 2> "$folder/$how.cost"; done
+for how in sync direct; do "$folder/floor" $how "$folder/sync" 2000 > "$folder/${how}s" 2> "$folder/$how.cost" || { cat "$folder/$how.cost" >&2; exit 2; }; done
 "$folder/floor" echo $((port + 9)) <&$hold & members+=($!)
 sleep 0.2
 "$folder/floor" trip $((port + 9)) 5000 > "$folder/trips"
@@ -136,7 +137,7 @@ if command -v strace > /dev/null; then
     for m in 0 1; do
         strace -c -f -o "$folder/calls.$m" -p "${members[$m]}" 2> /dev/null & tracer=$!
         sleep 1
-        run_clients node 1 $((210 + m)) > /dev/null
+        run_clients node 1 $((210 + m)) > /dev/null || exit 2
         kill -INT $tracer; wait $tracer 2> /dev/null
         awk -v puts=$puts -v m=$m '/^ *[0-9]/ && $NF != "total" { printf "%s%s %.2f", (seen++ ? ", " : "member " m ", system calls a put: "), $NF, $4 / puts } END { print "" }' "$folder/calls.$m"
     done

@@ -38,7 +38,7 @@ counts() {
     done
     sleep 1
     awk -v count="$puts" -v value="$value" 'BEGIN { for (i = 0; i < count; i++) print "put k" i % 10, value }' |
-        "$program" client 5 100 1000000 $addresses > "$folder/answers"
+        timeout 300 "$program" client 5 100 1000000 $addresses > "$folder/answers"
     status=$?
     stop
     mv "$folder/lines.$watched" "$folder/lines"
