@@ -328,10 +328,10 @@ class Report:
         self.path, self.length, self.blocks, self.age = path, stat.st_size, stat.st_blocks, max(0, int(time.time() - stat.st_mtime))
         self.superblock = Superblock(data)
         self.value = self.superblock.value
-        self.places = Places(set(), set(), set())
+        self.places, self.missing = Places(set(), set(), set()), 0  # blocks of the checkpoint that can't be read
         if self.value:
             self.slots, self.checkpoint = Slots(data, self.value), Checkpoint(data, self.value)
-            self.places = self.find_places()
+            self.places, self.missing = self.find_places(), len(set(self.checkpoint.faulty))
 
     def find_places(self) -> Places:
         found = self.slots.found
@@ -346,9 +346,8 @@ class Report:
             return None
         found, value, damaged = self.slots.found, self.value, self.places.mended | self.places.unsure
         lost, unknown = (tuple(op for op in sorted(found[kind]) if ("operation", op) in damaged) for kind in ("lost", "unknown"))
-        missing = sum(kind == "block" for kind, _ in damaged)
         last = max(found["here"] + found["lost"] + found["wanted"], default=value.checkpoint)
-        return whole.Facts(value.checkpoint, value.checkpoint == 0 or value.checkpoint in value.headers, missing, lost, unknown, last)
+        return whole.Facts(value.checkpoint, value.checkpoint == 0 or value.checkpoint in value.headers, self.missing, lost, unknown, last)
 
     def damaged(self) -> int:
         """How many places are damaged; of a file that is no member's, more than there are."""
@@ -405,12 +404,13 @@ class Report:
 
 
 def look(path: str) -> Report:
-    """The report on a file. Where there is damage it looks again: a member may be writing there. Only what is damaged at each look is damage."""
+    """The report on a file. Where there is damage it looks again: a member may be writing there. Only what is damaged at each look is damage. Of blocks
+    as many are missing as at the best look: under load it may be of other checkpoints that they are."""
     report = Report(path)
     for _ in range(TRIES - 1):
-        if report.damaged() == 0:
+        if report.damaged() == 0 and report.missing == 0:
             break
         time.sleep(PAUSE)
-        before, report = report.places, Report(path)
-        report.places = report.places & before
+        before, report = report, Report(path)
+        report.places, report.missing = report.places & before.places, min(report.missing, before.missing)
     return report

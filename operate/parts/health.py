@@ -33,6 +33,16 @@ def unsure(report: Optional[Report]) -> int:
     return len(report.places.unsure) if report is not None else 0
 
 
+def has_state(policy: Policy, life: Life) -> Optional[bool]:
+    """Whether a member has the whole state, by its lines and by the last look at its file: each block of its checkpoint. None until somebody looked."""
+    if policy.seen.lacks:
+        return False
+    facts = life.report.facts() if life.report is not None else None
+    if facts is None:
+        return None if life.looked is None else False
+    return facts.missing == 0
+
+
 def state(policy: Policy, now: float, runs: bool) -> str:
     if not runs:
         return "down"
@@ -111,6 +121,7 @@ def line(policy: Policy, now: float, life: Life) -> str:
         **of_clients(life, now),
         **of_file(life),
         **of_quorum(life, now),
+        "has_state": {None: "-", True: "yes", False: "no"}[has_state(policy, life)],
         "views": seen.views_lately(now),
         "undecided": told(seen.waits_to_choose(now) if runs else None),
     }

@@ -56,6 +56,10 @@ class Known(NamedTuple):
         """What its file holds of what a whole quorum needs, as far as its keeper knows it now."""
         return whole.of_line(self.line) if self.line is not None else None
 
+    def has_state(self) -> Optional[bool]:
+        """Whether it has the whole state; None where nobody can tell."""
+        return {"yes": True, "no": False}.get((self.line or {}).get("has_state", "-"))
+
     def is_dark(self) -> bool:
         """Whether nothing at all is known of it."""
         return self.line is None and self.reply is None and not self.refused
@@ -192,6 +196,20 @@ def quorums(members: List[Known], leader: Optional[int]) -> List[Tuple[int, ...]
     return whole.whole_quorums({member: facts for member, facts in present(members, leader).items() if facts is not None}, len(members))
 
 
+def with_state(members: List[Known]) -> List[int]:
+    """The members that are known to have the whole state."""
+    return [member for member, known in enumerate(members) if known.has_state()]
+
+
+def scarcity(members: List[Known]) -> Optional[str]:
+    """Why the loss of one member might be the loss of the state: some are known to lack it, and of those that have it less than a quorum would be left."""
+    having, lacking = with_state(members), [member for member, known in enumerate(members) if known.has_state() is False]
+    if not lacking or len(having) > whole.VIEW_CHANGE[len(members)]:
+        return None
+    where = f"is at {whole.members_of(having)} alone" if having else "isn't whole at any member that is known"
+    return f"the state {where}: {whole.members_of(lacking)} {'lacks' if len(lacking) == 1 else 'lack'} blocks of it; stop no other member, and hold the clients back for some seconds"
+
+
 def unwhole(members: List[Known], taking_part: Iterable[int]) -> Optional[str]:
     """Why no quorum is whole although enough members take part and are known; None where one is."""
     known = {member: members[member].facts() for member in taking_part if members[member].facts() is not None}
@@ -240,12 +258,11 @@ def judge(members: List[Known], has_keepers: bool) -> Verdict:
     if silent is not None:
         begins = unbegun(members, is_led=absent is None)
         running = [member for member, known in enumerate(members) if known.state() not in ("down", "hangs")]
-        told = [why for why in (f"the group doesn't answer: {silent}", begins, unwhole(members, running)) if why is not None]
+        told = [why for why in (f"the group doesn't answer: {silent}", begins, unwhole(members, running), scarcity(members)) if why is not None]
         return Verdict(SILENT, leader, view, commit_of(members), told + why, may_change=absent is not None)
     if not is_known(members, leader):
         return Verdict(UNKNOWN, leader, view, commit_of(members), ["too little is known to tell whether the group answers"] + why)
-    lacking = unwhole(members, present(members, leader))
-    why = ([lacking] if lacking else []) + why
+    why = [reason for reason in (unwhole(members, present(members, leader)), scarcity(members)) if reason is not None] + why
     return Verdict(AILS if why else WELL, leader, view, commit_of(members), why)
 
 
@@ -265,6 +282,7 @@ def as_json(cluster: int, members: List[Known], verdict: Verdict, has_keepers: b
     return {
         "group": cluster, "code": verdict.code, "verdict": NAMES[verdict.code], "leader": verdict.leader, "view": verdict.view, "commit": verdict.commit, "why": verdict.why,
         "whole_quorums": [list(quorum) for quorum in quorums(members, verdict.leader)] if has_keepers else None, "view_change_quorum": whole.VIEW_CHANGE[len(members)],
+        "with_state": with_state(members) if has_keepers else None,
         "members": [dict(member_json(member, known, verdict), **stop_json(known, found[member])) for member, known in enumerate(members)],
     }
 
@@ -289,6 +307,7 @@ def member_json(member: int, known: Known, verdict: Verdict) -> Dict[str, object
         "restarts": count("restarts"), "ends": count("ends"), "version": count("version"), "mode": None if line.get("mode", "-") == "-" else line["mode"],
         "keys": count("keys"), "most_keys": limits.get("keys"), "sessions": count("sessions"), "most_sessions": limits.get("sessions"),
         "damaged": count("damaged"), "unsure": count("unsure"), "asks": dash(line, "asks"), "mends": dash(line, "mends"), "answers": known.reply.kind if known.reply else None,
+        "has_state": known.has_state(),
         "fault": known.fault or None,
     }
 

@@ -34,7 +34,7 @@ BEAT = 0.25  # seconds from one look at whether the member goes on to the next
 FIRST_LOOK = 1.0  # seconds from a start to the first look at the data file
 POST = 10.0  # seconds from one writing of the metrics' file to the next
 FRESH = 2.0  # seconds; where its health is asked, and the last look at the file is older, it is looked at again
-UNSURE_LOOK = 5.0  # seconds from look to look while the file can't tell of some slots; else a minute
+SOON = 5.0  # seconds from look to look while the file can't tell of some slots, or blocks are missing; else a minute
 KILLED = 5.0  # seconds after which a member that doesn't end is killed
 HELD = 20  # exit code: another keeper, or a member that it left, has the file
 TURNS = str(2 ** 64 - 1)
@@ -423,6 +423,8 @@ class Keeper:
             self.opened = True
         elif line.kind == "applied":
             self.tally.hear(line)
+        elif line.kind == "get_block" and self.look_at is not None:
+            self.look_at = min(self.look_at, now + SOON)
         if self.thinner.keeps(now, text, line):
             self.writer.put(text)
         reason = self.policy.hear(now, line)
@@ -457,7 +459,7 @@ class Keeper:
         if self.child is None or self.look_at is not None:
             return
         unsure = health.unsure(self.report)
-        self.look_at = self.clock() + (UNSURE_LOOK if unsure else MINUTE)
+        self.look_at = self.clock() + (SOON if unsure or not health.has_state(self.policy, self.life()) else MINUTE)
         if unsure and not self.renewed and self.opened and self.renewal is None and self.pauses.renew > 0:
             self.renew(unsure)
 

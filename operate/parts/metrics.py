@@ -116,6 +116,8 @@ def of_file(told: Told) -> Iterator[Metric]:
     takes_part = runs and not told.policy.seen.changes(told.now) and not told.policy.seen.lacks
     yield one("member_whole", "gauge", "Whether the member takes part and its file holds all that a whole quorum needs of it: a quorum of such members goes on without the others.",
               int(takes_part and whole.is_whole_alone(facts)) if facts else None)
+    has_state = health.has_state(told.policy, told.life)
+    yield one("member_has_state", "gauge", "Whether the member has the whole state: each block of its checkpoint, by its lines and its file.", None if has_state is None else int(has_state))
     yield one("group_members", "gauge", "Members that the group has.", value.members if value else None)
     yield one("view_change_quorum", "gauge", "Members that a change of views takes.", whole.VIEW_CHANGE[value.members] if value else None)
     yield one("keys", "gauge", "Keys that the group holds.", tally.keys if tally else None)

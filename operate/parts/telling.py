@@ -42,8 +42,9 @@ def stop_lines(told: Dict) -> List[str]:
     """Which quorums are whole, and why members may not be stopped, alike ones in one line."""
     if told["whole_quorums"] is None:
         return []
-    of = told["view_change_quorum"]
-    lines = [f"whole quorums, of {of}: {', '.join(' '.join(map(str, quorum)) for quorum in told['whole_quorums']) or 'none'}"]
+    of, having = told["view_change_quorum"], told["with_state"]
+    lines = [f"the whole state is at {len(having)} of {len(told['members'])} members: {' '.join(map(str, having)) or 'none'}",
+             f"whole quorums, of {of}: {', '.join(' '.join(map(str, quorum)) for quorum in told['whole_quorums']) or 'none'}"]
     why: Dict[str, List[int]] = {}
     for member in told["members"]:
         if member["may_be_stopped"] is not None:

@@ -132,7 +132,7 @@ class Rules(unittest.TestCase):
         with open(os.path.join(FILES, "alerts.yml")) as rules, open(os.path.join(FILES, "alerts-test.yml")) as tests:
             alerts, tested = re.findall(r"- alert: (\w+)", rules.read()), tests.read()
         for alert in alerts:
-            self.assertEqual(tested.count(f"alertname: {alert}\n"), 2, alert)
+            self.assertGreaterEqual(tested.count(f"alertname: {alert}\n"), 2, alert)
 
     @unittest.skipUnless(shutil.which("promtool"), "no promtool (Debian's prometheus)")
     def test_the_alerts_fire(self):

@@ -1,5 +1,6 @@
 """Whether a quorum is whole, and who may be stopped: by what files hold, in the line of a keeper, in what is told of a group, and by a roll."""
 
+import types
 import unittest
 from typing import Dict
 
@@ -98,6 +99,26 @@ class Lines(unittest.TestCase):
         self.assertIsNone(whole.of_line(self.told(FINE, looked=2.0, up=1.0)))
         self.assertEqual(whole.of_line(self.told(FINE, well="stands,lacks_blocks")).missing, 1)
 
+    def test_who_has_the_state(self):
+        """By what its lines say, and by what the last look at its file found."""
+        def report(missing: int):
+            return types.SimpleNamespace(value=None, places=datafile.Places(set(), set(), set()), facts=lambda: FINE._replace(missing=missing))
+
+        for name, lacks, found, looked, wanted in [
+            ("nobody has looked", False, None, None, None),
+            ("nobody has looked, and it asks for blocks", True, None, None, False),
+            ("all blocks are there", False, report(0), 1.0, True),
+            ("one isn't", False, report(1), 1.0, False),
+            ("they are there, and it has applied nothing yet", True, report(0), 1.0, False),
+            ("its file can't be read", False, None, 1.0, False),
+        ]:
+            with self.subTest(name):
+                seen = policy.Policy(5.0, lambda: 0.5)
+                seen.seen.lacks = lacks
+                life = health.Life(1, 0.0, 0, 0, 0, 0, report=found, looked=looked)
+                self.assertEqual(health.has_state(seen, life), wanted)
+                self.assertEqual(health.read(health.line(seen, 3.0, life))["has_state"], {None: "-", True: "yes", False: "no"}[wanted])
+
     def test_a_keepers_line(self):
         seen = policy.Policy(5.0, lambda: 0.5)
         for view in range(9):
@@ -123,6 +144,23 @@ class Told(unittest.TestCase):
         self.assertIn("whole quorums, of 2: 0 1\n", text)
         self.assertIn("any one of members 0 1 may be stopped: no, because the file of member 2 can't tell of 2 of its slots (operations 75,128)", text)
         self.assertIn("member 2 may be stopped: yes", text)
+
+    def test_how_many_have_the_state(self):
+        """By docs/OPERATING.md: who has it, and where after the loss of one more fewer than a change of views takes would be left."""
+        few = "the state is"
+        for name, size, having, lacking, tells in [
+            ("all have it", 3, 3, 0, False), ("one of three lacks it", 3, 2, 1, True), ("two of three lack it", 3, 1, 2, True), ("nobody has it", 3, 0, 3, True),
+            ("one of five lacks it", 5, 4, 1, False), ("two of five lack it", 5, 3, 2, True), ("of one nothing is known", 3, 2, 0, False), ("one of two lacks it", 2, 1, 1, True),
+        ]:
+            with self.subTest(name):
+                words = ["yes"] * having + ["no"] * lacking + ["-"] * (size - having - lacking)
+                members = [self.known(member, "follows" if member else "leads", FINE, has_state=word) for member, word in enumerate(words)]
+                verdict = judge(members, True)
+                told = as_json(5, members, verdict)
+                self.assertEqual((told["with_state"], verdict.code), (list(range(having)), AILS if tells else WELL))
+                self.assertEqual(any(why.startswith(few) for why in verdict.why), tells, verdict.why)
+                self.assertEqual([member["has_state"] for member in told["members"]], [{"yes": True, "no": False, "-": None}[word] for word in words])
+                self.assertIn(f"the whole state is at {having} of {size} members: {' '.join(map(str, range(having))) or 'none'}\n", table(told))
 
     def test_without_keepers_nobody_can_tell(self):
         members = [Known(None, "", Reply(kind, 3, 1)) for kind in ("evicted", "redirect", "redirect")]
