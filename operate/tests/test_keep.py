@@ -2,6 +2,7 @@
 
 import os
 import signal
+import socket
 import subprocess
 import tempfile
 import time
@@ -177,6 +178,21 @@ class Asking(Keeping):
         made = subprocess.run([os.path.join(HERE, "health"), "/no/such/socket"], capture_output=True, text=True)
         self.assertEqual(made.returncode, 3)
         self.assertIn("no keeper answers", made.stderr)
+
+    def test_health_by_the_keepers_port(self):
+        with socket.create_server(("127.0.0.1", 0)) as one:
+            port = f"127.0.0.1:{one.getsockname()[1]}"
+        script = os.path.join(HERE, "health")
+        kept = self.keep("say start 0 view 4 log_view 4 commit 32\nstand", "--health", port)
+        self.assertTrue(kept.until(lambda: "view=4" in kept.ask("health")))
+        made = subprocess.run([script, port], capture_output=True, text=True)
+        self.assertEqual((made.returncode, health.read(made.stdout)["view"]), (0, "4"), made.stderr)
+        made = subprocess.run([script, port, "--restart"], capture_output=True, text=True)
+        self.assertEqual((made.returncode, kept.starts()), (2, 1))
+        self.assertIn("--restart takes the keeper's socket", made.stderr)
+        kept.end()
+        made = subprocess.run([script, port], capture_output=True, text=True)
+        self.assertEqual((made.returncode, made.stderr), (3, f"health: no keeper answers at {port}: Connection refused\n"))
 
     def test_a_second_keeper_is_refused(self):
         kept = self.keep("stand")
