@@ -16,7 +16,7 @@ from . import datafile, doors, endings, health, metrics
 from .demand import PROBE, Demand
 from .health import Life
 from .lines import Splitter, parse
-from .log import Thinner, Writer
+from .log import Thinner, Writer, private
 from .looking import Looker
 from .policy import Policy
 from .pulse import Pulse
@@ -68,7 +68,7 @@ class Lock:
     """One keeper for a data file. The member has the lock too, so that a keeper that was killed leaves it to its member until that has ended."""
 
     def __init__(self, path: str, wait: float) -> None:
-        self.file = open(path, "a+b", buffering=0)
+        self.file = open(path, "a+b", buffering=0, opener=private)
         end = time.monotonic() + wait
         while not self.take():
             if time.monotonic() > end:

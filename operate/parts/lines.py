@@ -87,6 +87,18 @@ READERS = {
 }
 
 
+VALUES = {b"commit": (10, b"put", 12), b"reply": (8, b"value", 9)}  # of lines that have one: which word says so, and which one it is
+
+
+def without_value(text: bytes) -> bytes:
+    """A line with `*` in the place of the value that is put or read; also where it was cut in that value."""
+    words = text.split(b" ")
+    at, says, place = VALUES.get(words[0], (0, b"", len(words)))
+    if len(words) <= place or words[at] != says:
+        return text
+    return b" ".join(words[:place] + [b"*"])
+
+
 class Splitter:
     """Cuts what is read, in pieces of any length, into lines. A line longer than LONGEST is given up to its end, and counted."""
 

@@ -17,6 +17,11 @@ NEVER = float("-inf")
 MOST_WAITING = 20_000  # lines that wait to be written; more are dropped, and counted
 
 
+def private(path: str, flags: int) -> int:
+    """Opens a file, as `open` has it done: one that is made is for its owner alone, whatever the umask is."""
+    return os.open(path, flags, 0o600)
+
+
 def stamp(seconds: float) -> str:
     """A time since the epoch in UTC, to milliseconds."""
     whole = time.strftime("%Y-%m-%dT%H:%M:%S", time.gmtime(seconds))
@@ -73,7 +78,7 @@ class Rotating:
 
     def open(self) -> None:
         """Opens it anew, by its path: what somebody moved away is left alone from then on."""
-        fresh = open(self.path, "ab", buffering=0)
+        fresh = open(self.path, "ab", buffering=0, opener=private)
         self.close()
         self.file, self.size = fresh, fresh.tell()
 
@@ -105,7 +110,7 @@ class Rotating:
                 os.replace(f"{self.path}.{number - 1}", f"{self.path}.{number}")
         if self.kept:
             os.replace(self.path, f"{self.path}.1")
-        fresh = open(self.path, "wb", buffering=0)
+        fresh = open(self.path, "wb", buffering=0, opener=private)
         self.file.close()
         self.file, self.size = fresh, 0
 
@@ -120,10 +125,10 @@ class Waiting(NamedTuple):
 
 class Writer:
     """Writes lines in a thread of its own: who gives them never waits, neither for a slow disk nor for a full one. What can't be written, or
-    comes while MOST_WAITING lines wait, is dropped and counted."""
+    comes while MOST_WAITING lines wait, is dropped and counted. `spell` gives what is written of a line."""
 
-    def __init__(self, file: Optional[Rotating], say: Callable[[str], None] = lambda text: None) -> None:
-        self.file, self.say = file, say
+    def __init__(self, file: Optional[Rotating], say: Callable[[str], None] = lambda text: None, spell: Callable[[bytes], bytes] = bytes) -> None:
+        self.file, self.say, self.spell = file, say, spell
         self.waiting: "queue.Queue[Optional[Waiting]]" = queue.Queue(MOST_WAITING)
         self.dropped = 0
         self.complained: Optional[str] = None  # why the log couldn't be written last
@@ -133,7 +138,7 @@ class Writer:
     def put(self, text: bytes, said: bool = False) -> None:
         """A line, with the present time before it; one that is said goes to standard error too."""
         try:
-            self.waiting.put_nowait(Waiting(time.time(), text, said))
+            self.waiting.put_nowait(Waiting(time.time(), self.spell(text), said))
         except queue.Full:
             self.dropped += 1
 

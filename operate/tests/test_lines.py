@@ -2,7 +2,7 @@
 
 import unittest
 
-from parts.lines import LONGEST, UNKNOWN, Line, Splitter, parse
+from parts.lines import LONGEST, UNKNOWN, Line, Splitter, parse, without_value
 
 ROWS = [
     ("send 9 0 1 commit view 3 op 12 commit 10", Line("beat", 3, 12, 10)),
@@ -35,7 +35,29 @@ ROWS = [
 ]
 
 
+VALUES = [
+    ("commit 2 op 7 view 1 client 9 request 3 put color green", "commit 2 op 7 view 1 client 9 request 3 put color *"),
+    ("reply 2 client 9 request 4 op 8 value green", "reply 2 client 9 request 4 op 8 value *"),
+    ("commit 2 op 7 view 1 client 9 request 3 put color gr", "commit 2 op 7 view 1 client 9 request 3 put color *"),
+    ("commit 2 op 7 view 1 client 9 request 3 put color", "commit 2 op 7 view 1 client 9 request 3 put color"),
+    ("commit 2 op 7 view 1 client 9 request 3 put", "commit 2 op 7 view 1 client 9 request 3 put"),
+    ("commit 2 op 7 view 1 client 9 request 3 get put", "commit 2 op 7 view 1 client 9 request 3 get put"),
+    ("commit 2 op 7 view 1 client 9 request 3 del color", "commit 2 op 7 view 1 client 9 request 3 del color"),
+    ("commit 2 op 7 view 1 client 9 request 0 register", "commit 2 op 7 view 1 client 9 request 0 register"),
+    ("reply 2 client 9 request 3 op 7 ok", "reply 2 client 9 request 3 op 7 ok"),
+    ("reply 2 client 9 request 3 busy", "reply 2 client 9 request 3 busy"),
+    ("send 9 0 1 prepare view 3 op 13 made 3 commit 12", "send 9 0 1 prepare view 3 op 13 made 3 commit 12"),
+    ("keep: member=2 well=yes", "keep: member=2 well=yes"),
+    ("", ""),
+]
+
+
 class Lines(unittest.TestCase):
+    def test_values_are_left_out(self):
+        for text, shown in VALUES:
+            with self.subTest(text):
+                self.assertEqual(without_value(text.encode()), shown.encode())
+
     def test_rows(self):
         for text, line in ROWS:
             with self.subTest(text):
