@@ -26,6 +26,7 @@ class Life(NamedTuple):
     tally: Optional[Tally] = None  # of its keys and sessions
     demand: Optional[Demand] = None  # of its clients
     looked: Optional[float] = None  # when the last look at its file began
+    no_file: bool = False  # whether that look found no file that can be read as a member's, or another file than the one that the member has open
 
 
 def unsure(report: Optional[Report]) -> int:
@@ -56,6 +57,8 @@ def troubles(policy: Policy, now: float, life: Life) -> List[str]:
     if life.since is None:
         return ["down"]
     found = ["hangs"] if life.silent > HANGS else []
+    if life.no_file:
+        found.append("no_file")
     if policy.seen.changes(now) and now - policy.seen.changing_since > LONG_CHANGE:
         found.append("changes")
     if policy.standing(now) > (policy.patience or PATIENCE) / 2:

@@ -152,6 +152,8 @@ class Keeper:
         self.post_at: Optional[float] = None
         self.passing = 0  # starts in a row that ended with 7 before the file was opened
         self.opened = False  # whether this life of the member has opened its file
+        self.had_open = False  # whether it was seen to have the file open that is at its path
+        self.no_file = False  # whether nothing at that path can be read as its file
         self.looker = Looker(words.file)
         self.look_at: Optional[float] = None
         self.report: Optional[datafile.Report] = None
@@ -178,7 +180,7 @@ class Keeper:
 
     def life(self) -> Life:
         silent = self.pulse.silent(self.clock()) if self.pulse is not None else 0.0
-        return Life(self.words.replica, self.since, self.restarts, self.ends, self.lines, self.writer.dropped, silent, self.report, self.tally, self.demand, self.looked)
+        return Life(self.words.replica, self.since, self.restarts, self.ends, self.lines, self.writer.dropped, silent, self.report, self.tally, self.demand, self.looked, self.no_file)
 
     def say_health(self) -> None:
         self.say(f"{self.health()} left_out={self.thinner.left_out}")
@@ -289,7 +291,7 @@ class Keeper:
             return
         self.since = self.clock()
         self.pulse, self.program = Pulse(self.child.pid, self.since), metrics.name_of(self.words.program)
-        self.look_at, self.renewed, self.waiting, self.opened = self.since + FIRST_LOOK, False, False, False
+        self.look_at, self.renewed, self.waiting, self.opened, self.had_open = self.since + FIRST_LOOK, False, False, False, False
         self.policy.begin(self.since)
         self.splitter = Splitter()
         self.lock.tell(f"keeper {os.getpid()}, member {self.child.pid}")
@@ -445,7 +447,7 @@ class Keeper:
         """Has the file looked at, unless that is under way: what it finds then is taken for as old as its beginning."""
         if self.look_began == self.looked:
             self.look_began = self.clock()
-            self.looker.ask()
+            self.looker.ask(self.child.pid if self.child is not None else 0)
 
     def look_again(self) -> None:
         """Somebody asks what the file holds: it is looked at again where the last look is old."""
@@ -454,7 +456,11 @@ class Keeper:
 
     def hear_look(self) -> None:
         """The data file was looked at: what of it is damaged, and what of it a further start couldn't tell of."""
-        self.report, self.looked = self.looker.take(), self.look_began
+        found, self.looked = self.looker.take(), self.look_began
+        self.had_open = self.had_open or found.is_open is True
+        is_other = self.had_open and found.is_open is False
+        self.report = None if is_other else found.report
+        self.tell_no_file("is another one than its member has open" if is_other else "can't be read as a member's")
         self.tally.begin(self.report)
         if self.child is None or self.look_at is not None:
             return
@@ -462,6 +468,14 @@ class Keeper:
         self.look_at = self.clock() + (SOON if unsure or not health.has_state(self.policy, self.life()) else MINUTE)
         if unsure and not self.renewed and self.opened and self.renewal is None and self.pauses.renew > 0:
             self.renew(unsure)
+
+    def tell_no_file(self, why: str) -> None:
+        """Says it once where nothing at the path can be read as the member's file any more, or can again."""
+        before, self.no_file = self.no_file, self.report is None or self.report.value is None
+        if self.no_file and not before and self.child is not None:
+            self.say(f"the file {self.words.file} {why}: what its member has is lost once it ends, so don't stop it; look whether the file was removed, moved or replaced")
+        elif before and not self.no_file:
+            self.say(f"the file {self.words.file} can be read again")
 
     def renew(self, unsure: int) -> None:
         """Has the group write all slots anew, unless another session would end one that may be at work."""

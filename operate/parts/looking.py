@@ -2,38 +2,66 @@
 
 import os
 import threading
-from typing import Optional
+from typing import NamedTuple, Optional
 
 from . import datafile
+
+
+def has_open(process: int, path: str) -> Optional[bool]:
+    """Whether a process has the file open that is at a path; None where nobody can tell."""
+    try:
+        file, folder = os.stat(path), f"/proc/{process}/fd"
+        return any(os.path.samestat(file, found) for found in map(stat_of, os.scandir(folder)) if found is not None)
+    except OSError:
+        return None
+
+
+def stat_of(entry: "os.DirEntry[str]") -> Optional[os.stat_result]:
+    try:
+        return entry.stat()
+    except OSError:
+        return None  # It was closed meanwhile.
+
+
+class Look(NamedTuple):
+    """What one look found: the report on the file, None where it couldn't be read; whether the member has that file open, None where nobody can tell."""
+
+    report: Optional[datafile.Report]
+    is_open: Optional[bool]
 
 
 class Looker:
     """Looks when it is asked to, and tells that it has by a byte at the pipe whose reading end is `told`."""
 
     def __init__(self, path: str) -> None:
-        self.path = path
-        self.report: Optional[datafile.Report] = None  # of the last look; None where the file couldn't be read
+        self.path, self.process = path, 0
+        self.found = Look(None, None)  # by the last look
         self.told, self.tell = os.pipe()
         os.set_blocking(self.tell, False)
         self.wanted = threading.Event()
         threading.Thread(target=self.work, daemon=True).start()
 
-    def ask(self) -> None:
+    def ask(self, process: int) -> None:
+        """Has it look at the file, of which the member with this process has its state."""
+        self.process = process
         self.wanted.set()
 
-    def take(self) -> Optional[datafile.Report]:
+    def take(self) -> Look:
         """What the last look found, once `told` can be read."""
         os.read(self.told, 100)
-        return self.report
+        return self.found
+
+    def look(self) -> Look:
+        try:
+            return Look(datafile.look(self.path), has_open(self.process, self.path))
+        except (OSError, IndexError, ValueError):
+            return Look(None, None)
 
     def work(self) -> None:
         while True:
             self.wanted.wait()
             self.wanted.clear()
-            try:
-                self.report = datafile.look(self.path)
-            except (OSError, IndexError, ValueError):
-                self.report = None
+            self.found = self.look()
             try:
                 os.write(self.tell, b"x")
             except OSError:

@@ -15,7 +15,7 @@ from .policy import Policy
 
 KIND = "text/plain; version=0.0.4; charset=utf-8"
 REPLIES = {"reply": "answered", "busy": "busy", "redirect": "redirected", "old": "old", "gap": "gap", "evicted": "evicted"}
-TROUBLES = ("down", "hangs", "changes", "stands", "lacks_blocks", "unsure")
+TROUBLES = ("down", "hangs", "no_file", "changes", "stands", "lacks_blocks", "unsure")
 
 
 class Counts:

@@ -49,6 +49,32 @@ class Files(Keeping):
         self.assertEqual(code, 9)
         self.assertIn("there is no file", said)
 
+    def test_a_file_that_cannot_be_read_is_told_while_its_member_runs(self):
+        """Removed; written over; put back; and another file under its name, of which its member has nothing."""
+        kept = self.keep(f"{START}\nopen\nstand")
+
+        def is_told(*words: str) -> bool:
+            return kept.until(lambda: all(f" {word} " in kept.ask("health") for word in words), 40)
+
+        with open(kept.file, "rb") as file:
+            data = file.read()
+        self.assertTrue(is_told("well=yes", "has_state=yes", "version=1"))
+        os.rename(kept.file, kept.file + ".away")
+        self.assertTrue(is_told("well=no_file", "has_state=no", "version=-"))
+        made = subprocess.run([os.path.join(HERE, "health"), kept.file + ".socket"], capture_output=True, text=True)
+        self.assertEqual(made.returncode, 1)
+        with open(kept.file, "wb") as file:
+            file.write(data)
+        self.assertFalse(kept.until(lambda: "well=yes" in kept.ask("health"), 4))
+        os.rename(kept.file + ".away", kept.file)
+        self.assertTrue(is_told("well=yes", "has_state=yes"))
+        with open(kept.file, "r+b") as file:
+            file.write(bytes(4 * datafile.COPY))
+        self.assertTrue(is_told("well=no_file", "has_state=no"))
+        log = kept.log()
+        self.assertEqual((log.count("can't be read as a member's: what its member has is lost once it ends"), log.count("can be read again")), (2, 1), log)
+        self.assertEqual(kept.starts(), 1)
+
     def test_no_program(self):
         kept = self.keep("stand", program="/no/such/program")
         code, said = kept.end(by_itself=True)

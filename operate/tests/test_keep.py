@@ -10,6 +10,7 @@ import unittest
 from typing import Optional, Tuple
 
 from parts import asking, health, keeper
+from tests.files import fresh
 
 HERE = os.path.dirname(os.path.dirname(os.path.realpath(__file__)))
 MEMBER = os.path.join(HERE, "tests", "member")
@@ -24,7 +25,7 @@ class Kept:
         with open(self.file + ".plan", "w") as file:
             file.write(plan)
         with open(self.file, "wb") as data:
-            data.write(bytes(512))
+            data.write(fresh(5, replica, 1 if alone else 2))
         self.words = [os.path.join(HERE, "keep"), "--program", program, "--pause", "0.1", "--log", self.file + ".log"] + list(options)
         self.words += ["5", str(replica), self.file, "127.0.0.1:1"] + ([] if alone else ["127.0.0.1:2"])
         self.child = self.begin() if begins else None

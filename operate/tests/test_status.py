@@ -63,6 +63,7 @@ ROWS = [
     ("a slow moment", [known(0, "leads", stands="0.9"), FOLLOWS, THIRD], WELL, 0),
     ("damage", [LEADS, FOLLOWS, known(2, "follows", damaged="2")], AILS, 0),
     ("a file that can't tell of a slot", [LEADS, FOLLOWS, known(2, "follows", well="unsure", damaged="1", unsure="1")], AILS, 0),
+    ("a file that can't be read", [LEADS, FOLLOWS, known(2, "follows", well="no_file", has_state="no")], AILS, 0),
     ("a file of another version", [LEADS, FOLLOWS, known(2, "changes", None, well="changes")], AILS, 0),
     ("three of six are silent", [LEADS, FOLLOWS, THIRD, silent(3), silent(4), silent(5)], AILS, 0),
     ("four of six are silent", [LEADS, FOLLOWS, silent(2), silent(3), silent(4), silent(5)], UNKNOWN, 0),
