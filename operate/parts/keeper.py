@@ -424,7 +424,7 @@ class Keeper:
         if line.kind == "start":
             self.opened = True
         elif line.kind == "applied":
-            self.tally.hear(line)
+            self.tally.hear(now, line)
         elif line.kind == "get_block" and self.look_at is not None:
             self.look_at = min(self.look_at, now + SOON)
         if self.thinner.keeps(now, text, line):

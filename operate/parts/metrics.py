@@ -123,6 +123,8 @@ def of_file(told: Told) -> Iterator[Metric]:
     yield one("keys", "gauge", "Keys that the group holds.", tally.keys if tally else None)
     yield one("keys_limit", "gauge", "Keys that the group can hold.", datafile.KEYS)
     yield one("sessions", "gauge", "Sessions that the group holds.", tally.sessions if tally else None)
+    yield by_label("sessions_evicted_total", "counter", "Sessions that a further one ended, by whether they were used within the five minutes before.", "used",
+                   dict(tally.evicted) if tally else {})
     yield one("sessions_limit", "gauge", "Sessions that the group can hold; a further one ends the one that was used longest ago.", tally.most if tally and tally.op is not None else None)
 
 

@@ -31,8 +31,29 @@ class Tallying(unittest.TestCase):
         tally = Tally()
         tally.begin(start)
         for line in lines:
-            tally.hear(parse(line.encode()))
+            tally.hear(0.0, parse(line.encode()))
         return tally
+
+    def test_which_sessions_are_evicted(self):
+        """Of 32 sessions the one that was used longest ago goes for the 33rd. Whether that may be of a client at work is told by its last use."""
+        for name, last, lately in [("used just now", 990.0, 1), ("used five minutes ago", 700.0, 1), ("used longer ago", 699.0, 0)]:
+            with self.subTest(name):
+                tally = Tally()
+                tally.begin(report(0, {}, []))
+                for client in range(1, 33):
+                    tally.hear(10.0, parse(applied(client, client, 0, "register").encode()))
+                for client in range(1, 33):
+                    tally.hear(last, parse(applied(32 + client, client, 1, "get a").encode()))
+                tally.hear(1000.0, parse(applied(65, 40, 0, "register").encode()))
+                self.assertEqual((tally.sessions, tally.evicted), (32, {"lately": lately, "earlier": 1 - lately}))
+                tally.hear(1000.0, parse(applied(65, 40, 0, "register").encode()))
+                self.assertEqual(sum(tally.evicted.values()), 1)
+
+    def test_a_session_of_which_nothing_was_heard_is_an_old_one(self):
+        tally = Tally()
+        tally.begin(report(32, {client: (0, client) for client in range(1, 33)}, []))
+        tally.hear(1000.0, parse(applied(33, 40, 0, "register").encode()))
+        self.assertEqual(tally.evicted, {"lately": 0, "earlier": 1})
 
     def test_rows(self):
         many = {client: (0, client) for client in range(1, 33)}
