@@ -3,6 +3,7 @@
 from typing import Dict
 
 DISK_FAULT, LINK_FAULT, LOST = 7, 8, 9
+OLDER = 21  # a keeper's: the file is older than the one that it saw last
 PASSING = 5  # so often a member that ends with 7 before its file is open is started again
 AGAIN = {0: "its turns are done", 8: "link fault", 11: "no memory"}
 LOOK: Dict[int, str] = {

@@ -27,11 +27,18 @@ class Life(NamedTuple):
     demand: Optional[Demand] = None  # of its clients
     looked: Optional[float] = None  # when the last look at its file began
     no_file: bool = False  # whether that look found no file that can be read as a member's, or another file than the one that the member has open
+    is_corrupt: bool = False  # whether its member ever applied something else than before
 
 
 def unsure(report: Optional[Report]) -> int:
     """Of how many slots a file can't tell whether they held an operation."""
     return len(report.places.unsure) if report is not None else 0
+
+
+def root_of(report: Optional[Report]) -> Optional[str]:
+    """The name of the root of a file's checkpoint, which is the same at all members that have that checkpoint; None where there is none."""
+    value = report.value if report is not None else None
+    return value.root_name.hex() if value is not None and value.checkpoint else None
 
 
 def has_state(policy: Policy, life: Life) -> Optional[bool]:
@@ -54,9 +61,11 @@ def state(policy: Policy, now: float, runs: bool) -> str:
 
 def troubles(policy: Policy, now: float, life: Life) -> List[str]:
     """Why a member isn't well, a word each; none where it is."""
+    found = ["corrupt"] if life.is_corrupt else []
     if life.since is None:
-        return ["down"]
-    found = ["hangs"] if life.silent > HANGS else []
+        return found + ["down"]
+    if life.silent > HANGS:
+        found.append("hangs")
     if life.no_file:
         found.append("no_file")
     if policy.seen.changes(now) and now - policy.seen.changing_since > LONG_CHANGE:
@@ -124,6 +133,7 @@ def line(policy: Policy, now: float, life: Life) -> str:
         **of_clients(life, now),
         **of_file(life),
         **of_quorum(life, now),
+        "root": root_of(life.report) or "-",
         "has_state": {None: "-", True: "yes", False: "no"}[has_state(policy, life)],
         "views": seen.views_lately(now),
         "undecided": told(seen.waits_to_choose(now) if runs else None),

@@ -8,10 +8,10 @@ from . import whole
 from .probing import Reply
 from .rolling import Health, number, seconds
 
-WELL, AILS, UNKNOWN, SILENT = 0, 1, 3, 4  # exit codes; 2 is wrong words
+WELL, AILS, UNKNOWN, SILENT, CORRUPT = 0, 1, 3, 4, 5  # exit codes; 2 is wrong words
 SETTLED = 1.0  # second
 LEADS = ("evicted", "busy")  # what a member that leads answers the probe
-NAMES = {WELL: "well", AILS: "ails", UNKNOWN: "unknown", SILENT: "silent"}
+NAMES = {WELL: "well", AILS: "ails", UNKNOWN: "unknown", SILENT: "silent", CORRUPT: "corrupt"}
 CHASES = 8  # views in LATELY seconds (policy); an outage of one member takes one or two
 STANDS = 1.5  # seconds; a group whose leader stands still for longer with something open doesn't answer
 REPLICATION = {1: 1, 2: 2, 3: 2, 4: 2, 5: 3, 6: 3}  # so many members, the one that leads among them, have to hold an operation
@@ -178,6 +178,8 @@ def stops(members: List[Known], verdict: "Verdict", has_keepers: bool) -> List[S
     """Of each member whether it may be stopped: whether what is left goes on."""
     if not has_keepers:
         return [Stop(None, [whole.Reason("unasked", "that is known by the members' keepers alone")])] * len(members)
+    if verdict.code == CORRUPT:
+        return [Stop(False, [whole.Reason("corrupt", "members have forgotten something, or hold different states")])] * len(members)
     if verdict.code in (SILENT, UNKNOWN):
         answer = Stop(False, [whole.Reason("silent" if verdict.code == SILENT else "too_little", "the group doesn't answer now" if verdict.code == SILENT else "it isn't known whether the group answers")])
         return [answer if known.state() != "down" else Stop(None, [whole.Reason("down", "it doesn't run")]) for known in members]
@@ -248,8 +250,26 @@ def complaints(members: List[Known], leader: Optional[int], has_keepers: bool) -
     return found
 
 
+def contradictions(members: List[Known]) -> List[str]:
+    """What shows that a premise is broken, a sentence each: different states of one checkpoint, which is the same at all members, and members that applied
+    something else than before."""
+    roots: Dict[str, Dict[str, List[int]]] = {}
+    for member, known in enumerate(members):
+        line = known.line or {}
+        if line.get("root", "-") != "-":
+            roots.setdefault(line["checkpoint"], {}).setdefault(line["root"], []).append(member)
+    found = [f"{' and '.join(map(whole.members_of, holding.values()))} hold different states of checkpoint {checkpoint}" for checkpoint, holding in sorted(roots.items()) if len(holding) > 1]
+    return found + [f"member {member} applied something else than before" for member, known in enumerate(members) if known.line is not None and "corrupt" in known.line["well"].split(",")]
+
+
 def judge(members: List[Known], has_keepers: bool) -> Verdict:
     """What follows for the group."""
+    verdict, corrupt = judge_answers(members, has_keepers), contradictions(members)
+    return verdict._replace(code=CORRUPT, why=corrupt + verdict.why, may_change=False) if corrupt else verdict
+
+
+def judge_answers(members: List[Known], has_keepers: bool) -> Verdict:
+    """Whether the group answers, and what isn't well at its members."""
     leader = leader_of(members)
     why = complaints(members, leader, has_keepers)
     absent = absence(members, leader)

@@ -3,6 +3,7 @@
 import errno
 import fcntl
 import os
+import select
 import selectors
 import shutil
 import signal
@@ -12,9 +13,10 @@ import time
 from collections import Counter
 from typing import Callable, Dict, List, NamedTuple, Optional
 
-from . import datafile, doors, endings, health, metrics
+from . import datafile, doors, endings, health, metrics, noting
 from .demand import PROBE, Demand
 from .health import Life
+from .heard import Heard
 from .lines import Splitter, parse
 from .log import Thinner, Writer, private
 from .looking import Looker
@@ -34,6 +36,8 @@ BEAT = 0.25  # seconds from one look at whether the member goes on to the next
 FIRST_LOOK = 1.0  # seconds from a start to the first look at the data file
 POST = 10.0  # seconds from one writing of the metrics' file to the next
 FRESH = 2.0  # seconds; where its health is asked, and the last look at the file is older, it is looked at again
+NOTED = 2.0  # seconds after which what was seen of the data file is noted, if no sync has failed since
+LAST_LOOK = 2.0  # seconds for which the last look at the file is waited for
 SOON = 5.0  # seconds from look to look while the file can't tell of some slots, or blocks are missing; else a minute
 KILLED = 5.0  # seconds after which a member that doesn't end is killed
 HELD = 20  # exit code: another keeper, or a member that it left, has the file
@@ -60,22 +64,39 @@ def check_file(path: str) -> None:
         raise Unfit(endings.LOST, f"the file {path} is empty: no member was made in it")
 
 
+def check_age(path: str, note: Optional[noting.Note]) -> None:
+    """A file that was put back from a copy isn't started: it would forget what its member acknowledged since."""
+    try:
+        older = noting.is_older(datafile.Report(path), note) if note is not None else None
+    except OSError:
+        return  # The member will say what is wrong with it.
+    if older is not None:
+        raise Unfit(endings.OLDER, f"the file {path} is older than when it was seen last: {older}. It was put back from a copy, or its disk lost what it had confirmed, and started "
+                    f"it would forget what it acknowledged since. Put the right file in its place; else this member is lost, and the group goes on with those that are left. "
+                    f"Who knows better removes {path}.keep")
+
+
 class Held(Exception):
     """Another process keeps this file."""
 
 
 class Lock:
-    """One keeper for a data file. The member has the lock too, so that a keeper that was killed leaves it to its member until that has ended."""
+    """One keeper for a data file. The member has the lock too, so that a keeper that was killed leaves it to its member until that has ended. Its first line
+    tells who has it, its second one is a note of the data file."""
 
     def __init__(self, path: str, wait: float) -> None:
-        self.file = open(path, "a+b", buffering=0, opener=private)
+        self.file = os.fdopen(private(path, os.O_RDWR | os.O_CREAT | os.O_CLOEXEC), "r+b", buffering=0)
         end = time.monotonic() + wait
         while not self.take():
             if time.monotonic() > end:
-                self.file.seek(0)
-                raise Held(self.file.read(200).decode("ascii", "replace").strip() or "unknown")
+                raise Held(self.lines()[0] or "unknown")
             time.sleep(0.1)
+        self.note = noting.read(self.lines()[1])
         self.tell(f"keeper {os.getpid()}")
+
+    def lines(self) -> List[str]:
+        """The first two lines; empty texts where there are none."""
+        return (os.pread(self.file.fileno(), 400, 0).decode("ascii", "replace").split("\n") + ["", ""])[:2]
 
     def take(self) -> bool:
         try:
@@ -87,12 +108,20 @@ class Lock:
         return True
 
     def tell(self, text: str) -> None:
-        """Writes who has it."""
+        """Writes who has it, before the note."""
+        self.who = text
+        whole = f"{text}\n{self.note or ''}\n".encode()
         try:
-            self.file.truncate(0)
-            self.file.write(text.encode() + b"\n")
+            os.pwrite(self.file.fileno(), whole, 0)
+            self.file.truncate(len(whole))
         except OSError:
-            pass  # It is only said to whoever comes second.
+            pass  # It is only said to whoever comes second, and looked at where there is something.
+
+    def keep(self, note: noting.Note) -> None:
+        """Notes something of the data file."""
+        if note.follows(self.note):
+            self.note = note
+            self.tell(self.who)
 
 
 TIE = ["setpriv", "--pdeathsig", "KILL"]  # a program that is started so ends with whoever started it
@@ -152,6 +181,9 @@ class Keeper:
         self.post_at: Optional[float] = None
         self.passing = 0  # starts in a row that ended with 7 before the file was opened
         self.opened = False  # whether this life of the member has opened its file
+        self.note: Optional[noting.Note] = None  # what is to be noted of the file, at `note_at`
+        self.note_at = self.clock()
+        self.heard, self.is_corrupt = Heard(), False  # what the member said, and whether it ever contradicted that
         self.had_open = False  # whether it was seen to have the file open that is at its path
         self.no_file = False  # whether nothing at that path can be read as its file
         self.looker = Looker(words.file)
@@ -180,7 +212,7 @@ class Keeper:
 
     def life(self) -> Life:
         silent = self.pulse.silent(self.clock()) if self.pulse is not None else 0.0
-        return Life(self.words.replica, self.since, self.restarts, self.ends, self.lines, self.writer.dropped, silent, self.report, self.tally, self.demand, self.looked, self.no_file)
+        return Life(self.words.replica, self.since, self.restarts, self.ends, self.lines, self.writer.dropped, silent, self.report, self.tally, self.demand, self.looked, self.no_file, self.is_corrupt)
 
     def say_health(self) -> None:
         self.say(f"{self.health()} left_out={self.thinner.left_out}")
@@ -197,7 +229,17 @@ class Keeper:
             self.look_at_clock()
         if self.renewal is not None:
             self.renewal.end()
+        if self.leaving:
+            self.look_last()
         return self.code
+
+    def look_last(self) -> None:
+        """Notes what the file is like once its member was ended, unless the disk takes long."""
+        self.look()
+        if select.select([self.looker.told], [], [], LAST_LOOK)[0]:
+            self.note = None
+            self.hear_look()
+            self.keep_note()
 
     def take_signals(self) -> None:
         """Signals come as bytes of a pipe, so that they are taken between two reads."""
@@ -263,6 +305,8 @@ class Keeper:
             self.beat_at = now + BEAT
             if self.pulse is not None:
                 self.pulse.silent(now)
+            if self.note is not None and now >= self.note_at:
+                self.keep_note()
         if self.post_at is not None and now >= self.post_at:
             self.post_at = now + POST
             self.poster.post(self.metrics())
@@ -279,6 +323,7 @@ class Keeper:
         self.start_at = None
         try:
             check_file(self.words.file)
+            check_age(self.words.file, self.lock.note)
         except Unfit as why:
             self.say(f"member {self.words.replica} isn't started: {why}")
             self.code = why.code
@@ -344,6 +389,8 @@ class Keeper:
         self.child = self.since = self.kill_at = self.pulse = self.look_at = None
         self.end_renewal()
         wanted, self.wanted = self.wanted, None
+        if code == endings.DISK_FAULT:
+            self.note = None  # A sync may have failed: what was read may never get to the disk.
         if self.leaving:
             self.code = 0
         elif wanted is not None:
@@ -429,11 +476,20 @@ class Keeper:
             self.look_at = min(self.look_at, now + SOON)
         if self.thinner.keeps(now, text, line):
             self.writer.put(text)
+        contradiction = self.heard.hear(text, line)
+        if contradiction is not None:
+            self.tell_corrupt(contradiction)
         reason = self.policy.hear(now, line)
         self.counts.hear(line, self.policy.seen.view)
         if reason is not None and self.wanted is None and not self.leaving:
             self.restarts += 1
             self.restart(reason)
+
+    def tell_corrupt(self, why: str) -> None:
+        """Says once that the member's state isn't what it was. Nothing here can mend that."""
+        if not self.is_corrupt:
+            self.say(f"member {self.words.replica} is corrupt: {why}: what a client was told was forgotten, as where a file was put back from a copy, or a disk lied")
+        self.is_corrupt = True
 
     def read_errors(self) -> None:
         piece = self.read(self.child.stderr)
@@ -460,6 +516,8 @@ class Keeper:
         self.had_open = self.had_open or found.is_open is True
         is_other = self.had_open and found.is_open is False
         self.report = None if is_other else found.report
+        if self.note is None and not is_other:
+            self.note, self.note_at = found.note, self.clock() + NOTED
         self.tell_no_file("is another one than its member has open" if is_other else "can't be read as a member's")
         self.tally.begin(self.report)
         if self.child is None or self.look_at is not None:
@@ -468,6 +526,11 @@ class Keeper:
         self.look_at = self.clock() + (SOON if unsure or not health.has_state(self.policy, self.life()) else MINUTE)
         if unsure and not self.renewed and self.opened and self.renewal is None and self.pauses.renew > 0:
             self.renew(unsure)
+
+    def keep_note(self) -> None:
+        if self.note is not None:
+            self.lock.keep(self.note)
+        self.note = None
 
     def tell_no_file(self, why: str) -> None:
         """Says it once where nothing at the path can be read as the member's file any more, or can again."""

@@ -4,7 +4,7 @@ import os
 import threading
 from typing import NamedTuple, Optional
 
-from . import datafile
+from . import datafile, noting
 
 
 def has_open(process: int, path: str) -> Optional[bool]:
@@ -23,11 +23,27 @@ def stat_of(entry: "os.DirEntry[str]") -> Optional[os.stat_result]:
         return None  # It was closed meanwhile.
 
 
+def note_of(report: datafile.Report) -> Optional[noting.Note]:
+    """What may be noted of a file: what was read of it is on the disk once it has been synced."""
+    note = noting.of_report(report)
+    try:
+        file = os.open(report.path, os.O_RDONLY)
+        try:
+            os.fsync(file)
+        finally:
+            os.close(file)
+    except OSError:
+        return None
+    return note
+
+
 class Look(NamedTuple):
-    """What one look found: the report on the file, None where it couldn't be read; whether the member has that file open, None where nobody can tell."""
+    """What one look found: the report on the file, None where it couldn't be read; whether the member has that file open, None where nobody can tell; what
+    may be noted of the file, None where that wasn't synced."""
 
     report: Optional[datafile.Report]
     is_open: Optional[bool]
+    note: Optional[noting.Note]
 
 
 class Looker:
@@ -35,7 +51,7 @@ class Looker:
 
     def __init__(self, path: str) -> None:
         self.path, self.process = path, 0
-        self.found = Look(None, None)  # by the last look
+        self.found = Look(None, None, None)  # by the last look
         self.told, self.tell = os.pipe()
         os.set_blocking(self.tell, False)
         self.wanted = threading.Event()
@@ -53,9 +69,10 @@ class Looker:
 
     def look(self) -> Look:
         try:
-            return Look(datafile.look(self.path), has_open(self.process, self.path))
+            report = datafile.look(self.path)
+            return Look(report, has_open(self.process, self.path), note_of(report))
         except (OSError, IndexError, ValueError):
-            return Look(None, None)
+            return Look(None, None, None)
 
     def work(self) -> None:
         while True:

@@ -15,7 +15,7 @@ from .policy import Policy
 
 KIND = "text/plain; version=0.0.4; charset=utf-8"
 REPLIES = {"reply": "answered", "busy": "busy", "redirect": "redirected", "old": "old", "gap": "gap", "evicted": "evicted"}
-TROUBLES = ("down", "hangs", "no_file", "changes", "stands", "lacks_blocks", "unsure")
+TROUBLES = ("corrupt", "down", "hangs", "no_file", "changes", "stands", "lacks_blocks", "unsure")
 
 
 class Counts:
@@ -118,6 +118,9 @@ def of_file(told: Told) -> Iterator[Metric]:
               int(takes_part and whole.is_whole_alone(facts)) if facts else None)
     has_state = health.has_state(told.policy, told.life)
     yield one("member_has_state", "gauge", "Whether the member has the whole state: each block of its checkpoint, by its lines and its file.", None if has_state is None else int(has_state))
+    root = health.root_of(report)
+    yield Metric("checkpoint_info", "gauge", "The checkpoint of the member's data file, and the name of its root: that of one checkpoint is the same at all members.",
+                 [(f'checkpoint="{value.checkpoint}",root="{root}"', 1)] if root else [])
     yield one("group_members", "gauge", "Members that the group has.", value.members if value else None)
     yield one("view_change_quorum", "gauge", "Members that a change of views takes.", whole.VIEW_CHANGE[value.members] if value else None)
     yield one("keys", "gauge", "Keys that the group holds.", tally.keys if tally else None)

@@ -2,7 +2,7 @@
 
 from typing import Dict, List, Optional
 
-SAID = {"well": "answers, and all is well", "ails": "answers, and something ails", "unknown": "may answer or not: too little is known", "silent": "DOESN'T ANSWER"}
+SAID = {"well": "answers, and all is well", "ails": "answers, and something ails", "unknown": "may answer or not: too little is known", "silent": "DOESN'T ANSWER", "corrupt": "IS CORRUPT: something that was acknowledged was forgotten"}
 
 
 def span(seconds: Optional[float]) -> str:

@@ -56,8 +56,15 @@ class Kept:
 
     def member(self) -> int:
         """The member's process, as its keeper wrote it."""
-        with open(self.file + ".keep") as file:
-            return int(file.read().split()[-1])
+        return int(self.lock().split("\n")[0].split(", member ")[1])
+
+    def lock(self) -> str:
+        """What its keeper wrote of itself, and of the file."""
+        try:
+            with open(self.file + ".keep") as file:
+                return file.read()
+        except OSError:
+            return ""
 
     def until(self, what, seconds: float = 20.0) -> bool:
         end = time.monotonic() + seconds

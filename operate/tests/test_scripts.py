@@ -66,4 +66,4 @@ class Unit(unittest.TestCase):
             words = [line.strip() for line in file if not line.startswith("#")]
         self.assertIn("ExecReload=kill -HUP $MAINPID", words)
         self.assertFalse(any("--fresh" in line or "make-member" in line for line in words))
-        self.assertIn("RestartPreventExitStatus=2 6 7 9 10 12", words)
+        self.assertIn("RestartPreventExitStatus=2 6 7 9 10 12 21", words)

@@ -11,7 +11,7 @@ import unittest
 from typing import Callable, Optional, Tuple
 
 from parts import asking, program
-from parts.judging import AILS, SILENT, UNKNOWN, WELL, Known, as_json, judge
+from parts.judging import AILS, CORRUPT, SILENT, UNKNOWN, WELL, Known, as_json, judge
 from parts.probing import Reply
 from parts.telling import stop_lines, table
 
@@ -65,6 +65,11 @@ ROWS = [
     ("a file that can't tell of a slot", [LEADS, FOLLOWS, known(2, "follows", well="unsure", damaged="1", unsure="1")], AILS, 0),
     ("a file that can't be read", [LEADS, FOLLOWS, known(2, "follows", well="no_file", has_state="no")], AILS, 0),
     ("a file of another version", [LEADS, FOLLOWS, known(2, "changes", None, well="changes")], AILS, 0),
+    ("one state", [known(0, "leads", checkpoint="64", root="aa"), known(1, "follows", checkpoint="32", root="bb"), known(2, "follows", checkpoint="64", root="aa")], WELL, 0),
+    ("two states of one checkpoint", [known(0, "leads", checkpoint="64", root="aa"), FOLLOWS, known(2, "follows", checkpoint="64", root="bb")], CORRUPT, 0),
+    ("two states, and no answer", [known(0, "changes", "redirect", checkpoint="64", root="aa"), known(1, "changes", "redirect", checkpoint="64", root="b")], CORRUPT, None),
+    ("one applied something else than before", [LEADS, FOLLOWS, known(2, "follows", well="corrupt")], CORRUPT, 0),
+    ("and is down", [LEADS, FOLLOWS, known(2, "down", None, well="corrupt,down")], CORRUPT, 0),
     ("three of six are silent", [LEADS, FOLLOWS, THIRD, silent(3), silent(4), silent(5)], AILS, 0),
     ("four of six are silent", [LEADS, FOLLOWS, silent(2), silent(3), silent(4), silent(5)], UNKNOWN, 0),
 ]
@@ -95,6 +100,13 @@ class Judging(unittest.TestCase):
             for _, members, _, _ in rows:
                 told = as_json(5, members, judge(members, has_keepers), has_keepers)
                 self.assertEqual((told["commit"], "; commit" in table(told).splitlines()[0]), (40 if has_keepers else None, has_keepers))
+
+    def test_no_member_of_a_corrupt_group_may_be_stopped(self):
+        members = [known(0, "leads", checkpoint="64", root="aa"), known(1, "follows", checkpoint="64", root="bb"), known(2, "follows", checkpoint="64", root="bb")]
+        told = as_json(5, members, judge(members, True))
+        self.assertEqual((told["code"], told["verdict"], told["why"][0]), (5, "corrupt", "member 0 and members 1, 2 hold different states of checkpoint 64"))
+        self.assertEqual([(member["may_be_stopped"], member["why_not"][0]["name"]) for member in told["members"]], [(False, "corrupt")] * 3)
+        self.assertTrue(table(told).startswith("group 5 IS CORRUPT"))
 
     def test_how_far_one_is_behind(self):
         members = [LEADS, known(1, "follows", applied="12"), known(2, "follows", applied="0")]
