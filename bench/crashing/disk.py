@@ -7,6 +7,8 @@ from typing import Dict, Iterator, List, NamedTuple, Optional, Tuple, Union
 from .recording import SECTOR, Call
 
 TURNED = bytes(255 - byte for byte in range(256))
+# Of how many sectors is what a disk writes as one: of one, as docs/NODE.md has it; of eight, as the page cache hands out, and many disks write.
+SECTORS_ALONE, PAGES = 1, 8
 # A crash point with more sectors than this has its sectors alone tried by sample.
 MANY = 40
 Bytes = Union[bytes, bytearray]
@@ -14,10 +16,12 @@ KINDS = ("old", "new", "damaged", "torn")
 
 
 class State(NamedTuple):
-    """What a crash may leave: the file's bytes, None where there is no file; in words, which of the states of its point it is."""
+    """What a crash may leave: the file's bytes, None where there is no file; in words, which of the states of its point it is; and whether sectors were
+    damaged that were synced before."""
 
     image: Optional[Bytes]
     what: str
+    is_spoiled: bool = False
 
 
 class Disk:
@@ -82,22 +86,44 @@ class Disk:
                 found.setdefault(sector, []).extend(versions)
         return found
 
-    def states(self, draw: random.Random) -> Iterator[State]:
-        """States that a crash may leave here, without end: first those in which sectors stand alone, then random ones."""
+    def states(self, draw: random.Random, unit: int = SECTORS_ALONE) -> Iterator[State]:
+        """States that a crash may leave here, without end: first those in which sectors stand alone, then random ones. The disk writes so many sectors as
+        one: with a page that is damaged go those of its sectors that were synced long ago."""
         unsure = self.unsure()
         if not self.is_named:
             yield State(None, "no file")
-        for what, kinds in patterns(sorted(unsure), draw):
+        for what, kinds in patterns(sorted({sector // unit for sector in unsure}), draw):
             image = bytearray(self.sure)
             longest = max([len(image), *self.lengths, *((sector + 1) * SECTOR for sector in unsure)])
             length = longest if longest == len(image) or draw.random() < 0.3 else draw.randrange(len(image), longest + 1)
             image.extend(bytes(longest - len(image)))
-            for sector, kind in kinds.items():
-                place = sector * SECTOR
-                image[place:place + SECTOR] = spoiled(kind, bytes(image[place:place + SECTOR]), unsure[sector], draw)
+            if unit == SECTORS_ALONE:
+                leave_sectors(image, kinds, unsure, draw)
+            else:
+                leave_pages(image, kinds, unsure, unit)
+                what = what.replace("sector", "page")
             cut = f", {length} bytes long" if length < longest else ""
             del image[length:]
-            yield State(image, what + cut)
+            yield State(image, what + cut, unit != SECTORS_ALONE and not {"damaged", "torn"}.isdisjoint(kinds.values()))
+
+
+def leave_sectors(image: bytearray, kinds: Dict[int, str], unsure: Dict[int, List[bytes]], draw: random.Random) -> None:
+    for sector, kind in kinds.items():
+        place = sector * SECTOR
+        image[place:place + SECTOR] = spoiled(kind, bytes(image[place:place + SECTOR]), unsure[sector], draw)
+
+
+def leave_pages(image: bytearray, kinds: Dict[int, str], unsure: Dict[int, List[bytes]], unit: int) -> None:
+    """Each page as it was, as it was last written, or damaged as a whole: what is half written doesn't read."""
+    for page, kind in kinds.items():
+        if kind == "old":
+            continue
+        first, end = page * unit, min((page + 1) * unit, len(image) // SECTOR)
+        for sector in range(first, end):
+            if sector in unsure:
+                image[sector * SECTOR:(sector + 1) * SECTOR] = unsure[sector][-1]
+        if kind != "new":
+            image[first * SECTOR:end * SECTOR] = image[first * SECTOR:end * SECTOR].translate(TURNED)
 
 
 def spoiled(kind: str, old: bytes, versions: List[bytes], draw: random.Random) -> bytes:

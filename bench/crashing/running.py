@@ -13,7 +13,7 @@ import time
 import traceback
 from typing import Any, Callable, Counter, Dict, Iterator, List, NamedTuple, Optional, Tuple
 
-from .disk import Bytes
+from .disk import SECTORS_ALONE, Bytes
 from .judging import Case, Verdict, judge
 from .members import Desk
 from .scenarios import Recording
@@ -80,21 +80,21 @@ def case_items(recordings: List[Recording], way: Way) -> Iterator[Item]:
         yield case_item(*found)
 
 
-def moment_items(recordings: List[Recording], seed: int, lag: int, share: int, shares: int) -> Iterator[Item]:
-    for moment in moments(recordings, seed, lag, share, shares):
+def moment_items(recordings: List[Recording], seed: int, lag: int, share: int, shares: int, unit: int = SECTORS_ALONE) -> Iterator[Item]:
+    for moment in moments(recordings, seed, lag, share, shares, unit):
         images = [state.image for state in moment.states]
         yield moment.recording.scenario.name, False, functools.partial(judge_moment, moment), moment.number, images
 
 
-def item_of(recordings: List[Recording], number: str) -> Optional[Item]:
+def item_of(recordings: List[Recording], number: str, unit: int = SECTORS_ALONE) -> Optional[Item]:
     """The state, or the moment, of a number as it is printed; None where there is none."""
     words = number.split()
     named = [it for it in recordings if it.scenario.name in words]
     if "whole" in words:
-        items = moment_items(named, int(words[0]), 0, 0, 1)
+        items = moment_items(named, int(words[0]), 0, 0, 1, unit)
         return next((it for it in itertools.islice(items, BATCH * (int(words[3]) + 1)) if it[3] == number), None)
     seed, _, member, at, turn, count = words
-    found = case_at(named[0], int(member), int(at), Way(int(seed), int(count) + 1), int(turn)) if named else []
+    found = case_at(named[0], int(member), int(at), Way(int(seed), int(count) + 1, unit=unit), int(turn)) if named else []
     return case_item(*found[-1]) if len(found) > int(count) else None
 
 

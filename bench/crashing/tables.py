@@ -32,6 +32,17 @@ def table(states: Dict[str, Tally], groups: Dict[str, Tally]) -> List[str]:
     return [*told_states, *([""] if states and groups else []), *(section("whole groups of", groups, False) if groups else [])]
 
 
+def standing_lines(groups: Dict[str, Tally]) -> List[str]:
+    """How many groups stood still on disks that write pages, by the version of their files."""
+    counts: Dict[int, List[int]] = {1: [0, 0], 2: [0, 0]}
+    for one in SCENARIOS:
+        if one.name in groups:
+            counts[one.version][0] += groups[one.name].states
+            counts[one.version][1] += sum(groups[one.name].rows.values())
+    return [*(f"version {version}: {still:,} of {tried:,} groups stand still for good" for version, (tried, still) in counts.items() if tried),
+            "The promises rest on sectors of 512 bytes (docs/NODE.md): this is outside of them, and no failure."]
+
+
 def planted_line(what: str, tallies: Dict[str, Tally]) -> Tuple[str, bool]:
     """In how many states a planted fault was found, by kind of failure, and whether it was at all."""
     states = sum(it.states for it in tallies.values())

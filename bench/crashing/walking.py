@@ -6,7 +6,7 @@ import random
 from typing import Deque, Iterator, List, NamedTuple, Tuple
 
 from .damage import PutBack, on_top, swap_pages
-from .disk import Disk
+from .disk import SECTORS_ALONE, Disk
 from .judging import Case
 from .reading import datafile
 from .scenarios import Part, Recording, is_point
@@ -26,13 +26,14 @@ FORGOTTEN = 4
 
 class Way(NamedTuple):
     """How states are drawn: by which number, how many at a point in a round, which fault is planted, if one is; and which of how many shares of the
-    points is gone through."""
+    points is gone through; how many sectors the disk writes as one."""
 
     seed: int
     each: int
     plant: str = ""
     share: int = 0
     shares: int = 1
+    unit: int = SECTORS_ALONE
 
     def has(self, turn: int, count: int) -> bool:
         """Whether a turn has the point of this number of a member."""
@@ -79,14 +80,14 @@ def drawn(recording: Recording, point: Point, way: Way, round_: int) -> Iterator
     scenario, begin = recording.scenario, 0 if round_ == 0 else 2
     draw = random.Random(f"{way.seed} {scenario.name} {point.member} {point.at} {round_}")
     told = point.told
-    for count, state in enumerate(itertools.islice(point.disk.states(draw), begin, begin + way.each)):
+    for count, state in enumerate(itertools.islice(point.disk.states(draw, way.unit), begin, begin + way.each)):
         number = f"{way.seed} {scenario.name} {point.member} {point.at} {round_} {count}"
         how = "fresh" if scenario.story == "fresh" and not told.spoke else "start"
         if scenario.story == "migrate" and draw.random() < 0.5:
             how = "migrate"
-        has_damage = not way.plant and how == "start" and scenario.size > 1 and draw.randrange(DAMAGED) == 0
+        has_damage = not way.plant and way.unit == SECTORS_ALONE and how == "start" and scenario.size > 1 and draw.randrange(DAMAGED) == 0
         change = on_top if has_damage else PutBack(point.older) if way.plant == COPY and point.older else swap_pages if way.plant == PAGE else None
-        case = Case(number, point.member, scenario.size, scenario.version, told, recording.log, state, how, change, has_damage or told.is_damaged)
+        case = Case(number, point.member, scenario.size, scenario.version, told, recording.log, state, how, change, has_damage or told.is_damaged or state.is_spoiled)
         yield scenario.name, round_ == 0 and count == 0, case
 
 

@@ -5,13 +5,14 @@ import os
 import random
 import signal
 import time
-from typing import Dict, Iterator, List, NamedTuple, Optional
+from typing import Dict, Iterator, List, NamedTuple, Optional, Tuple
 
 from nozhgiva import Group, Retry, SessionLost, Unknown
 
-from .disk import State
+from .disk import SECTORS_ALONE, State
 from .judging import WAITS, Verdict
 from .members import CLUSTER, LINK_FAULT, PAUSE, TRIES, TURNS, Desk, spawn
+from .recording import Call
 from .scenarios import KEYS, Part, Recording, key_of
 
 # How long a request waits for its answer, and how often a group is asked: a change of view takes half a second where the machine isn't busy, and
@@ -34,6 +35,9 @@ class Moment(NamedTuple):
     states: List[State]
     answered: Dict[int, int]
 
+    def is_spoiled(self) -> bool:
+        return any(state.is_spoiled for state in self.states)
+
 
 class Walk:
     """A member's recording, followed by the clock."""
@@ -53,29 +57,56 @@ class Walk:
             self.at += 1
 
 
-def moments(recordings: List[Recording], seed: int, lag: int = 0, share: int = 0, shares: int = 1) -> Iterator[Moment]:
+def moments(recordings: List[Recording], seed: int, lag: int = 0, share: int = 0, shares: int = 1, unit: int = SECTORS_ALONE) -> Iterator[Moment]:
     """Moments of groups that served, without end, of which this is one of so many shares; the same number over the same recordings gives the same
-    ones."""
+    ones. The disks write so many sectors as one; where these are pages, moments are drawn at which as many members as can write."""
     served = [it for it in recordings if it.scenario.story in STORIES]
     for round_ in itertools.count() if served else ():
         for recording in served:
             number = f"{seed} whole {recording.scenario.name} {round_}"
             draw = random.Random(number)
-            times = sorted(call.begun for part in recording.parts for call in part.calls)
+            times = times_of(recording.parts) if unit == SECTORS_ALONE else busiest_times(recording.parts)
             walks = [Walk(part, lag) for part in recording.parts]
             for count, moment in enumerate(sorted(draw.choices(times, k=BATCH))):
                 if (count + round_) % shares == share:
                     for walk in walks:
                         walk.go(moment)
-                    yield moment_of(recording, walks, f"{number} {count}")
+                    yield moment_of(recording, walks, f"{number} {count}", unit)
 
 
-def moment_of(recording: Recording, walks: List[Walk], number: str) -> Moment:
+def times_of(parts: List[Part]) -> List[float]:
+    return sorted(call.begun for part in parts for call in part.calls)
+
+
+def busiest_times(parts: List[Part]) -> List[float]:
+    """When two members, or the one that there is, had written what wasn't synced yet."""
+    changes = sorted(change for part in parts for change in changes_of(part.calls))
+    busy, found = 0, []
+    for at, change in changes:
+        busy += change
+        if change > 0 and busy >= min(2, len(parts)):
+            found.append(at)
+    return found
+
+
+def changes_of(calls: List[Call]) -> Iterator[Tuple[float, int]]:
+    """When a member begins to have what isn't synced (1), and when it ends to (-1)."""
+    is_busy = False
+    for call in calls:
+        if call.kind == "write" and not is_busy:
+            is_busy = True
+            yield call.begun, 1
+        elif call.kind == "sync" and is_busy:
+            is_busy = False
+            yield call.ended, -1
+
+
+def moment_of(recording: Recording, walks: List[Walk], number: str, unit: int) -> Moment:
     """A moment, with a state of each member's disk that is drawn by its number."""
     draw = random.Random(number)
     states, answered = [], {}  # type: List[State], Dict[int, int]
     for walk in walks:
-        some = list(itertools.islice(walk.disk.states(draw), draw.randrange(1, STATES)))
+        some = list(itertools.islice(walk.disk.states(draw, unit), draw.randrange(1, STATES)))
         states.append(some[-1])
         for client, request in walk.told.answered.items():
             answered[client] = max(request, answered.get(client, 0))
@@ -191,11 +222,17 @@ def judge_client(moment: Moment, client: int, read: Dict[str, str]) -> List[str]
 def may_wait(moment: Moment, text: str) -> bool:
     """Whether a choice waits, by the members' lines, in a group where one may: with files that are careful, or were damaged."""
     scenario = moment.recording.scenario
-    return (scenario.modes != "strict" or scenario.story == "damage") and any(line.startswith("wait ") for line in text.splitlines())
+    return (scenario.modes != "strict" or scenario.story == "damage" or moment.is_spoiled()) and any(line.startswith("wait ") for line in text.splitlines())
 
 
 def judge_silence(moment: Moment, text: str) -> Verdict:
     """A group that doesn't answer."""
     if may_wait(moment, text):
-        return Verdict([], [f"{WAITS}: {'careful' if moment.recording.scenario.modes != 'strict' else 'damaged'} files, all members run"])
+        return Verdict([], [f"{WAITS}: {why_waits(moment)}, all members run"])
     return Verdict([f"silent: the group doesn't answer in {SECONDS * PATIENCE:g} s: {text.splitlines()[-1:]}"], [])
+
+
+def why_waits(moment: Moment) -> str:
+    if moment.is_spoiled():
+        return f"pages damaged at {sum(state.is_spoiled for state in moment.states)} of {len(moment.states)} members of version {moment.recording.scenario.version}"
+    return f"{'careful' if moment.recording.scenario.modes != 'strict' else 'damaged'} files"

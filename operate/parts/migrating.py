@@ -53,18 +53,32 @@ class Walk:
         self.members = list(range(size))
         self.moved: List[int] = []
         self.away: List[int] = []  # who was stopped and isn't started yet
+        self.revived: List[int] = []  # who wasn't moved, had no keeper, and was started at the beginning
         self.commit = 0  # what the group had committed before its handover
 
     # What there is to do.
 
     def look_around(self) -> None:
         """Which members are moved already, and whether each has what it should."""
-        files = {member: self.hands.look(member) for member in self.members}
+        files = {member: self.look(member) for member in self.members}
         self.moved = [member for member in self.members if files[member].version == 2]
         for member, file in files.items():
             if file.lost and member not in self.accepted:
                 raise Stopped(f"member {member}'s file has damage ({places(file.lost)}). " + (self.advice(member) if member in self.moved else
                               "Wait until it is mended (operate/inspect tells what becomes of it), and begin then."))
+
+    def look(self, member: int) -> File:
+        """What a member's file tells. One that was started a moment ago has some time to mend what its end had cut."""
+        began = self.hands.clock()
+        while True:
+            file = self.hands.look(member)
+            if not file.lost or member not in self.revived or self.hands.clock() - began > self.bounds.whole:
+                return file
+            self.hands.sleep(LOOK)
+
+    def left_standing(self) -> List[int]:
+        """Who isn't moved and has no keeper, as a walk leaves a member that was killed between its stop and its move."""
+        return [member for member in self.members if self.hands.health(member) is None and self.hands.look(member).version == 1]
 
     def has_handed_over(self) -> bool:
         """Whether the members of version 2 answer already."""
@@ -84,21 +98,45 @@ class Walk:
     # The walk.
 
     def go(self) -> None:
+        self.revive()
         self.look_around()
         batches = self.batches()
         self.away = [member for member in self.moved if self.hands.health(member) is None]
         if not batches:
             self.hands.say("all members are moved already")
+        if not batches or self.has_handed_over():
+            self.start_again()
         for batch in batches:
             self.check(batch)
             self.move(batch)
 
+    def revive(self) -> None:
+        """Starts whoever a walk that was broken off left standing, so that the group is whole before anything else."""
+        for member in self.left_standing():
+            self.hands.say(f"member {member} isn't moved, and has no keeper: it is started first")
+            began = self.hands.clock()
+            self.hands.start(member)
+            self.revived.append(member)
+            self.await_process(member, began, ANY_AGE)
+
+    def start_again(self) -> None:
+        """Starts whoever is moved and has no keeper, where version 2 has all that it needs."""
+        batch, began = list(self.away), self.hands.clock()
+        self.start_away()
+        if batch:
+            self.settle(batch, began)
+
+    def start_away(self) -> None:
+        for member in list(self.away):
+            self.hands.start(member)
+            self.away.remove(member)
+
     def check(self, batch: List[int]) -> None:
         """Before members are stopped: those of the version that answers are whole."""
+        if not self.has_handed_over() and (len(self.moved) >= HANDOVER[self.size] or (self.size == 2 and self.moved)):
+            return  # neither version has a quorum
         answering = self.moved if self.has_handed_over() else [member for member in self.members if member not in self.moved]
-        if len(self.moved) >= HANDOVER[self.size] and not self.has_handed_over():
-            return
-        rolling.wait_for_whole(self.hands, answering, batch, self.bounds.hold)
+        rolling.wait_for_whole(self.hands, answering, batch, self.bounds.whole if self.revived else self.bounds.hold)
         self.commit = max([self.commit] + [rolling.number(self.hands.health(member), "commit") for member in answering])
 
     def move(self, batch: List[int]) -> None:
@@ -111,9 +149,7 @@ class Walk:
             self.convert(member)
         self.moved += batch
         began = self.hands.clock()
-        for member in list(self.away):
-            self.hands.start(member)
-            self.away.remove(member)
+        self.start_away()
         self.settle(batch, began)
 
     def convert(self, member: int) -> None:
@@ -152,11 +188,12 @@ class Walk:
             spent = rolling.settle(self.hands, self.moved, member, self.bounds, ANY_AGE)
             self.hands.say(f"member {member} applies what the others commit, {spent:.1f} s later")
 
-    def await_process(self, member: int, began: float) -> None:
+    def await_process(self, member: int, began: float, age: float = 0.0) -> None:
+        """Waits until a member runs, whose process was at most `age` seconds old when it was started."""
         while True:
             health = self.hands.health(member)
             spent = self.hands.clock() - began
-            if health is not None and health["state"] != "down" and rolling.seconds(health, "up") <= spent + SLACK:
+            if health is not None and health["state"] != "down" and rolling.seconds(health, "up") <= age + spent + SLACK:
                 return
             if spent > self.bounds.whole:
                 raise Stopped(f"member {member} doesn't run {self.bounds.whole:.0f} s after it was started: look at its log")

@@ -22,6 +22,11 @@ TCP = "tcp:"
 AGAIN = 0.25  # seconds after which a datagram is sent once more
 
 
+def where_of(address: str) -> Tuple[str, int]:
+    """Host and port of a member's address, over UDP or TCP; ValueError where it is of another form."""
+    return place_of(address[len(TCP):] if address.startswith(TCP) else address)
+
+
 class Reply(NamedTuple):
     """What a member answered: `evicted` where it leads `view`, `busy` where it leads and can't take a request, `redirect` where another one does."""
 
@@ -81,7 +86,7 @@ class Probe:
 
     def begin(self, place: int, address: str) -> None:
         is_stream = address.startswith(TCP)
-        host, port = place_of(address[len(TCP):] if is_stream else address)
+        host, port = where_of(address)
         try:
             family, kind, _, _, where = socket.getaddrinfo(host, port, type=socket.SOCK_STREAM if is_stream else socket.SOCK_DGRAM)[0]
         except OSError:

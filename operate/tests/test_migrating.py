@@ -5,7 +5,7 @@ import subprocess
 import sys
 import time
 import unittest
-from typing import Dict, List, Optional, Set
+from typing import Any, Callable, Dict, List, Optional, Set
 
 from parts import datafile, program
 from parts.migrating import HANDOVER, File, Hands, Walk
@@ -14,7 +14,12 @@ from parts.rolling import Bounds, Stopped
 HERE = os.path.dirname(os.path.dirname(os.path.realpath(__file__)))
 sys.path.insert(0, os.path.join(HERE, "trials"))
 
+from commanded import Commands  # noqa: E402
 from real import CLUSTER, Group, Net  # noqa: E402
+
+
+class Killed(Exception):
+    """The walk is ended in its midst."""
 
 
 class Played:
@@ -29,6 +34,7 @@ class Played:
         self.codes: Dict[int, int] = {}
         self.done: List[str] = []
         self.silent = 0.0  # seconds for which nobody answered
+        self.steps: Optional[int] = None  # after which the walk is killed
 
     def answers(self) -> Optional[int]:
         """The version that answers, if one does: version 1 as long as its primary has enough others to go on, version 2 once it can change its view."""
@@ -68,15 +74,25 @@ class Played:
         self.now += seconds
         self.silent += seconds * (self.answers() is None)
 
-    def walk(self, *accepted: int) -> List[str]:
-        """One run of the walk: what it did, and why it stopped."""
-        self.done = []
-        hands = Hands(self.health, lambda member: File(self.version[member], set(self.lost[member]), set()), self.stop, self.start, self.migrate, self.sleep,
-                      lambda: self.now, lambda text: None)
+    def step(self, what: Callable[[int], Any]) -> Callable[[int], Any]:
+        """What ends the walk where it is to be killed."""
+        def made(member: int) -> Any:
+            if self.steps is not None and len(self.done) >= self.steps:
+                raise Killed
+            return what(member)
+        return made
+
+    def walk(self, *accepted: int, steps: Optional[int] = None) -> List[str]:
+        """One run of the walk, which is killed after so many steps: what it did, and why it stopped."""
+        self.done, self.steps = [], steps
+        hands = Hands(self.health, lambda member: File(self.version[member], set(self.lost[member]), set()), self.step(self.stop), self.step(self.start),
+                      self.step(self.migrate), self.sleep, lambda: self.now, lambda text: None)
         try:
             Walk(hands, self.size, Bounds(60.0, 15.0), set(accepted)).go()
         except Stopped as why:
             self.done.append(str(why))
+        except Killed:
+            pass
         return self.done
 
 
@@ -105,6 +121,30 @@ class Walking(unittest.TestCase):
         played.codes.clear()
         played.since[1] = played.now
         self.assertEqual(played.walk(), one(1) + one(2) + one(0))
+
+    def test_killed_after_a_stop_before_a_move(self):
+        """Whoever isn't moved and has no keeper is started first; the walk is as ever then."""
+        for size in (2, 3, 4, 5, 6):
+            for member in range(size):
+                with self.subTest((size, member)):
+                    played = Played(size)
+                    played.since[member] = None
+                    done = played.walk()
+                    self.assertEqual((done[0], sorted(step for step in done if step.startswith("move"))), (f"start {member}", [f"move {other}" for other in range(size)]))
+                    self.assertNotIn(None, played.since.values())
+
+    def test_killed_after_any_step(self):
+        """However many steps were made of a walk, and wherever one is killed that is run again, what is run in the end ends well."""
+        for size in (2, 3, 4, 5, 6):
+            steps = len(Played(size).walk())
+            for first in range(steps + 1):
+                for second in range(0, steps + 1, 2):
+                    with self.subTest((size, first, second)):
+                        played = Played(size)
+                        played.walk(steps=first)
+                        played.walk(steps=second)
+                        self.assertFalse([step for step in played.walk() if step.split()[0] not in ("start", "stop", "move")])
+                        self.assertEqual((set(played.version.values()), None in played.since.values()), ({2}, False))
 
     def test_a_member_that_lost_something_stops_it_before_the_handover(self):
         played = Played(3)
@@ -139,10 +179,12 @@ class Walking(unittest.TestCase):
         self.assertEqual({int(row[1]): int(row[3].split()[1][0]) for row in rows}, {size: move for size, move in HANDOVER.items() if size > 2})
 
 
+SLOT = 5 % datafile.SLOTS
 LOSSY = """#!/bin/sh
-"$1" migrate {cluster} "$2" 3 "$3" || exit
-[ ! -e "$3.lossy" ] || {{ rm "$3.lossy"; dd if=/dev/zero of="$3" bs=512 seek={seek} count=8 conv=notrunc 2> /dev/null; }}
-"""
+file={{folder}}/$1
+{{program}} migrate {{cluster}} $1 {{size}} $file || exit
+[ ! -e $file.lossy ] || {{{{ rm $file.lossy; dd if=/dev/zero of=$file bs=512 seek={seek} count=8 conv=notrunc 2> /dev/null; }}}}
+""".format(seek=datafile.PREPARES[2] + datafile.PREPARE_SECTORS[2] * SLOT)
 
 
 @unittest.skipUnless(program.is_there(), program.MISSING)
@@ -151,26 +193,12 @@ class Real(unittest.TestCase):
         words = [os.path.join(HERE, "ask"), "--program", group.program, "--again", "--for", "120", str(CLUSTER)] + group.addresses + list(more)
         return subprocess.run(words, input=lines, capture_output=True, text=True).stdout
 
-    def script(self, group: Group, name: str, text: str) -> str:
-        path = os.path.join(group.folder, name)
-        with open(path, "w") as file:
-            file.write(text)
-        os.chmod(path, 0o755)
-        return path
-
     def begin(self, group: Group) -> List[str]:
         """Starts the members by commands, and gives the words that move them."""
-        keep = f"{HERE}/keep --program {group.program} --log {group.folder}/$1.log {CLUSTER} $1 {group.folder}/$1 {' '.join(group.addresses)}"
-        start = self.script(group, "start", f"#!/bin/sh\n{keep} > /dev/null 2>> {group.folder}/$1.said &\necho $! > {group.folder}/$1.pid\n")
-        stop = self.script(group, "stop", f"#!/bin/sh\nkill $(cat {group.folder}/$1.pid)\nflock -w 60 {group.folder}/$1.keep true\n")
-        slot = 5 % datafile.SLOTS
-        move = self.script(group, "move", LOSSY.format(cluster=CLUSTER, seek=datafile.PREPARES[2] + datafile.PREPARE_SECTORS[2] * slot))
-        for member in range(3):
-            subprocess.run([start, str(member)], check=True)
-            self.addCleanup(subprocess.run, [stop, str(member)], stderr=subprocess.DEVNULL)
-        files = os.path.join(group.folder, "{}")
-        return [os.path.join(HERE, "migrate-group"), str(CLUSTER), "3", "--files", files, "--sockets", files + ".socket", "--stop", f"{stop} {{}}", "--start", f"{start} {{}}",
-                "--migrate", f"{move} {group.program} {{}} {files}", "--bound", "60"]
+        commands = Commands(group, move=LOSSY)
+        commands.start_all()
+        self.addCleanup(commands.stop_all)
+        return commands.words()
 
     def test_a_group_whose_first_member_loses_an_entry_in_its_move(self):
         group = Group(3, Net(3))
@@ -193,3 +221,7 @@ class Real(unittest.TestCase):
         moved = subprocess.run(words + ["--go", "--accept", str(first)], capture_output=True, text=True)
         self.assertEqual(moved.returncode, 0, moved.stdout + moved.stderr)
         self.assertEqual(self.ask(group, "get k1\nget k7\n", "--v2"), "value v1\nvalue v7\n")
+
+    def test_walks_that_are_killed_are_run_again(self):
+        made = subprocess.run([os.path.join(HERE, "trials", "killed"), "--short"], capture_output=True, text=True, env=dict(os.environ, PROGRAM=program.PATH))
+        self.assertEqual(made.returncode, 0, made.stdout + made.stderr)

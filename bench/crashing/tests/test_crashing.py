@@ -5,14 +5,14 @@ import random
 import unittest
 from typing import List
 
-from crashing.disk import Disk, State, spoiled
+from crashing.disk import PAGES, Disk, State, spoiled
 from crashing.judging import Case, judge_claim
 from crashing.members import Seen
 from crashing.recording import SECTOR, Call, Reader
 from crashing.statements import Part, Statement, start_view_change, statement_of
 from crashing.told import Claim, Executed, Log, Split, Told
 from crashing.walking import points
-from crashing import scenarios
+from crashing import early, running, scenarios, tables, whole
 
 import formats
 
@@ -73,6 +73,24 @@ class Disks(unittest.TestCase):
         found = {tuple(bytes(state.image[at:at + SECTOR]) == SEVENS for at in range(0, 3 * SECTOR, SECTOR)) for state in some_states(disk) if state.image is not None}
         self.assertEqual(found, set(itertools.product((False, True), repeat=3)))
 
+    def test_pages(self) -> None:
+        """A page is as it was, new, or damaged with all that was synced in it; no other page is touched."""
+        disk = Disk(SEVENS * 2 * PAGES)
+        disk.take(write(2, 9))
+        found = [(bytes(state.image), state.is_spoiled) for state in itertools.islice(disk.states(random.Random(1), PAGES), 100) if state.image is not None]
+        new = SEVENS * 2 + bytes([9] * SECTOR) + SEVENS * 13
+        bad = bytes([248] * 2 * SECTOR + [246] * SECTOR + [248] * 5 * SECTOR) + SEVENS * PAGES
+        self.assertEqual(set(found), {(SEVENS * 16, False), (new, False), (bad, True)})
+
+    def test_pages_of_sectors_that_are_written_twice_or_past_the_end(self) -> None:
+        disk = Disk(SEVENS * 9)
+        for call in (write(1, 8), write(1, 9), write(8, 9)):
+            disk.take(call)
+        for state in itertools.islice(disk.states(random.Random(2), PAGES), 100):
+            assert state.image is not None
+            self.assertEqual(len(state.image), 9 * SECTOR)
+            self.assertIn(state.image[SECTOR], (7, 9, 246))
+
     def test_a_file_that_is_made(self) -> None:
         disk = Disk()
         for call in (Call("make", 0, 0), write(0, 7), write(1, 7), Call("length", 0, 0, 4 * SECTOR)):
@@ -129,6 +147,50 @@ class Accounts(unittest.TestCase):
         part = scenarios.part_of([write(0, 7), sync(), write(1, 7), sync(), write(2, 7)], 2)
         self.assertEqual([(point.at, sorted(point.disk.unsure())) for point in points(part, 0, 0)], [(1, [1]), (3, [2])])
         self.assertEqual(len(part.accounts), 2)
+
+
+class Early(unittest.TestCase):
+    def test_a_message_before_a_sync(self) -> None:
+        send = Call("send", 0, 0, 4000, b"m")
+        for calls, places in (([write(0, 7), sync(), send], []), ([write(0, 7), send, sync(), send], [1]), ([send, write(0, 7), write(1, 7), send, send], [3, 4]), ([sync(), send, sync()], [])):
+            with self.subTest(str([call.kind for call in calls])):
+                recording = scenarios.Recording(scenarios.SCENARIOS[0], [scenarios.part_of(calls, 0)], Log())
+                self.assertEqual([sent.at for sent in early.early([recording])], places)
+        recording = scenarios.Recording(scenarios.SCENARIOS[0], [scenarios.part_of([write(0, 7), sync(), send], 0)], Log())
+        self.assertEqual([str(sent) for sent in early.early([early.hasty(recording)])], ["fresh-strict 0 1: early: a message leaves while 1 sectors aren't synced"])
+
+
+class Groups(unittest.TestCase):
+    """Groups that don't answer, on disks that write pages."""
+
+    def moment(self, name: str, *spoiled_ones: bool) -> whole.Moment:
+        scenario = next(one for one in scenarios.SCENARIOS if one.name == name)
+        return whole.Moment("1", scenarios.Recording(scenario, [], Log()), [State(b"", "", one) for one in spoiled_ones], {})
+
+    def test_which_may_wait(self) -> None:
+        waits, silent = "wait 0 view 3 op 12", "start 0"
+        for name, pages, text, failed, row in (
+                ("three-strict", (False, True, True), waits, [], "a choice waits: pages damaged at 2 of 3 members of version 1, all members run"),
+                ("three-strict-v2", (True, False, False), waits, [], "a choice waits: pages damaged at 1 of 3 members of version 2, all members run"),
+                ("three-careful", (False, False, False), waits, [], "a choice waits: careful files, all members run"),
+                ("three-strict", (False, False, False), waits, ["silent"], None),
+                ("three-strict", (False, True, True), silent, ["silent"], None)):
+            with self.subTest(name=name, pages=pages, text=text):
+                verdict = whole.judge_silence(self.moment(name, *pages), text)
+                self.assertEqual(([it.split(":")[0] for it in verdict.failures], verdict.rows), (failed, [row] if row else []))
+
+    def test_when_two_write(self) -> None:
+        def at(kind: str, begun: float, ended: float) -> Call:
+            return Call(kind, begun, ended, 0, ZEROS)
+
+        one = scenarios.part_of([at("write", 1, 1), at("write", 2, 2), at("sync", 3, 4), at("write", 8, 8)], 0)
+        other = scenarios.part_of([at("write", 3.5, 3.5), at("sync", 5, 6), at("write", 7, 7)], 0)
+        self.assertEqual((whole.busiest_times([one, other]), whole.busiest_times([one])), ([3.5, 8], [1, 8]))
+
+    def test_what_is_told(self) -> None:
+        tally = running.Tally()
+        tally.states, tally.rows["a choice waits"] = 9, 2
+        self.assertEqual(tables.standing_lines({"three-strict-v2": tally})[0], "version 2: 2 of 9 groups stand still for good")
 
 
 class Judgements(unittest.TestCase):
