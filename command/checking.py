@@ -79,7 +79,7 @@ class Run:
         self.top, self.folder, self.until, self.say = top, folder, until, say
         self.passed, self.failed, self.left_out = 0, 0, []  # type: int, int, List[str]
         self.program = find_program()
-        self.env = {**os.environ, "PYTHONDONTWRITEBYTECODE": "1", "TMPDIR": folder, **({"PROGRAM": self.program} if self.program else {})}
+        self.env = {**os.environ, "PYTHONDONTWRITEBYTECODE": "1", "TMPDIR": folder, **({"NOZHGIVA_PROGRAM": self.program} if self.program else {})}
 
     def all_of(self, checks: List[Check]) -> None:
         before = self.status()

@@ -70,5 +70,5 @@ def hand_on(program: str, kind: str, name: str, words: List[str]) -> int:
         say(f"{program} doesn't start: {error.strerror}")
         return 2
     say(meanings.of(name, words, status, kind, seen))
-    sys.stdout = None  # nothing was written here, so nothing is flushed
+    sys.stdout = None  # type: ignore[assignment]  # nothing was written here, so nothing is flushed
     return status if status >= 0 else end_by(-status)

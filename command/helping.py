@@ -2,17 +2,17 @@
 
 import difflib
 import os
-import re
 import subprocess
 import sys
 from typing import List
 
-from command import commands
+from command import commands, tree
 from command.commands import Command
 
-ABOUT = "builds, plays, runs and looks after a small replicated table of keys and values, whose safety is proved"
-TWO_COMMANDS = (("nozhgiva run examples/put-get.txt", "see what it does: builds it first, where that wasn't done"),
-                ("nozhgiva test", "prove and test all of it"))
+FIRST = (("nozhgiva explore examples/damaged-copy.txt > run.html", "look at a recorded run in a browser; no program is needed"),
+         ("nozhgiva run examples/put-get.txt", "see what the program does: builds it first, where that wasn't done"),
+         ("nozhgiva test", "prove and test all of it"))
+
 
 def show(text: str) -> int:
     """Writes a text to standard output; where that can't be written it says so, and the code is the program's for that."""
@@ -35,41 +35,20 @@ def unknown(home: str, name: str) -> str:
     return f"no command `{name}`: {f'did you mean `{near[0]}`?' if near else 'see `nozhgiva --help`'}"
 
 
-def table(rows: "commands.Codes") -> str:
-    width = max(len(name) for name, _ in rows)
-    return "".join(f"  {name:<{width}}  {what}\n" for name, what in rows)
-
-
 def of_all(home: str) -> str:
-    parts = [f"nozhgiva: {ABOUT}\n\nusage: nozhgiva COMMAND [WORD..]\n"]
+    parts = [f"nozhgiva: {tree.ABOUT}\n\nusage: nozhgiva COMMAND [WORD..]\n"]
     there = commands.all_there(home)
     for group in commands.GROUPS:
         rows = tuple((one.name, one.what) for one in there if one.group == group and (group != commands.BUILDING or is_clone(home)))
-        parts += [f"\n{group}\n{table(rows)}"] if rows else []
-    parts.append(f"\nFirst\n{table(TWO_COMMANDS)}" if is_clone(home) else "")
+        parts += [f"\n{group}\n{tree.rows(rows)}"] if rows else []
+    parts.append(f"\nFirst\n{tree.rows(FIRST)}" if is_clone(home) else "")
     parts.append("\n`nozhgiva COMMAND --help` tells a command's words, an example and its exit codes; `nozhgiva --version` the version, commit, program and toolchain;\n"
-                 "`nozhgiva --man` a page for man; `nozhgiva --completions` what bash completes. PROGRAM=PATH names another program.\n")
+                 "`nozhgiva --man` a page for man; `nozhgiva --completions` what bash completes. NOZHGIVA_PROGRAM=PATH names another program.\n")
     return "".join(parts)
 
 
-def forms(command: Command) -> str:
-    return "".join(f"  nozhgiva {command.name} {form}".rstrip() + "\n" for form in command.words.split("\n"))
-
-
 def of_command(home: str, command: Command) -> str:
-    text = f"nozhgiva {command.name}: {command.what}\n\nwords\n{forms(command)}"
-    text += f"{command.more}\n" if command.more else ""
-    text += f"\nexample\n  {command.example}\n\nexit codes\n{table(command.codes)}"
-    if not command.calls:
-        text += "  128 and more, in a shell: a signal ended it\n\nInput, output and code are the program's; docs/NODE.md and docs/SCHEDULE.md have all of it.\n"
-    if command.helps:
-        text += f"\nwhat {command.calls} says of itself\n" + own_help(home, command)
-    return text
-
-
-def own_help(home: str, command: Command) -> str:
-    ran = subprocess.run([os.path.join(home, command.calls), "--help"], stdin=subprocess.DEVNULL, stdout=subprocess.PIPE, stderr=subprocess.STDOUT, text=True, check=False)
-    return re.sub(r"(?m)^(?=.)", "  ", ran.stdout)
+    return tree.parsers(home, [command])[command.name].format_help()
 
 
 def is_clone(home: str) -> bool:
@@ -102,8 +81,8 @@ def version(home: str) -> str:
     """Of the product, its commit, the program that is found, and the toolchain."""
     from command import kit
 
-    found = output_of([os.path.join(home, "command", "program"), "--kind"], home)
+    found = output_of([os.path.join(home, "command", "program"), "--kind", "--quiet"], home)
     kind, _, path = found.partition(" ")
-    said = {"": "none: `nozhgiva build` compiles one, `rt ci` proves it", "compiled": f"compiled, not proved: `rt ci` proves it ({path})", "given": f"the one that PROGRAM names ({path})",
+    said = {"": "none: `nozhgiva build` compiles one, `rt ci` proves it", "compiled": f"compiled, not proved: `rt ci` proves it ({path})", "given": f"the one that NOZHGIVA_PROGRAM names ({path})",
             "installed": f"{read_line(home, 'KIND') or 'not known whether proved'} ({path})"}.get(kind, f"{kind} ({path})")
-    return table((("nozhgiva", read_line(home, "VERSION") or "unknown"), ("commit", commit(home)), ("program", said), ("toolchain", kit.identity()))).replace("\n  ", "\n")[2:]
+    return tree.rows((("nozhgiva", read_line(home, "VERSION") or "unknown"), ("commit", commit(home)), ("program", said), ("toolchain", kit.identity()))).replace("\n  ", "\n")[2:]

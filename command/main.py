@@ -30,9 +30,10 @@ def fail(text: str, status: int = 2) -> int:
     return status
 
 
-def find_program(home: str) -> Tuple[str, str]:
-    """The program's kind and path, as command/program finds it, which says on standard error which one it is, or that there is none."""
-    ran = subprocess.run([os.path.join(home, "command", "program"), "--kind"], stdout=subprocess.PIPE, text=True, check=False)
+def find_program(home: str, command: Command) -> Tuple[str, str]:
+    """The program's kind and path, as command/program finds it, which says that there is none, and where it matters which one it is."""
+    quiet = [] if command.tells_program else ["--quiet"]
+    ran = subprocess.run([os.path.join(home, "command", "program"), "--kind", *quiet], stdout=subprocess.PIPE, text=True, check=False)
     kind, _, path = ran.stdout.strip().partition(" ")
     if ran.returncode:
         raise NotThere
@@ -42,7 +43,7 @@ def find_program(home: str) -> Tuple[str, str]:
 def call(home: str, command: Command, words: List[str]) -> int:
     """Gives this process over to a script, with the words as they stand."""
     if command.needs_program:
-        os.environ["PROGRAM"] = find_program(home)[1]
+        os.environ["NOZHGIVA_PROGRAM"] = find_program(home, command)[1]
     path = os.path.join(home, command.calls)
     signal.signal(signal.SIGPIPE, signal.SIG_DFL)
     signal.signal(signal.SIGXFSZ, signal.SIG_DFL)
@@ -52,19 +53,27 @@ def call(home: str, command: Command, words: List[str]) -> int:
         return fail(f"{path} doesn't start: {error.strerror}; is what its first line names installed?")
 
 
+def asks_for_help(command: Command, words: List[str]) -> bool:
+    """Whether its help is wanted; of the program's own words only where nothing else is, since they are the program's to read."""
+    if not command.calls:
+        return words in (["-h"], ["--help"])
+    own = words[:words.index("--")] if "--" in words else words
+    return "-h" in own or "--help" in own
+
+
 def run_command(home: str, name: str, words: List[str]) -> int:
     command = commands.find(name)
     if command is None:
         return fail(helping.unknown(home, name))
     if not commands.is_there(home, command):
         return fail(f"{name} isn't part of this installation: there is no {command.calls}")
-    if words == ["--help"]:
+    if asks_for_help(command, words):
         return helping.show(helping.of_command(home, command))
     if command.calls:
         return call(home, command, words)
     from command import handing  # what only these need isn't read for the others
 
-    kind, path = find_program(home)
+    kind, path = find_program(home, command)
     return handing.hand_on(path, kind, name, words)
 
 

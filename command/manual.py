@@ -1,28 +1,29 @@
-"""A page for `man`, and what bash completes, both made from the table of subcommands."""
+"""A page for `man`, and what bash completes, both made from the tree of words."""
 
+import argparse
 import os
 import re
 import textwrap
 import time
 from typing import List
 
-from command import commands, helping
+from command import commands, helping, tree
 from command.commands import Command
 
 COMPLETION = """# Completion for bash: put this where bash-completion looks, or say: eval "$(nozhgiva --completions)"
 _nozhgiva() {
     local word=${COMP_WORDS[COMP_CWORD]}
     if [ "$COMP_CWORD" = 1 ]; then
-        mapfile -t COMPREPLY < <(compgen -W '@NAMES@ help --help --version' -- "$word")
+        mapfile -t COMPREPLY < <(compgen -W '@NAMES@' -- "$word")
         return
     fi
-    local flags=--help
+    local flags='' words=''
     case ${COMP_WORDS[1]} in
 @CASES@
     esac
     case $word in
         -*) mapfile -t COMPREPLY < <(compgen -W "$flags" -- "$word") ;;
-        *) mapfile -t COMPREPLY < <(compgen -f -- "$word") ;;
+        *) mapfile -t COMPREPLY < <(compgen -W "$words" -- "$word"; compgen -f -- "$word") ;;
     esac
 }
 complete -o filenames -F _nozhgiva nozhgiva ./nozhgiva
@@ -38,9 +39,24 @@ def filled(text: str) -> List[str]:
     return [escaped(line) for line in textwrap.wrap(text, 75, break_on_hyphens=False)]
 
 
-def of_command(command: Command) -> List[str]:
-    text = f"{command.what[0].upper()}{command.what[1:]}. {command.more}"
-    lines = [f".SS {escaped(command.name)}", ".nf", escaped(helping.forms(command)).rstrip("\n"), ".fi", ".PP", *filled(text)]
+def paragraphs(text: str) -> List[str]:
+    """Prose is filled; lines that are indented stand as they are."""
+    lines: List[str] = []
+    for one in filter(str.strip, re.split(r"\n\s*\n", text)):
+        is_shown = one.startswith("  ")
+        lines += [".PP", ".nf", *map(escaped, one.strip("\n").split("\n")), ".fi"] if is_shown else [".PP", *filled(" ".join(one.split()))]
+    return lines
+
+
+def usage(parser: argparse.ArgumentParser) -> List[str]:
+    """Its forms, a line each."""
+    return [escaped(line) for line in parser.format_usage().replace("usage: ", "", 1).replace("\n       ", "\n").strip().split("\n")]
+
+
+def of_command(command: Command, parser: argparse.ArgumentParser) -> List[str]:
+    lines = [f".SS {escaped(command.name)}", ".nf", *usage(parser), ".fi", *paragraphs(parser.description or "")]
+    for action in parser._actions:
+        lines += [".TP", escaped(tree.invocation(action)), *filled(tree.help_of(action))]
     lines += [".PP", "Example:", ".PP", ".nf", f"  {escaped(command.example)}", ".fi", ".PP", "Exit codes:"]
     for code, what in command.codes:
         lines += [".TP", escaped(code), *filled(what)]
@@ -48,20 +64,23 @@ def of_command(command: Command) -> List[str]:
 
 
 def man(home: str) -> str:
+    os.environ["COLUMNS"] = "80"  # as wide as argparse makes what it is asked for here
     moment = os.environ.get("SOURCE_DATE_EPOCH") or os.stat(os.path.join(home, "VERSION")).st_mtime
     made = time.strftime("%Y-%m-%d", time.gmtime(float(moment)))
     lines = [f'.TH NOZHGIVA 1 {made} "nozhgiva {helping.read_line(home, "VERSION")}"', ".SH NAME", "nozhgiva \\- look after a proved replicated table of keys and values"]
-    lines += [".SH SYNOPSIS", ".B nozhgiva", "COMMAND [WORD..]", ".br", ".B nozhgiva", "COMMAND \\-\\-help", ".br", ".B nozhgiva", "\\-\\-version", ".SH DESCRIPTION", *filled(f"nozhgiva is {helping.ABOUT}."), ".SH COMMANDS"]
+    lines += [".SH SYNOPSIS", ".B nozhgiva", "COMMAND [WORD..]", ".br", ".B nozhgiva", "COMMAND \\-\\-help", ".SH DESCRIPTION", *filled(f"nozhgiva {tree.ABOUT}."), ".SH OPTIONS"]
+    for action in tree.root()._actions:
+        lines += [".TP", escaped(tree.invocation(action)), *filled(tree.help_of(action))]
+    lines.append(".SH COMMANDS")
+    parsers = tree.all_of(home)
     for one in commands.all_there(home):
-        lines += of_command(one)
-    lines += [".SH ENVIRONMENT", ".TP", ".B PROGRAM", *filled("The path of the program that is run, in place of the one that is built or installed.")]
+        lines += of_command(one, parsers[one.name])
+    lines += [".SH ENVIRONMENT", ".TP", ".B NOZHGIVA_PROGRAM", *filled("The path of the program that is run, in place of the one that is built or installed. PROGRAM, its old name, is still read.")]
     return "\n".join(lines) + "\n"
 
 
 def completions(home: str) -> str:
-    there = commands.all_there(home)
-    cases = []
-    for one in there:
-        flags = sorted(set(re.findall(r"--[a-z0-9-]+", one.words)) | {"--help"})
-        cases.append(f"        {one.name}) flags='{' '.join(flags)}' ;;")
-    return COMPLETION.replace("@NAMES@", " ".join(one.name for one in there)).replace("@CASES@", "\n".join(cases))
+    parsers = tree.all_of(home)
+    cases = [f"        {name}) flags='{' '.join(tree.flags(one))}' words='{' '.join(tree.choices(one))}' ;;" for name, one in parsers.items()]
+    own = " ".join(("help", *tree.flags(tree.root())))
+    return COMPLETION.replace("@NAMES@", f"{' '.join(parsers)} {own}").replace("@CASES@", "\n".join(cases))

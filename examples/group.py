@@ -18,7 +18,7 @@ if sys.argv[1:] in (["-h"], ["--help"]):
     sys.exit(0)
 
 
-def program():
+def program() -> str:
     """The program; without it the script ends. What there is, or isn't, is said on standard error."""
     found = subprocess.run([f"{TOP}/command/program"], stdout=subprocess.PIPE, text=True)
     if found.returncode:

@@ -1,4 +1,4 @@
-# What examples/cluster and examples/crash share: members of one group on loopback, and clients that ask it. It is sourced.
+# What examples/crash and examples/migrate share: members of one group on loopback, and clients that ask it. It is sourced.
 . "$(dirname "$(realpath -- "${BASH_SOURCE[0]}")")/program.sh"
 folder=$(mktemp -d) || exit 2
 port=${PORT:-$((20000 + ($$ * 7) % 9000))}

@@ -54,7 +54,7 @@ try_package() {
         leave_out "lintian"
     fi
     dpkg-deb -x "$made" "$work/root"
-    cmp -s "$PROGRAM" "$work/root/usr/lib/nozhgiva/vr_app" || fail "the program isn't put in as it is"
+    cmp -s "$NOZHGIVA_PROGRAM" "$work/root/usr/lib/nozhgiva/vr_app" || fail "the program isn't put in as it is"
 }
 
 # The unit, and its words run as they stand, but for the folders.
@@ -77,7 +77,7 @@ try_unit() {
     expect 9 eval "$command"
     grep -q "there is no file $work/lib/0" "$work/said" || fail "where the file isn't there: $(cat "$work/said")"
     passed "a start without a member's file: ends with 9, and makes none"
-    nozhgiva() { env -u PROGRAM "$home/usr/bin/nozhgiva" "$@"; }
+    nozhgiva() { env -u NOZHGIVA_PROGRAM -u PROGRAM "$home/usr/bin/nozhgiva" "$@"; }
     expect 0 nozhgiva make-member $CLUSTER 0 "$work/lib/0" $ADDRS --v2
     expect 1 nozhgiva make-member $CLUSTER 0 "$work/lib/0" $ADDRS --v2
     eval "$command 2> $work/journal &"
@@ -118,7 +118,7 @@ try_base() {
     mkdir "$root"
     tar -x -C "$root" -f "$base" --exclude='./dev/*' || fail "tar: $base"
     cp "$made" "$root/tmp/"
-    inside() { env -u PROGRAM unshare --mount --pid --net --fork --kill-child --root="$root" --mount-proc "$@"; }
+    inside() { env -u NOZHGIVA_PROGRAM -u PROGRAM unshare --mount --pid --net --fork --kill-child --root="$root" --mount-proc "$@"; }
     mknod -m 666 "$root/dev/null" c 1 3 && mknod -m 666 "$root/dev/urandom" c 1 9 || { leave_out "the package in a base system: no devices can be made"; return 0; }
     expect 0 inside dpkg -i "/tmp/$(basename "$made")"
     [ "$(inside stat -c '%U %a' /var/lib/nozhgiva)" = 'nozhgiva 700' ] || fail "the folder's owner"

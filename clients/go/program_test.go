@@ -14,7 +14,7 @@ import (
 	"time"
 )
 
-// The tests below ask members of the built program: PROGRAM, or crates/vr_app/out/vr_app. Without one they are skipped.
+// The tests below ask members of the built program: NOZHGIVA_PROGRAM, or crates/vr_app/out/vr_app. Without one they are skipped.
 
 var failover = flag.Duration("failover", 0, "how long a primary is killed each five seconds, with at most two seconds without an answer")
 
@@ -30,7 +30,7 @@ type running struct {
 }
 
 func programOrSkip(t *testing.T) string {
-	program := os.Getenv("PROGRAM")
+	program := os.Getenv("NOZHGIVA_PROGRAM")
 	if program == "" {
 		program = "../../crates/vr_app/out/vr_app"
 	}

@@ -10,7 +10,7 @@ from typing import Dict, List, Optional
 
 TOP = Path(os.path.realpath(__file__)).parent.parent.parent
 NOZHGIVA = str(TOP / "nozhgiva")
-PROGRAM = os.environ.get("PROGRAM", "")
+PROGRAM = os.environ.get("NOZHGIVA_PROGRAM", "")
 needs_program = unittest.skipUnless(PROGRAM, "no program")
 
 

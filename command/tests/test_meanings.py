@@ -120,8 +120,8 @@ class Streams(unittest.TestCase):
         self.assertIn("whether it was executed isn't known", said(["client", "5", "9", "5", A, B], b"get a\n")[1])
 
     def test_a_program_that_is_gone(self):
-        ran = call([NOZHGIVA, "soak", "1", "1"], env={**os.environ, "PROGRAM": "/none"})
-        self.assertEqual((ran.returncode, ran.stderr), (2, b"no program: PROGRAM names /none\n"))
+        ran = call([NOZHGIVA, "soak", "1", "1"], env={**os.environ, "NOZHGIVA_PROGRAM": "/none"})
+        self.assertEqual((ran.returncode, ran.stderr), (2, b"no program: NOZHGIVA_PROGRAM names /none\n"))
 
     def test_a_failed_check_of_the_compiled_one(self):
         from command import meanings

@@ -146,7 +146,7 @@ class Page:
             return []
         for folder in FOLDERS:
             (self.root / folder[1:]).mkdir(parents=True)
-        env = {**os.environ, "PROGRAM": self.place.program, "PYTHONDONTWRITEBYTECODE": "1", "TMPDIR": str(self.root / "tmp")}
+        env = {**os.environ, "NOZHGIVA_PROGRAM": self.place.program, "PYTHONDONTWRITEBYTECODE": "1", "TMPDIR": str(self.root / "tmp")}
         env["PATH"] = f"{self.place.folder / 'bin'}:{env['PATH']}"
         (self.root / "lines").write_text(script(self.steps, self.before, self.root), encoding="utf-8")
         with (self.root / "told").open("wb") as told, (self.root / "said").open("wb") as said:

@@ -9,7 +9,6 @@ import termios
 import time
 
 EXAMPLES = os.path.join(os.path.dirname(os.path.abspath(__file__)), "..")
-PROGRAM = os.environ.get("PROGRAM") or os.path.join(EXAMPLES, "..", "crates", "vr_app", "out", "vr_app")
 GROUP = re.compile(r"cluster ([1-6])( .*)?")
 AT = re.compile(r"# at ([1-9][0-9]*)")
 """A comment that says at which of an example's lines its page opens."""
@@ -94,9 +93,15 @@ class Replay:
         self.child.stderr.close()
 
 
-def ask_program(steps):
+def find_program():
+    """The program that command/program finds, which is none that is older than a source; nothing where there is none."""
+    found = subprocess.run([os.path.join(EXAMPLES, "..", "command", "program"), "--quiet"], stdout=subprocess.PIPE, stderr=subprocess.DEVNULL, text=True, check=False)
+    return found.stdout.strip()
+
+
+def ask_program(program, steps):
     """Puts under each step what the program writes."""
-    replay = Replay(PROGRAM)
+    replay = Replay(program)
     try:
         for step in steps:
             step["outputs"] = replay.play(step["line"])
@@ -106,9 +111,9 @@ def ask_program(steps):
 
 def ask_unproved(path):
     """The same by examples/run, which compiles the program where there is none."""
-    made = subprocess.run([os.path.join(EXAMPLES, "run"), path], capture_output=True, text=True, check=False)
+    made = subprocess.run([os.path.join(EXAMPLES, "run"), path], stdout=subprocess.PIPE, text=True, check=False)  # what it says, as of a build, is told as it comes
     if made.returncode:
-        raise BadRun(f"examples/run: {made.stderr.strip()}")
+        raise BadRun(f"examples/run ends with status {made.returncode}")
     return read_example(made.stdout)[1]
 
 
@@ -135,8 +140,9 @@ def read_run(path):
     if not steps or not GROUP.fullmatch(steps[0]["line"]):
         raise BadRun("the first line of a schedule is `cluster N`")
     if not any(step["outputs"] for step in steps):
-        if os.access(PROGRAM, os.X_OK):
-            ask_program(steps)
+        program = find_program()
+        if program:
+            ask_program(program, steps)
         else:
             for step, made in zip(steps, ask_unproved(path)):
                 step["outputs"] = made["outputs"]

@@ -13,7 +13,7 @@ HERE = Path(__file__).resolve().parent
 TOP = HERE.parent.parent
 sys.path.append(str(TOP))
 
-from command import kit  # noqa: E402
+from command import kit, phases, sources  # noqa: E402
 
 RUNTIME = HERE / "runtime" / "runtime.c"
 TARGET = ["--target=wasm64-unknown-unknown", "-O2"]
@@ -28,17 +28,20 @@ class Missing(Exception):
 
 
 def module_path() -> Path:
-    """The module of the program, as clang was handed it."""
-    path = Path(os.environ.get("PLAY_MODULE") or TOP / "out" / "nozhgiva.bc")
+    """The module of the program, as clang was handed it: the one that is named, else that of the last build, where its sources are the same still."""
+    named = os.environ.get("PLAY_MODULE")
+    path = Path(named or TOP / "out" / "nozhgiva.bc")
     if not path.is_file():
         raise Missing(f"no module at {path}: `./nozhgiva build` makes it, or PLAY_MODULE names one")
+    if not named and not sources.are_those_of(path, TOP):
+        raise Missing(f"the module {path} was made of other sources than these: `./nozhgiva build` makes it anew")
     return path
 
 
 def is_older() -> bool:
-    """Whether the module was made before the last change of a source."""
+    """Whether a module that is named was made before the last change of a source; of another one it is known what it was made of."""
     made = module_path().stat().st_mtime
-    return any(source.stat().st_mtime > made for source in TOP.glob("crates/*/src/**/*.rt"))
+    return bool(os.environ.get("PLAY_MODULE")) and any(source.stat().st_mtime > made for source in sources.paths(TOP))
 
 
 def tools() -> Path:
@@ -59,12 +62,12 @@ def say(text: str) -> None:
     print(f"play: {text}", file=sys.stderr, flush=True)
 
 
-def run(*words: object) -> None:
-    """Runs a tool; where it fails, what it says is the reason."""
-    made = subprocess.run([str(word) for word in words], capture_output=True, text=True, check=False)
-    if made.returncode:
-        said = (made.stderr or made.stdout).strip().splitlines()
-        raise Missing(f"{Path(str(words[0])).name} fails: {said[-1] if said else made.returncode}")
+def run(name: str, *words: object) -> None:
+    """Runs a tool, and says how far it is; where it fails, what it says is the reason."""
+    with tempfile.TemporaryFile() as said:
+        status = phases.run(say, name, [str(word) for word in words], said)
+        if status:
+            raise Missing(f"{Path(str(words[0])).name} fails: {phases.last_lines(said, 1) or status}")
 
 
 def version_of(tool: Optional[str]) -> str:
@@ -81,15 +84,14 @@ def kept_name(module: Path, lowering: Optional[str]) -> str:
 def make(module: Path, lowering: Optional[str], folder: Path) -> Path:
     """Compiles, links and lowers; the program's file."""
     compilers = tools()
-    say("compiling for WebAssembly (two minutes of a processor)")
-    run(compilers / "clang", *OF_MODULE, module, "-o", folder / "module.o")
-    run(compilers / "clang", *OF_RUNTIME, RUNTIME, "-o", folder / "runtime.o")
-    run(compilers / "ld.lld", *LINK, "-o", folder / "linked.wasm", folder / "module.o", folder / "runtime.o")
+    say("the first time for this program it takes some three minutes of a processor; what is made is kept in out/")
+    run("compiling for WebAssembly", compilers / "clang", *OF_MODULE, module, "-o", folder / "module.o")
+    run("compiling the runtime", compilers / "clang", *OF_RUNTIME, RUNTIME, "-o", folder / "runtime.o")
+    run("linking", compilers / "ld.lld", *LINK, "-o", folder / "linked.wasm", folder / "module.o", folder / "runtime.o")
     if lowering is None:
         say("no wasm-opt (Debian's package binaryen): the page needs a browser with 64-bit memories, and plays each schedule anew at each line")
         return folder / "linked.wasm"
-    say("wasm-opt: 32-bit addresses, and a program that waits in its reads")
-    run(lowering, folder / "linked.wasm", *LOWER, "-o", folder / "program.wasm")
+    run("wasm-opt: 32-bit addresses, and a program that waits in its reads", lowering, folder / "linked.wasm", *LOWER, "-o", folder / "program.wasm")
     return folder / "program.wasm"
 
 

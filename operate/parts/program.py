@@ -1,4 +1,4 @@
-"""The program, for what plays or tries it, as command/program finds it: the one that PROGRAM names, or the one that is built."""
+"""The program, for what plays or tries it, as command/program finds it: the one that NOZHGIVA_PROGRAM names, or the one that is built."""
 
 import os
 import subprocess

@@ -1,4 +1,4 @@
-"""How a script ends where whoever reads it has gone, or it is interrupted: with a code and no traceback."""
+"""What all scripts share: which program they take where none is named, and how they end where whoever reads them has gone, or they are interrupted."""
 
 import os
 import sys
@@ -6,6 +6,15 @@ from typing import Callable, NoReturn
 
 INTERRUPTED = 130
 UNREAD = 141  # as a shell says of a program whose reader has gone
+
+
+def program() -> str:
+    """The program that the environment names, else vr_app, of the PATH. PROGRAM is the old name, which is said where it is read."""
+    old = os.environ.get("PROGRAM", "")
+    named = os.environ.get("NOZHGIVA_PROGRAM", "")
+    if old and not named:
+        print("PROGRAM is the old name of NOZHGIVA_PROGRAM, and still read", file=sys.stderr)
+    return named or old or "vr_app"
 
 
 def end(main: Callable[[], int]) -> NoReturn:

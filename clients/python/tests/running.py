@@ -1,4 +1,4 @@
-"""Groups of the built program for tests: PROGRAM, or crates/vr_app/out/vr_app. Without one the tests that need it are skipped."""
+"""Groups of the built program for tests: NOZHGIVA_PROGRAM, or crates/vr_app/out/vr_app. Without one the tests that need it are skipped."""
 
 import itertools
 import os
@@ -16,7 +16,7 @@ from nozhgiva import Get, Group
 from nozhgiva.links import open_link, places_of
 from nozhgiva.messages import Request
 
-PROGRAM = os.environ.get("PROGRAM") or str(Path(__file__).resolve().parents[3] / "crates/vr_app/out/vr_app")
+PROGRAM = os.environ.get("NOZHGIVA_PROGRAM") or str(Path(__file__).resolve().parents[3] / "crates/vr_app/out/vr_app")
 CLUSTER = 5
 PATIENCE = 60.0
 MEMORY = "/dev/shm"

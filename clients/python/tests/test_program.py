@@ -1,4 +1,4 @@
-"""The library against a group of the built program: PROGRAM, or crates/vr_app/out/vr_app. Without one these tests are skipped."""
+"""The library against a group of the built program: NOZHGIVA_PROGRAM, or crates/vr_app/out/vr_app. Without one these tests are skipped."""
 
 import signal
 import threading

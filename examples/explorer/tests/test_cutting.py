@@ -15,7 +15,7 @@ from members import merge_members  # noqa: E402
 from schedules import Played, Schedule, Truth, write_members  # noqa: E402
 
 EXAMPLES = HERE.parents[2]
-PROGRAM = os.environ.get("PROGRAM") or str(EXAMPLES.parent / "crates" / "vr_app" / "out" / "vr_app")
+PROGRAM = os.environ.get("NOZHGIVA_PROGRAM") or str(EXAMPLES.parent / "crates" / "vr_app" / "out" / "vr_app")
 COUNT = int(os.environ.get("SCHEDULES", "40"))
 LINES = 150
 
@@ -102,7 +102,7 @@ class Cutting(unittest.TestCase):
             count["unsure"] += len(found) - len(sure)
         return count
 
-    @unittest.skipUnless(os.access(PROGRAM, os.X_OK), "no program: rt ci makes it, or PROGRAM names one")
+    @unittest.skipUnless(os.access(PROGRAM, os.X_OK), "no program: rt ci makes it, or NOZHGIVA_PROGRAM names one")
     def test_random_schedules(self):
         count = Counter()
         for seed in range(COUNT):

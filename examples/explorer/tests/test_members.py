@@ -15,7 +15,7 @@ from parts import lines, log, playing  # noqa: E402
 from reading import BadRun  # noqa: E402
 
 EXAMPLES = Path(__file__).resolve().parents[2]
-PROGRAM = os.environ.get("PROGRAM") or str(EXAMPLES.parent / "crates" / "vr_app" / "out" / "vr_app")
+PROGRAM = os.environ.get("NOZHGIVA_PROGRAM") or str(EXAMPLES.parent / "crates" / "vr_app" / "out" / "vr_app")
 FILES = [Path(__file__).with_name("members") / f"out.{member}" for member in range(3)]
 
 
@@ -143,7 +143,7 @@ class Kept:
             self.texts[member].append(f"{log.stamp(self.EPOCH + now)} {text}")
 
 
-@unittest.skipUnless(os.access(PROGRAM, os.X_OK), "no program: rt ci makes it, or PROGRAM names one")
+@unittest.skipUnless(os.access(PROGRAM, os.X_OK), "no program: rt ci makes it, or NOZHGIVA_PROGRAM names one")
 class WhatKeepersWrite(unittest.TestCase):
     @classmethod
     def setUpClass(cls):

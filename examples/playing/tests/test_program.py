@@ -98,7 +98,7 @@ class SameBytes(unittest.TestCase):
 
     def long_schedule(self) -> Path:
         path = self.folder / "long.txt"
-        subprocess.run([sys.executable, str(EXAMPLES / "soak-check"), "7", "2000", str(path)], env={**os.environ, "PROGRAM": PROGRAM}, check=True, capture_output=True)
+        subprocess.run([sys.executable, str(EXAMPLES / "soak-check"), "7", "2000", str(path)], env={**os.environ, "NOZHGIVA_PROGRAM": PROGRAM}, check=True, capture_output=True)
         return path
 
 
