@@ -7,13 +7,13 @@ from typing import NamedTuple, Optional
 
 from .datafile import Report
 
-FORM = re.compile(r"file of member (\d+) of group (\d+): sequence (\d+) head (\d+)")
+FORM = re.compile(r"file: replica (\d+) group (\d+) sequence (\d+) head (\d+)")
 
 
 class Note(NamedTuple):
     """Of a file: whose it is, the sequence of its superblock, and the last operation of its log."""
 
-    member: int
+    replica: int
     group: int
     sequence: int
     head: int
@@ -23,7 +23,7 @@ class Note(NamedTuple):
         return before is None or before[:2] != self[:2] or self[2:] > before[2:]
 
     def __str__(self) -> str:
-        return f"file of member {self.member} of group {self.group}: sequence {self.sequence} head {self.head}"
+        return f"file: replica {self.replica} group {self.group} sequence {self.sequence} head {self.head}"
 
 
 def of_report(report: Report) -> Optional[Note]:
@@ -44,7 +44,7 @@ def is_older(report: Report, note: Note) -> Optional[str]:
     """By what a file is older than the note that was made of it; None where it isn't, or is another member's. Damage is no age: only a slot that says that it
     never had the noted operation counts."""
     value = report.value
-    if value is None or (value.replica, value.cluster) != (note.member, note.group):
+    if value is None or (value.replica, value.cluster) != (note.replica, note.group):
         return None
     if value.sequence < note.sequence:
         return f"its superblock is of sequence {value.sequence}, and was of {note.sequence}"

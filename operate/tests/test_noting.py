@@ -22,7 +22,7 @@ class Notes(unittest.TestCase):
     def test_what_is_written_is_read(self) -> None:
         note = Note(1, 2 ** 64 - 1, 7, 96)
         self.assertEqual(noting.read(str(note)), note)
-        for text in ("", "keeper 12, member 34", "file of member 1 of group 5: sequence 7 head"):
+        for text in ("", "keeper 12, member 34", "file: replica 1 group 5 sequence 7 head"):
             self.assertIsNone(noting.read(text))
 
     def test_a_note_never_goes_back(self) -> None:

@@ -151,7 +151,7 @@ class Group:
         """The member's own process, by what its keeper wrote."""
         try:
             with open(self.file(member) + ".keep") as file:
-                found = re.search(r"member (\d+)", file.read())
+                found = re.search(r"^keeper \d+, member (\d+)$", file.readline())
         except OSError:
             return None
         return int(found.group(1)) if found else None
