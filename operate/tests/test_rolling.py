@@ -165,18 +165,21 @@ class Script(unittest.TestCase):
     LINE = "member={} well=yes state={} applied={} commit={} asks=- mends=- up=0.1\n"
 
     def test_held_clients_are_let_go_whatever_signal_ends_it(self):
-        for number in (signal.SIGHUP, signal.SIGTERM, signal.SIGINT):
+        for number, code in ((signal.SIGHUP, 1), (signal.SIGTERM, 1), (signal.SIGINT, 1), (signal.SIGKILL, -signal.SIGKILL)):
             with self.subTest(number), tempfile.TemporaryDirectory(prefix="vr-roll-") as folder:
                 for member, (state, applied) in enumerate([("leads", 9), ("follows", 5), ("follows", 9)]):
                     with open(f"{folder}/{member}", "w") as file:
                         file.write(self.LINE.format(member, state, applied, applied))
                 words = [os.path.join(HERE, "roll"), "3", "--health", f"cat {folder}/{{}}", "--restart", "true", "--hold-after", "0.1", "--bound", "60",
-                         "--hold", f"touch {folder}/held", "--release", f"touch {folder}/released"]
+                         "--hold", f"touch {folder}/held", "--release", f"echo once >> {folder}/released"]
                 child = subprocess.Popen(words, stdout=subprocess.DEVNULL, stderr=subprocess.DEVNULL)
                 self.addCleanup(child.kill)
                 end = time.monotonic() + 60
                 while not os.path.exists(f"{folder}/held") and time.monotonic() < end:
                     time.sleep(0.02)
                 child.send_signal(number)
-                self.assertEqual(child.wait(60), 1)
-                self.assertTrue(os.path.exists(f"{folder}/released"))
+                self.assertEqual(child.wait(60), code)
+                while not (os.path.exists(f"{folder}/released") and os.path.getsize(f"{folder}/released")) and time.monotonic() < end:
+                    time.sleep(0.02)
+                with open(f"{folder}/released") as file:
+                    self.assertEqual(file.read(), "once\n")
