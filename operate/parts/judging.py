@@ -327,7 +327,7 @@ def member_json(member: int, known: Known, verdict: Verdict) -> Dict[str, object
         "restarts": count("restarts"), "ends": count("ends"), "version": count("version"), "mode": None if line.get("mode", "-") == "-" else line["mode"],
         "keys": count("keys"), "most_keys": limits.get("keys"), "sessions": count("sessions"), "most_sessions": limits.get("sessions"),
         "damaged": count("damaged"), "unsure": count("unsure"), "asks": dash(line, "asks"), "mends": dash(line, "mends"), "answers": known.reply.kind if known.reply else None,
-        "has_state": known.has_state(),
+        "has_state": known.has_state(), "root": dash(line, "root"),
         "fault": known.fault or None,
     }
 

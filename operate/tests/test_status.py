@@ -148,7 +148,11 @@ class Real(unittest.TestCase):
         leader, follower = told["leader"], (told["leader"] + 1) % 3
         self.assertEqual([member["state"] for member in told["members"]].count("follows"), 2)
         told = self.until(WELL, group, *keepers, what=lambda told: all(member["may_be_stopped"] for member in told["members"]))
-        self.assertEqual(told["whole_quorums"], [[0, 1], [0, 2], [1, 2]])
+        self.assertEqual((told["whole_quorums"], told["with_state"]), ([[0, 1], [0, 2], [1, 2]], [0, 1, 2]))
+        puts = "".join(f"put k{number} v\n" for number in range(40))
+        subprocess.run([group.program, "client", str(CLUSTER), "7", "100000"] + group.addresses, input=puts, text=True, stdout=subprocess.DEVNULL, check=True)
+        told = self.until(WELL, group, *keepers, what=lambda told: all(member["root"] for member in told["members"]))
+        self.assertEqual(len({member["root"] for member in told["members"]}), 1)
         self.until(0, group, *keepers, "--may-stop", str(leader))
         self.assertEqual(self.until(WELL, group)["leader"], leader)
         self.assertEqual(self.status(group, "--wait", "0.5", cluster=CLUSTER + 1)[0], UNKNOWN)
