@@ -13,6 +13,7 @@ class Heard:
 
     def __init__(self) -> None:
         self.names: Dict[int, bytes] = {}
+        self.last = 0  # the operation that was heard last
 
     def hear(self, text: bytes, line: Line) -> Optional[str]:
         """A line of a member; where it contradicts one from before, a sentence that says so."""
@@ -20,7 +21,7 @@ class Heard:
             return None
         name = hashlib.blake2b(text.split(b" ", 4)[4], digest_size=16).digest()
         before = self.names.get(line.op)
-        self.names[line.op] = name
+        self.names[line.op], self.last = name, line.op
         if len(self.names) > REMEMBERED:
             del self.names[min(self.names)]
         return f"operation {line.op} isn't what it was when the member applied it before" if before not in (None, name) else None

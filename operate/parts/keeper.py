@@ -82,7 +82,7 @@ class Held(Exception):
 
 class Lock:
     """One keeper for a data file. The member has the lock too, so that a keeper that was killed leaves it to its member until that has ended. Its first line
-    tells who has it, its second one is a note of the data file."""
+    tells who has it, the others are notes of the data file, and of the last operation that the member applied."""
 
     def __init__(self, path: str, wait: float) -> None:
         self.file = os.fdopen(private(path, os.O_RDWR | os.O_CREAT | os.O_CLOEXEC), "r+b", buffering=0)
@@ -91,12 +91,13 @@ class Lock:
             if time.monotonic() > end:
                 raise Held(self.lines()[0] or "unknown")
             time.sleep(0.1)
-        self.note = noting.read(self.lines()[1])
+        _, note, said = self.lines()
+        self.note, self.said = noting.read(note), noting.read_said(said)
         self.tell(f"keeper {os.getpid()}")
 
     def lines(self) -> List[str]:
-        """The first two lines; empty texts where there are none."""
-        return (os.pread(self.file.fileno(), 400, 0).decode("ascii", "replace").split("\n") + ["", ""])[:2]
+        """The first three lines; empty texts where there are none."""
+        return (os.pread(self.file.fileno(), 600, 0).decode("ascii", "replace").split("\n") + ["", "", ""])[:3]
 
     def take(self) -> bool:
         try:
@@ -108,19 +109,20 @@ class Lock:
         return True
 
     def tell(self, text: str) -> None:
-        """Writes who has it, before the note."""
+        """Writes who has it, before the notes."""
         self.who = text
-        whole = f"{text}\n{self.note or ''}\n".encode()
+        whole = f"{text}\n{self.note or ''}\n{self.said or ''}\n".encode()
         try:
             os.pwrite(self.file.fileno(), whole, 0)
             self.file.truncate(len(whole))
         except OSError:
             pass  # It is only said to whoever comes second, and looked at where there is something.
 
-    def keep(self, note: noting.Note) -> None:
-        """Notes something of the data file."""
-        if note.follows(self.note):
-            self.note = note
+    def keep(self, note: noting.Note, said: Optional[noting.Said]) -> None:
+        """Notes something of the data file, and of what its member applied."""
+        before = self.note, self.said
+        self.note, self.said = note if note.follows(self.note) else self.note, said or self.said
+        if (self.note, self.said) != before:
             self.tell(self.who)
 
 
@@ -184,6 +186,8 @@ class Keeper:
         self.note: Optional[noting.Note] = None  # what is to be noted of the file, at `note_at`
         self.note_at = self.clock()
         self.heard, self.is_corrupt = Heard(), False  # what the member said, and whether it ever contradicted that
+        if lock.said is not None and lock.said[:2] == (words.replica, words.cluster):
+            self.heard.names[lock.said.op] = lock.said.name
         self.had_open = False  # whether it was seen to have the file open that is at its path
         self.no_file = False  # whether nothing at that path can be read as its file
         self.looker = Looker(words.file)
@@ -528,8 +532,9 @@ class Keeper:
             self.renew(unsure)
 
     def keep_note(self) -> None:
+        last = self.heard.last
         if self.note is not None:
-            self.lock.keep(self.note)
+            self.lock.keep(self.note, noting.Said(self.words.replica, self.words.cluster, last, self.heard.names[last]) if last in self.heard.names else None)
         self.note = None
 
     def tell_no_file(self, why: str) -> None:

@@ -1,12 +1,14 @@
-"""What a keeper notes of its member's data file, in the lock file beside it, so that a file that went back to what it was isn't started.
+"""What a keeper notes of its member, in the lock file beside the data file: of the file, so that one that went back to what it was isn't started; and of the
+last operation that the member applied, so that it is seen where it applies another one under that number.
 
-A note is made of what was read of the file and synced since, so that it never says more than what the disk has confirmed."""
+A note of the file is made of what was read and synced since, so that it never says more than what the disk has confirmed."""
 
 import re
 from typing import NamedTuple, Optional
 
 from .datafile import Report
 
+SAID = re.compile(r"applied: replica (\d+) group (\d+) op (\d+) as ([0-9a-f]{32})")
 FORM = re.compile(r"file: replica (\d+) group (\d+) sequence (\d+) head (\d+)")
 
 
@@ -24,6 +26,24 @@ class Note(NamedTuple):
 
     def __str__(self) -> str:
         return f"file: replica {self.replica} group {self.group} sequence {self.sequence} head {self.head}"
+
+
+class Said(NamedTuple):
+    """Of an operation that a member applied: whose that is, and the name of what it said of it."""
+
+    replica: int
+    group: int
+    op: int
+    name: bytes
+
+    def __str__(self) -> str:
+        return f"applied: replica {self.replica} group {self.group} op {self.op} as {self.name.hex()}"
+
+
+def read_said(text: str) -> Optional[Said]:
+    """What a line of text says of an operation; None where it is none."""
+    found = SAID.fullmatch(text)
+    return Said(int(found[1]), int(found[2]), int(found[3]), bytes.fromhex(found[4])) if found is not None else None
 
 
 def of_report(report: Report) -> Optional[Note]:

@@ -22,7 +22,9 @@ class Notes(unittest.TestCase):
     def test_what_is_written_is_read(self) -> None:
         note = Note(1, 2 ** 64 - 1, 7, 96)
         self.assertEqual(noting.read(str(note)), note)
-        for text in ("", "keeper 12, member 34", "file: replica 1 group 5 sequence 7 head"):
+        said = noting.Said(1, 2 ** 64 - 1, 2 ** 62, bytes(range(16)))
+        self.assertEqual(noting.read_said(str(said)), said)
+        for text in ("", "keeper 12, member 34", str(said), "file: replica 1 group 5 sequence 7 head"):
             self.assertIsNone(noting.read(text))
 
     def test_a_note_never_goes_back(self) -> None:
@@ -116,6 +118,18 @@ class Contradictions(Keeping):
         self.assertNotIn("corrupt", kept.ask("health"))
         self.assertTrue(kept.until(lambda: "well=corrupt " in kept.ask("health")))
         self.assertEqual(kept.log().count("member 0 is corrupt: operation 9 isn't what it was when the member applied it before"), 1)
+
+
+    def test_and_by_a_keeper_that_was_started_since(self) -> None:
+        for other, is_told in (("x", False), ("y", True)):
+            with self.subTest(other):
+                kept = self.keep(f"{START}\n{APPLIED} x\nstand\n\n{START}\n{APPLIED} {other}\nstand")
+                self.assertTrue(kept.until(lambda: "op 9 as " in kept.lock()))
+                kept.child.terminate()
+                kept.child.communicate(timeout=30)
+                kept.child = kept.begin()
+                self.assertTrue(kept.until(lambda: kept.starts() == 2 and "applied=9 " in kept.ask("health")))
+                self.assertEqual("well=corrupt " in kept.ask("health"), is_told)
 
 
 @unittest.skipUnless(program.is_there(), program.MISSING)
