@@ -140,11 +140,11 @@ class Real(unittest.TestCase):
         folder = tempfile.TemporaryDirectory(prefix="vr-noting-")
         self.addCleanup(folder.cleanup)
         self.file, self.address = os.path.join(folder.name, "0"), free_ports(1)[0]
-        subprocess.run([os.path.join(HERE, "make-member"), "--v2", "--program", program.PATH, "5", "0", self.file, self.address], check=True, stdout=subprocess.DEVNULL)
+        subprocess.run([os.path.join(HERE, "make-member"), "--v2", "--program", program.PATH, "5", "0", self.file, self.address], check=True, capture_output=True)
 
     def keeper(self) -> "subprocess.Popen[str]":
         child = subprocess.Popen([os.path.join(HERE, "keep"), "--program", program.PATH, "5", "0", self.file, self.address], stderr=subprocess.PIPE, text=True)
-        self.addCleanup(child.wait)
+        self.addCleanup(child.communicate)
         self.addCleanup(child.kill)
         return child
 
@@ -177,6 +177,27 @@ class Real(unittest.TestCase):
                 self.assertEqual(child.returncode, endings.OLDER, said)
                 self.assertIn(OLDER, said)
                 shutil.move(self.file + ".new", self.file)
+
+    def test_a_file_that_was_removed_is_had_back_as_the_page_says(self) -> None:
+        """By the lines of docs/OPERATING.md, while the member runs."""
+        with open(os.path.join(program.TOP, "docs", "OPERATING.md")) as page:
+            section = page.read().split("### A file that was removed\n")[1].split("\n### ")[0]
+        lines = [line[4:] for line in section.splitlines() if line.startswith("    ")]
+        self.assertEqual([line.split()[0] for line in lines], ["kill", "for", "nozhgiva"])
+        self.keeper()
+        client = [program.PATH, "client", "5", "7", "100000", self.address, "--v2"]
+        self.assertEqual(subprocess.run(client, input="put color green\n", capture_output=True, text=True).stdout, "session\nok\n")
+        with open(self.file + ".keep") as lock:
+            process = lock.readline().split()[-1]
+        os.unlink(self.file)
+        script = "nozhgiva() { " + os.path.join(HERE, '"$1" "${@:2}"') + "; }\n" + "\n".join(lines)
+        made = subprocess.run(["bash", "-ec", script], env=dict(os.environ, FILE=self.file, P=process), capture_output=True, text=True)
+        self.assertEqual(made.returncode, 0, made.stdout + made.stderr)
+        self.assertEqual(oct(os.stat(self.file).st_mode & 0o777), "0o600")
+        client[3] = "8"
+        self.assertEqual(subprocess.run(client, input="get color\n", capture_output=True, text=True).stdout, "session\nvalue green\n")
+        with open(self.file + ".keep") as lock:
+            self.assertNotEqual(lock.readline().split()[-1], process)
 
     def test_damage_of_the_last_entry_is_no_age(self) -> None:
         """Both places of it: what stood there can't be told, and the member itself knows what to do."""
