@@ -4,14 +4,16 @@ import os
 import shutil
 import subprocess
 import tempfile
+import time
 import unittest
-from typing import List
+from typing import Callable, List, Tuple
 
 from parts import datafile, endings, noting, program
+from parts.judging import CORRUPT
 from parts.noting import Note
 from tests.files import fresh
 from tests.test_keep import HERE, Kept, Keeping
-from tests.test_status import free_ports
+from tests.test_status import CLUSTER, Group, Net, free_ports
 
 START = "say start 0 view 0 log_view 0 commit 0"
 APPLIED = "say commit 0 op 9 view 0 client 7 request 1 put a"
@@ -209,3 +211,55 @@ class Real(unittest.TestCase):
         self.assertRaises(subprocess.TimeoutExpired, child.wait, 3)
         child.terminate()
         self.assertIn("member 0 started", child.communicate(timeout=30)[1])
+
+
+@unittest.skipUnless(program.is_there(), program.MISSING)
+class Forgotten(unittest.TestCase):
+    """Three members. Two acknowledge some puts, one of them gets its file put back, and with the third one begins a log without them. So the group has
+    forgotten what it acknowledged, and only the member that comes back could know."""
+
+    def setUp(self) -> None:
+        self.group = Group(3, Net(3))
+        self.addCleanup(self.group.end)
+
+    def put(self, client: int, value: str, count: int) -> None:
+        lines = "".join(f"put k{number} {value}\n" for number in range(count))
+        words = [program.PATH, "client", str(CLUSTER), str(client), "100000", *self.group.addresses]
+        made = subprocess.run(words, input=lines, capture_output=True, text=True)
+        self.assertEqual(made.stdout.count("ok\n"), count, made.stdout)
+
+    def status(self) -> Tuple[int, str]:
+        words = [os.path.join(HERE, "status"), str(CLUSTER), *self.group.addresses, "--sockets", os.path.join(self.group.folder, "{}.socket")]
+        made = subprocess.run(words, capture_output=True, text=True)
+        return made.returncode, made.stdout
+
+    def until(self, what: Callable[[], bool]) -> None:
+        end = time.monotonic() + 60
+        while not what():
+            self.assertLess(time.monotonic(), end)
+            time.sleep(0.2)
+
+    def test_it_is_refused_and_if_that_is_passed_by_it_is_told(self) -> None:
+        group = self.group
+        group.start_all()
+        first = group.await_leader(60)
+        second, third = [member for member in range(3) if member != first]
+        self.put(7, "old", 40)
+        group.stop(third)
+        group.stop(second)
+        shutil.copy(group.file(second), group.file(second) + ".old")
+        group.start(second)
+        self.put(8, "acknowledged", 9)
+        group.stop(first)
+        group.stop(second)
+        shutil.copy(group.file(second) + ".old", group.file(second))
+        group.start(second)
+        self.assertEqual(group.keepers.pop(second).wait(30), endings.OLDER)
+        os.unlink(group.file(second) + ".keep")
+        group.start(second)
+        group.start(third)
+        group.await_leader(60)
+        self.put(9, "new", 30)
+        group.start(first)
+        self.until(lambda: self.status()[0] == CORRUPT)
+        self.assertIn(f"member {first} applied something else than before", self.status()[1])
