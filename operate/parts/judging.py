@@ -209,7 +209,8 @@ def scarcity(members: List[Known]) -> Optional[str]:
     if not lacking or len(having) > whole.VIEW_CHANGE[len(members)]:
         return None
     where = f"is at {whole.members_of(having)} alone" if having else "isn't whole at any member that is known"
-    return f"the state {where}: {whole.members_of(lacking)} {'lacks' if len(lacking) == 1 else 'lack'} blocks of it; hold the clients back for some seconds, and stop nothing meanwhile"
+    which = f"{whole.members_of(lacking)} {'lacks' if len(lacking) == 1 else 'lack'} blocks of it, or the file"
+    return f"the state {where}: {which}; stop nothing, and hold the clients back for some seconds, in which blocks come"
 
 
 def unwhole(members: List[Known], taking_part: Iterable[int]) -> Optional[str]:
