@@ -5,7 +5,7 @@ from typing import Dict, List, NamedTuple, Optional
 from . import whole
 from .datafile import Report
 from .demand import Demand
-from .policy import PATIENCE, Policy
+from .policy import PATIENCE, RECENT, Policy
 from .pulse import HANGS
 from .tally import Tally
 
@@ -41,9 +41,17 @@ def root_of(report: Optional[Report]) -> Optional[str]:
     return value.root_name.hex() if value is not None and value.checkpoint else None
 
 
+def lacks(policy: Policy, life: Life) -> bool:
+    """Whether a member lacks blocks of its checkpoint by its lines. It tells that it has them by what it applies, and in an idle group there may be nothing to
+    apply: there a look at its file tells it, if it has asked for none since."""
+    facts = life.report.facts() if life.report is not None else None
+    is_over = facts is not None and facts.missing == 0 and life.looked is not None and life.looked - policy.seen.block_asked() > RECENT
+    return policy.seen.lacks and not is_over
+
+
 def has_state(policy: Policy, life: Life) -> Optional[bool]:
     """Whether a member has the whole state, by its lines and by the last look at its file: each block of its checkpoint. None until somebody looked."""
-    if policy.seen.lacks:
+    if lacks(policy, life):
         return False
     facts = life.report.facts() if life.report is not None else None
     if facts is None:
@@ -72,7 +80,7 @@ def troubles(policy: Policy, now: float, life: Life) -> List[str]:
         found.append("changes")
     if policy.standing(now) > (policy.patience or PATIENCE) / 2:
         found.append("stands")
-    if policy.seen.lacks:
+    if lacks(policy, life):
         found.append("lacks_blocks")
     if unsure(life.report):
         found.append("unsure")

@@ -113,7 +113,7 @@ def of_file(told: Told) -> Iterator[Metric]:
                    {kind: len(places) for kind, places in report.places._asdict().items()} if value else {})
     facts = report.facts() if report is not None else None
     runs = told.life.since is not None and told.life.silent <= health.HANGS
-    takes_part = runs and not told.policy.seen.changes(told.now) and not told.policy.seen.lacks
+    takes_part = runs and not told.policy.seen.changes(told.now) and not health.lacks(told.policy, told.life)
     yield one("member_whole", "gauge", "Whether the member takes part and its file holds all that a whole quorum needs of it: a quorum of such members goes on without the others.",
               int(takes_part and whole.is_whole_alone(facts)) if facts else None)
     has_state = health.has_state(told.policy, told.life)

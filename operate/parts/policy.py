@@ -88,6 +88,10 @@ class Seen:
         """A question that it asked a moment ago for what its disk lost and it has itself."""
         return next((q for q, last in self.asked.items() if now - last <= RECENT and not self.is_in_the_way(q)), None)
 
+    def block_asked(self) -> float:
+        """When it asked for a block last."""
+        return max((last for question, last in self.asked.items() if question[0] == "get_block"), default=NEVER)
+
     def caught_up_to(self) -> int:
         """The op up to which it has applied all; 0 where it isn't known."""
         return 0 if self.lacks else max(self.applied, self.commit if self.applied == 0 else 0)

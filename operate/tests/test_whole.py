@@ -6,6 +6,7 @@ from typing import Dict
 
 from parts import datafile, health, policy, whole
 from parts.judging import AILS, SILENT, WELL, Known, as_json, judge
+from parts.lines import parse
 from parts.probing import Reply
 from parts.rolling import Stopped, check
 from parts.telling import table
@@ -104,20 +105,24 @@ class Lines(unittest.TestCase):
         def report(missing: int):
             return types.SimpleNamespace(value=None, places=datafile.Places(set(), set(), set()), facts=lambda: FINE._replace(missing=missing))
 
-        for name, lacks, found, looked, wanted in [
-            ("nobody has looked", False, None, None, None),
-            ("nobody has looked, and it asks for blocks", True, None, None, False),
-            ("all blocks are there", False, report(0), 1.0, True),
-            ("one isn't", False, report(1), 1.0, False),
-            ("they are there, and it has applied nothing yet", True, report(0), 1.0, False),
-            ("its file can't be read", False, None, 1.0, False),
+        asked = "send 7 1 0 get_block 64"
+        for name, lines, found, looked, wanted in [
+            ("nobody has looked", [], None, None, None),
+            ("nobody has looked, and it asks for blocks", [asked], None, None, False),
+            ("all blocks are there", [], report(0), 9.0, True),
+            ("one isn't", [], report(1), 9.0, False),
+            ("they are there by a look while it asks", [asked], report(0), 2.5, False),
+            ("they are there by a later look, and there is nothing to apply", [asked], report(0), 3.5, True),
+            ("one isn't by a later look", [asked], report(1), 3.5, False),
+            ("its file can't be read", [], None, 9.0, False),
         ]:
             with self.subTest(name):
                 seen = policy.Policy(5.0, lambda: 0.5)
-                seen.seen.lacks = lacks
+                for text in ["start 1 view 0 log_view 0 commit 32", *lines]:
+                    seen.hear(2.0, parse(text.encode()))
                 life = health.Life(1, 0.0, 0, 0, 0, 0, report=found, looked=looked)
                 self.assertEqual(health.has_state(seen, life), wanted)
-                self.assertEqual(health.read(health.line(seen, 3.0, life))["has_state"], {None: "-", True: "yes", False: "no"}[wanted])
+                self.assertEqual(health.read(health.line(seen, 9.0, life))["has_state"], {None: "-", True: "yes", False: "no"}[wanted])
 
     def test_a_keepers_line(self):
         seen = policy.Policy(5.0, lambda: 0.5)
