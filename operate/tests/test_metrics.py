@@ -67,6 +67,18 @@ class Metrics(Keeping):
             os.kill(kept.member(), signal.SIGKILL)
             self.assertTrue(kept.until(lambda: read(self.get(port)).get('member_ends_total code="signal_9"') == "1"))
 
+    def test_what_its_file_is(self):
+        """Once it was looked at, and once it is gone."""
+        port = free_ports(1)[0]
+        kept = self.kept_at(port)
+
+        def is_told(**values: str) -> bool:
+            return kept.until(lambda: kept.ask("health") and values.items() <= {name.replace(" trouble=", "_").replace('"', ""): value for name, value in read(self.get(port)).items()}.items(), 40)
+
+        self.assertTrue(is_told(member_has_state="1", member_trouble_no_file="0", group_members="2"))
+        os.unlink(kept.file)
+        self.assertTrue(is_told(member_has_state="0", member_trouble_no_file="1"))
+
     @unittest.skipUnless(shutil.which("promtool"), "no promtool (Debian's prometheus)")
     def test_the_format(self):
         port = free_ports(1)[0]

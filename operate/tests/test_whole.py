@@ -1,8 +1,9 @@
 """Whether a quorum is whole, and who may be stopped: by what files hold, in the line of a keeper, in what is told of a group, and by a roll."""
 
-import types
 import unittest
-from typing import Dict
+from types import SimpleNamespace
+from typing import Dict, Set
+from unittest import mock
 
 from parts import datafile, health, policy, whole
 from parts.judging import AILS, SILENT, WELL, Known, as_json, judge
@@ -103,7 +104,7 @@ class Lines(unittest.TestCase):
     def test_who_has_the_state(self):
         """By what its lines say, and by what the last look at its file found."""
         def report(missing: int):
-            return types.SimpleNamespace(value=None, places=datafile.Places(set(), set(), set()), facts=lambda: FINE._replace(missing=missing))
+            return SimpleNamespace(value=None, places=datafile.Places(set(), set(), set()), facts=lambda: FINE._replace(missing=missing))
 
         asked = "send 7 1 0 get_block 64"
         for name, lines, found, looked, wanted in [
@@ -130,6 +131,30 @@ class Lines(unittest.TestCase):
             seen.seen.rise(view)
         told = health.read(health.line(seen, 3.0, health.Life(1, 0.0, 0, 0, 0, 0)))
         self.assertEqual((told["checkpoint"], told["looked"], told["views"], told["undecided"]), ("-", "-", "0", "-"))
+
+
+class Looking(unittest.TestCase):
+    def look(self, *faulty: Set[int]) -> datafile.Report:
+        """A file that has these faulty blocks at one look after the other."""
+        reports = []
+        for blocks in faulty:
+            report = datafile.Report.__new__(datafile.Report)
+            report.places, report.missing, report.value = datafile.Places({("block", block) for block in blocks}, set(), set()), len(blocks), SimpleNamespace()
+            reports.append(report)
+        with mock.patch.object(datafile, "Report", side_effect=reports), mock.patch.object(datafile, "PAUSE", 0):
+            return datafile.look("file")
+
+    def test_blocks_that_are_missing_at_each_look(self):
+        """A member that takes over checkpoint after checkpoint lacks other blocks at each look, and lacks some all the while."""
+        for name, faulty, missing, damaged in [
+            ("none", [set()], 0, 0),
+            ("the same", [{1, 2}, {1, 2}, {1}], 1, 1),
+            ("of other checkpoints", [{1, 2}, {65, 66}, {3}], 1, 0),
+            ("while the member wrote there", [{1, 2}, set()], 0, 0),
+        ]:
+            with self.subTest(name):
+                report = self.look(*faulty)
+                self.assertEqual((report.missing, report.damaged()), (missing, damaged))
 
 
 class Told(unittest.TestCase):
