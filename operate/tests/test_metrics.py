@@ -53,7 +53,13 @@ class Metrics(Keeping):
         with tempfile.TemporaryDirectory(prefix="vr-metrics-") as folder:
             file = os.path.join(folder, "vr.prom")
             kept = self.kept_at(port, PLAN, "--metrics-file", file, "--patience", "0")
-            told = read(self.get(port))
+            told: Dict[str, str] = {}
+
+            def leads() -> bool:
+                told.update(read(self.get(port)))
+                return told["member_leads"] == "1"
+
+            self.assertTrue(kept.until(leads))
             for name, value in {
                 "member_up": "1", "member_leads": "1", 'member_trouble trouble="down"': "0", "view": "5", "view_changes_total": "1", "commit_op": "34", "applied_op": "34", "head_op": "36",
                 "applied_ops_total": "2", 'replies_total kind="answered"': "1", 'replies_total kind="evicted"': "1", 'replies_total kind="redirected"': "1",
