@@ -40,12 +40,13 @@ class Scripts(unittest.TestCase):
             with open(path, "w", encoding="utf-8") as file:
                 file.write(f"#!/bin/sh\necho >> {folder}/tried\nset -- {' '.join(map(str, codes))}\nshift $(($(wc -l < {folder}/tried) - 1))\nexit $1\n")
             os.chmod(path, 0o755)
-            outcome = elsewhere.call(elsewhere.Script(path, "", "", 1, (), times), 0, 0)
+            outcome = elsewhere.call(elsewhere.Script(path, "", "", 1, times=times, known=3), 0, 0)
+            self.assertEqual(outcome.wrong == "", outcome.code in (0, 3))
             with open(os.path.join(folder, "tried"), encoding="utf-8") as file:
                 return outcome.code, len(file.readlines())
 
     def test_what_measures_time_is_tried_again(self) -> None:
-        for codes, times, wanted in (([0], 3, (0, 1)), ([1, 0], 3, (0, 2)), ([1, 1, 1, 0], 3, (1, 3)), ([1, 0], 1, (1, 1)), ([2, 0], 3, (2, 1))):
+        for codes, times, wanted in (([0], 3, (0, 1)), ([1, 0], 3, (0, 2)), ([1, 1, 1, 0], 3, (1, 3)), ([1, 0], 1, (1, 1)), ([2, 0], 3, (2, 1)), ([3, 0], 3, (3, 1))):
             with self.subTest(codes=codes, times=times):
                 self.assertEqual(self.script(codes, times), wanted)
 
