@@ -20,7 +20,8 @@ PASSES = 100  # so often a call is interrupted
 TURNS, ASKS = "4", 10
 TRIES = 3  # of a run without a fault, which a busy machine may hold up
 PATIENCE = 15.0  # seconds in which a group of three answers though one of its members fails
-ALONE_PATIENCE, DISK_PATIENCE, OUTPUT_PATIENCE, LONG_PATIENCE = 1.0, 1.0, 5.0, 60.0
+ALONE_PATIENCE, LONG_PATIENCE = 1.0, 60.0
+ENDING = 20.0  # seconds in which a member ends whose call has failed so that it has to; it tries to write its lines again for one
 
 
 class Rule(NamedTuple):
@@ -103,21 +104,23 @@ class Store:
 
     def __init__(self, folder: Path, port: int) -> None:
         self.folder, self.port, self.lock = folder, port, threading.Lock()
-        self.made: Dict[int, Prepared] = {}
+        self.made: Dict[Tuple[int, int], Prepared] = {}
 
-    def of(self, size: int) -> Prepared:
-        """A group of one, of version 2, or a group of three."""
+    def of(self, size: int, version: Optional[int] = None) -> Prepared:
+        """A group of one, of version 2, or a group of three, of version 1 where it isn't said."""
+        key = size, version or (2 if size == 1 else 1)
         with self.lock:
-            if size not in self.made:
-                self.made[size] = prepare(self.folder / str(size), self.port, size, 2 if size == 1 else 1)
-            return self.made[size]
+            if key not in self.made:
+                self.made[key] = prepare(self.folder / "-".join(map(str, key)), self.port, *key)
+            return self.made[key]
 
 
-def patience_of(env: Dict[str, str]) -> float:
-    """How long a member may take to end: where no line is taken it tries again for a second; the last write of a run may fail as the last answer comes."""
-    if not env.get("FAULT_CALL") or int(env["FAULT_TIMES"]) == 1:
-        return 0.0
-    return {"say": OUTPUT_PATIENCE, "write": DISK_PATIENCE, "sync": DISK_PATIENCE}.get(env["FAULT_CALL"], 0.0)
+def end(members: Members, r: int, env: Dict[str, str]) -> Optional[int]:
+    """Ends a member in which a call was to fail; its exit code where it ended by itself, None where it went on. It is held first: where the call has failed, and the member has to
+    end, it is given time, since the last call of a run may fail as the last answer comes; where it hasn't, none fails from here on."""
+    members.hold(r)
+    has_to = env.get("FAULT_ENDS") == "1" and read_counts(env["FAULT_COUNTS"]).disturbed > 0
+    return members.finish(r, ENDING if has_to else 0.0)
 
 
 class Run:
@@ -157,10 +160,11 @@ class Run:
     def go(self, lane: int, rule: Rule, fault: Fault) -> Outcome:
         with self.members(lane) as members:
             counts = f"{members.folder}/counts"
-            code, after = self.disturb(members, self.shim.failing(counts, fault), fault.at)
+            allowed = may_end(rule, fault, self.is_found)
+            code, after = self.disturb(members, self.shim.failing(counts, fault, FAULT_ENDS=int(GOES_ON not in allowed)), fault.at)
             if not read_counts(counts).disturbed:
                 return UNTOUCHED
-        allowed, ended = may_end(rule, fault, self.is_found), code or GOES_ON
+        ended = code or GOES_ON
         wrong = after.wrong if ended in allowed else f"{meaning(code)}, where it {' or '.join(meaning(one) for one in sorted(allowed))}; {after.wrong}".rstrip("; ")
         return after._replace(happened=meaning(code), code=code, wrong=wrong)
 
@@ -235,7 +239,7 @@ class Alone(Run):
         members.start(0, env=env)
         account.work(ASKS, ALONE_PATIENCE, lambda: members.has_ended(0))
         account.close()
-        code = members.finish(0, patience_of(env))
+        code = end(members, 0, env)
         members.start(0)
         whole = account.read_all(LONG_PATIENCE)
         account.close()
@@ -263,7 +267,7 @@ class Three(Run):
         for r in range(3):
             members.start(r, **({"env": env} if r == bad else {}))
         done = account.work(ASKS, PATIENCE)
-        code = members.finish(bad, patience_of(env))
+        code = end(members, bad, env)
         members.start(bad)
         account.put(PATIENCE)
         members.finish(others[0])

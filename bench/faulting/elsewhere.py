@@ -24,6 +24,8 @@ class Script(NamedTuple):
     promised: str
     seconds: float
     needs: Tuple[str, ...] = ()
+    known: int = 0  # the code by which it tells that what happened isn't good, and is known
+    times: int = 1  # that it is tried at most, where it measures what a busy machine makes longer: each has to fail
 
 
 SCRIPTS = (
@@ -35,8 +37,10 @@ SCRIPTS = (
     Script("examples/crash", "members killed in the midst of writes", "nothing is lost", 30),
     Script("examples/endless", "a stream of another group's messages that never runs dry", "answers, none 2 s late", 30),
     Script("examples/silent", "200 silent connections from the members' machine", "answers, none 4 s late", 60),
-    Script("examples/outage 5 20", "all are cut off from each other, over UDP", "an answer 2 s after it", 60, ("root", "ip", "unshare")),
-    Script("env SCHEME=tcp: examples/outage 5 20", "all are cut off from each other, over TCP", "an answer 2 s after it", 90, ("root", "ip", "unshare")),
+    Script("examples/outage 5 20", "all are cut off from each other, over UDP", "an answer 2 s after it", 60, ("root", "ip", "unshare"), times=3),
+    Script("env SCHEME=tcp: examples/outage 5 20", "all are cut off from each other, over TCP", "an answer 2 s after it", 90, ("root", "ip", "unshare"), times=3),
+    Script("bench/state", "both backups killed in turn under a load, then the primary lost with its file", "3: versions 1 and 2 lose the state then", 170, known=3),
+    Script("bench/state --v2 --rate 77", "the same in version 2", "3: versions 1 and 2 lose the state then", 170, known=3),
     Script("operate/trials/faults --minutes 2", "kills, pauses and cuts under keepers", "one register for each key", 150),
     Script("operate/trials/deaf", "a primary that hears nobody, under keepers", "one register for each key", 90, ("root", "ip")),
 )
@@ -50,12 +54,21 @@ def lacking(needs: Tuple[str, ...]) -> str:
 def call(script: Script, _: int, number: int) -> Outcome:
     if missing := lacking(script.needs):
         raise LeftOut(missing)
+    outcome = run(script.words, script.known)
+    for _ in range(script.times - 1):
+        if outcome.code != 1:
+            break
+        outcome = run(script.words, script.known)
+    return outcome
+
+
+def run(words: str, known: int) -> Outcome:
     try:
-        ran = subprocess.run(script.words.split(), cwd=TOP, stdin=subprocess.DEVNULL, stdout=subprocess.PIPE, stderr=subprocess.STDOUT, text=True, timeout=HANGS, check=False)
+        ran = subprocess.run(words.split(), cwd=TOP, stdin=subprocess.DEVNULL, stdout=subprocess.PIPE, stderr=subprocess.STDOUT, text=True, timeout=HANGS, check=False)
     except subprocess.TimeoutExpired:
         return Outcome("hangs", wrong=f"no end in {HANGS:g} s")
     said = (ran.stdout.strip().splitlines() or [""])[-1].strip()[:LONGEST]
-    return Outcome(said, ran.returncode, "" if ran.returncode == 0 else f"{script.words} ends with {ran.returncode}: {said}")
+    return Outcome(said, ran.returncode, "" if ran.returncode in (0, known) else f"{words} ends with {ran.returncode}: {said}")
 
 
 def scenarios() -> Iterator[Scenario]:

@@ -2,6 +2,7 @@
 
 from __future__ import annotations
 
+import os
 import shutil
 import signal
 import subprocess
@@ -63,14 +64,24 @@ class Members(hunting.members.Members):
     def has_ended(self, r: int) -> bool:
         return self.process(r).poll() is not None
 
+    def hold(self, r: int) -> None:
+        """Has a member do nothing more, until it goes on or is finished."""
+        process = self.process(r)
+        if process.poll() is None:
+            process.send_signal(signal.SIGSTOP)
+            os.waitid(os.P_PID, process.pid, os.WSTOPPED | os.WEXITED | os.WNOWAIT)
+
     def finish(self, r: int, patience: float = 0.0) -> Optional[int]:
-        """The exit code of a member that ended by itself, in so many seconds from now; None where it went on, and is ended now."""
+        """The exit code of a member that ended by itself, in so many seconds from now; None where it went on, and is ended now. One that was stopped does
+        nothing more where there is no patience."""
         process, end = self.process(r), time.monotonic() + patience
+        if patience:
+            process.send_signal(signal.SIGCONT)
         while (code := process.poll()) is None and time.monotonic() < end:
             time.sleep(0.02)
         if code is None:
-            process.send_signal(signal.SIGCONT)
             process.terminate()
+            process.send_signal(signal.SIGCONT)
         process.wait(ENDS)
         self.members[r] = None
         return code

@@ -3,11 +3,13 @@
 from __future__ import annotations
 
 import random
+import tempfile
 from typing import List, NamedTuple
 
 from hunting import planted
 from hunting.order import judge
 
+from . import disk
 from .calls import GOES_ON, Alone, Rule, Store, ends
 from .shim import Fault, Shim
 
@@ -29,10 +31,11 @@ class Found(NamedTuple):
 
 
 class Planted:
-    """Plants faults in a group of one."""
+    """Plants faults in a group of one, and one that only a failing disk shows in one of three."""
 
     def __init__(self, shim: Shim, store: Store, port: int) -> None:
         self.shim, self.run, self.store = shim, Alone(shim, store, port, ""), store
+        self.disks = disk.Rows(store, port)
 
     def lost(self, what: str, has_to_be: bool, call: str, way: str, numbers: range, times: int = 1, **more: object) -> Found:
         """Runs with one such fault each."""
@@ -60,6 +63,15 @@ class Planted:
         outcome = self.run.go(0, Rule("sync", "EIO", ends(GOES_ON), ends(GOES_ON)), Fault("sync", "EIO", 6))
         return Found("a sync that fails, where going on is promised", 1, int(bool(outcome.wrong)), True)
 
+    def never_forgets(self, seed: int) -> List[Found]:
+        """A member that reads what the system has of its file in memory, and never what the disk has."""
+        if why := disk.why_not():
+            print(f"left out: {why}")
+            return []
+        with tempfile.NamedTemporaryFile() as counts:
+            outcome = self.disks.rots(0, seed, self.shim.environment(counts.name, FAULT_KEEPS=1))
+        return [Found("a member that never forgets what it has of its file in memory", 1, int(bool(outcome.wrong)), True)]
+
     def all(self, seed: int) -> List[Found]:
         return [
             *self.changed_answer(seed),
@@ -68,6 +80,7 @@ class Planted:
             self.lost("writes that are done in two parts", False, "write", "short", WRITES, ENTRY),
             self.lost("writes that say that they were done, and weren't", True, "write", "skip", WRITES, ENTRY),
             self.wrong_code(),
+            *self.never_forgets(seed),
         ]
 
 

@@ -4,6 +4,7 @@
 //   FAULT_WAY=WAY       what such a call does: an error by its name; short: less than was asked; late: what was asked, and it says EIO; torn: a part of what
 //                       was asked, and it says EIO; cut: what wasn't synced is undone, as where the power fails, and the process is gone
 //   FAULT_LAX=1         each sync says that it was done, and does nothing
+//   FAULT_KEEPS=1       the system never forgets what it has of a file in memory, though it is told to
 //   CLOCK_AT=K CLOCK_BY=SECONDS CLOCK_RATE=X   from its K-th look on the monotonic clock shows so many seconds more, and goes X times as fast
 #define _GNU_SOURCE
 #include <dlfcn.h>
@@ -30,7 +31,7 @@ static const struct { const char *name; int way; } ways[] = {
     {"ECONNABORTED", ECONNABORTED}, {"ENOLCK", ENOLCK}, {"EADDRINUSE", EADDRINUSE}, {"short", SHORT}, {"late", LATE}, {"torn", TORN}, {"cut", CUT}, {"skip", SKIP}};
 
 static long nowhere[KINDS + 1], *counts = nowhere, at, times;
-static int call = -1, way, is_lax;
+static int call = -1, way, is_lax, keeps;
 
 static long number(const char *name, long otherwise) {
     const char *text = getenv(name);
@@ -44,7 +45,7 @@ __attribute__((constructor)) static void begin(void) {
     const char *file = getenv("FAULT_COUNTS"), *named = getenv("FAULT_CALL"), *what = getenv("FAULT_WAY");
     for (int i = 0; named && i < KINDS; i++) if (!strcmp(named, kinds[i])) call = i;
     for (size_t i = 0; what && i < sizeof ways / sizeof *ways; i++) if (!strcmp(what, ways[i].name)) way = ways[i].way;
-    at = number("FAULT_AT", 0), times = number("FAULT_TIMES", 1), is_lax = number("FAULT_LAX", 0);
+    at = number("FAULT_AT", 0), times = number("FAULT_TIMES", 1), is_lax = number("FAULT_LAX", 0), keeps = number("FAULT_KEEPS", 0);
     if (!file) return;
     int (*opens)(const char *, int, ...) = next("open");
     int fd = opens(file, O_RDWR | O_CLOEXEC);
@@ -138,6 +139,11 @@ static int sync_by(int (*real)(int), int fd) {
 
 int fsync(int fd) { REAL(int, fsync, int); return sync_by(real, fd); }
 int fdatasync(int fd) { REAL(int, fdatasync, int); return sync_by(real, fd); }
+
+int posix_fadvise(int fd, off_t place, off_t size, int advice) {
+    REAL(int, posix_fadvise, int, off_t, off_t, int);
+    return keeps ? 0 : real(fd, place, size, advice);
+}
 
 int ftruncate(int fd, off_t size) {
     REAL(int, ftruncate, int, off_t);

@@ -27,6 +27,14 @@ def where_of(address: str) -> Tuple[str, int]:
     return place_of(address[len(TCP):] if address.startswith(TCP) else address)
 
 
+def is_known(address: str) -> bool:
+    """Whether this machine knows the host of an address."""
+    try:
+        return bool(socket.getaddrinfo(*where_of(address)))
+    except OSError:
+        return False
+
+
 class Reply(NamedTuple):
     """What a member answered: `evicted` where it leads `view`, `busy` where it leads and can't take a request, `redirect` where another one does."""
 

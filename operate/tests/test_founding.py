@@ -140,6 +140,13 @@ class Real(unittest.TestCase):
                 self.assert_refused(self.make(group, 1, again), "member 0 of group 5 runs at ", again)
                 self.assertEqual(self.make(group, 1, again, "--anyway")[0], 0)
 
+    def test_a_host_that_nobody_knows(self):
+        with tempfile.TemporaryDirectory() as folder:
+            path = os.path.join(folder, "0")
+            words = [os.path.join(HERE, "make-member"), "--program", program.PATH, str(CLUSTER), "0", path, Net(1).hosts[0], "host.invalid:4000"]
+            made = subprocess.run(words, capture_output=True, text=True)
+            self.assert_refused((made.returncode, made.stderr), "refused: no host is known for host.invalid:4000", path)
+
     def assert_refused(self, made: Tuple[int, str], why: str, path: str) -> None:
         self.assertRegex(made[1], why)
         self.assertEqual((made[0], os.path.lexists(path)), (1, False))

@@ -5,6 +5,8 @@ import subprocess
 import sys
 import time
 import unittest
+from importlib.machinery import SourceFileLoader
+from importlib.util import module_from_spec, spec_from_loader
 from typing import Any, Callable, Dict, List, Optional, Set
 
 from parts import datafile, program
@@ -179,6 +181,25 @@ class Walking(unittest.TestCase):
         self.assertEqual({int(row[1]): int(row[3].split()[1][0]) for row in rows}, {size: move for size, move in HANDOVER.items() if size > 2})
 
 
+class Lock(unittest.TestCase):
+    def test_a_walk_waits_for_the_commands_of_one_that_was_killed(self):
+        loader = SourceFileLoader("migrate_group", os.path.join(HERE, "migrate-group"))
+        script = module_from_spec(spec_from_loader(loader.name, loader))
+        loader.exec_module(script)
+        cluster = os.getpid() + 2 ** 40
+        lock = script.take_lock(cluster)
+        path = os.readlink(f"/proc/self/fd/{lock}")
+        self.addCleanup(os.unlink, path)
+        child = subprocess.Popen(["sleep", "1"], pass_fds=[lock])
+        self.addCleanup(child.wait)
+        os.close(lock)
+        with self.assertRaisesRegex(Stopped, f"another walk through group {cluster}, or a command of one that was killed, still runs"):
+            script.take_lock(cluster, 0.1)
+        self.assertIsNone(child.poll())
+        os.close(script.take_lock(cluster, 30.0))
+        self.assertIsNotNone(child.wait())
+
+
 SLOT = 5 % datafile.SLOTS
 LOSSY = """#!/bin/sh
 file={{folder}}/$1
@@ -223,5 +244,5 @@ class Real(unittest.TestCase):
         self.assertEqual(self.ask(group, "get k1\nget k7\n", "--v2"), "value v1\nvalue v7\n")
 
     def test_walks_that_are_killed_are_run_again(self):
-        made = subprocess.run([os.path.join(HERE, "trials", "killed"), "--short"], capture_output=True, text=True, env=dict(os.environ, PROGRAM=program.PATH))
+        made = subprocess.run([os.path.join(HERE, "trials", "killed"), "--short"], capture_output=True, text=True, env=dict(os.environ, NOZHGIVA_PROGRAM=program.PATH))
         self.assertEqual(made.returncode, 0, made.stdout + made.stderr)

@@ -87,7 +87,7 @@ class Client:
         return answer
 
     def register(self) -> None:
-        words = [self.group.program, "client", str(CLUSTER), str(next(Client.numbers)), TURNS] + self.group.addresses
+        words = [self.group.program, "client", str(CLUSTER), str(next(Client.numbers)), TURNS] + self.group.addresses + self.group.version
         self.child = subprocess.Popen(self.group.net.inside(None) + words, stdin=subprocess.PIPE, stdout=subprocess.PIPE, stderr=subprocess.DEVNULL, text=True)
         if self.child.stdout.readline() != "session\n":
             self.end()

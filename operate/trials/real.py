@@ -117,14 +117,14 @@ def best_net(size: int) -> Net:
 class Group:
     """Members under keepers, with their files in a folder of their own."""
 
-    def __init__(self, size: int, net: Net, scheme: str = "", options: Tuple[str, ...] = ()) -> None:
-        self.size, self.net, self.options = size, net, list(options)
+    def __init__(self, size: int, net: Net, scheme: str = "", options: Tuple[str, ...] = (), version: int = 1) -> None:
+        self.size, self.net, self.options, self.version = size, net, list(options), ["--v2"] * (version == 2)
         self.program = program.or_end()
         self.folder = tempfile.mkdtemp(prefix="vr-operate-")
         self.addresses = [scheme + host for host in net.hosts]
         self.keepers: Dict[int, subprocess.Popen] = {}
         for member in range(size):
-            subprocess.run(net.inside(member) + [self.program, "node", str(CLUSTER), str(member), self.file(member), "1"] + self.addresses + ["--fresh"],
+            subprocess.run(net.inside(member) + [self.program, "node", str(CLUSTER), str(member), self.file(member), "1"] + self.addresses + ["--fresh"] + self.version,
                            check=True, stdout=subprocess.DEVNULL, stderr=subprocess.DEVNULL)
 
     def file(self, member: int) -> str:
