@@ -20,7 +20,7 @@ def reply_to(request, member, kind=ReplyKind.OUTCOME, *, view=0, op=1, outcome=O
 
 class State:
     """Keys and sessions, and a member's answers: each number of a client is executed once. `quiet` says of a number whether its answer is
-    lost. What is asked in another version than `version`, or of another group than `cluster`, it doesn't hear."""
+    lost. What is asked in another version than `version`, or of another group than `cluster`, it doesn't hear. It has room for `room` keys."""
 
     def __init__(self, quiet=lambda number: False, version=1, cluster=5):
         self.keys = {}
@@ -28,13 +28,14 @@ class State:
         self.last = {}
         self.quiet = quiet
         self.version, self.cluster = version, cluster
+        self.room = 128
         self.turn = threading.Lock()
 
     def outcome(self, operation):
         if isinstance(operation, Register):
             return SESSION
         if isinstance(operation, Put):
-            if operation.key == "one-too-many":
+            if operation.key == "one-too-many" or operation.key not in self.keys and len(self.keys) >= self.room:
                 return Outcome(OutcomeKind.FULL)
             self.keys[operation.key] = operation.value
             return OK
@@ -48,6 +49,8 @@ class State:
         if (request.version, request.cluster) != (self.version, self.cluster):
             return []
         with self.turn:
+            if request.number and request.client not in self.last:
+                return [reply_to(request, member, ReplyKind.EVICTED).encode()]
             number, op, outcome = self.last.get(request.client, (-1, 0, None))
             if request.number < number:
                 return [reply_to(request, member, ReplyKind.OLD).encode()]

@@ -1,13 +1,16 @@
 """The recipes, each by four processes of its example, while members are killed and paused; and what they say where they are used wrong."""
 
 import os
+import random
 import subprocess
 import sys
+import threading
 import unittest
 from pathlib import Path
+from unittest import mock
 
 from fakes import Members, State
-from nozhgiva import Group, SessionLost, Unknown
+from nozhgiva import Full, Get, Group, Outcome, OutcomeKind, Put, SessionLost, Unknown, recipes
 from nozhgiva.recipes import Cell, Configuration, Counter, Election, Lock, NotHeld, Taken
 from running import CLUSTER, Disturbing, Running, needs_program
 from test_session import FAST
@@ -15,6 +18,8 @@ from test_session import FAST
 ROOT = Path(__file__).resolve().parent.parent
 PROCESSES = 4
 SECONDS = "3"
+STEPS = 6
+"""How many requests take a lock that is free."""
 
 
 def start(example, addresses, *words):
@@ -111,37 +116,37 @@ class Wrong(unittest.TestCase):
         session = self.session(state, timeout=0.8)
         lock = Lock(session, "printer")
         lock.make_free(timeout=20.0)
-        quiet |= {2, 3}
-        with self.assertRaises(Unknown):
-            lock.acquire()
-        self.assertFalse(lock.is_held)
-        with self.assertRaises(Unknown):
-            lock.acquire()
+        made = len(state.executed)
+        for number in range(made, made + STEPS):
+            quiet.clear()
+            quiet.add(number)
+            with self.assertRaises(Unknown):
+                lock.acquire()
+            self.assertFalse(lock.is_held)
         quiet.clear()
         number = lock.acquire(timeout=20.0)
-        self.assertEqual((lock.number, len(state.executed)), (number, 3))
-        quiet |= {3}
+        self.assertEqual((lock.number, len(state.executed)), (number, made + STEPS))
+        quiet.add(made + STEPS)
         with self.assertRaises(Unknown):
             lock.release()
         quiet.clear()
         self.assertEqual(session.get("other", timeout=20.0), None)
         lock.release(timeout=20.0)
-        self.assertEqual((lock.is_held, len(state.executed)), (False, 5))
+        self.assertEqual((lock.is_held, len(state.executed)), (False, made + STEPS + 2))
 
     def test_a_lock_whose_taking_was_interrupted_finds_out_too(self):
-        quiet = {2}
-        state = State(quiet=lambda number: number in quiet)
+        state = State()
         session = self.session(state)
         lock = Lock(session, "printer")
         lock.make_free(timeout=20.0)
+        made = len(state.executed)
         send, session._link.send = session._link.send, self.interrupted
         with self.assertRaises(KeyboardInterrupt):
             lock.acquire()
         session._link.send = send
-        quiet.clear()
         self.assertIsNone(session.get("other", timeout=20.0))
         number = lock.acquire(timeout=20.0)
-        self.assertEqual((lock.number, len(state.executed)), (number, 4))
+        self.assertEqual((lock.number, len(state.executed)), (number, made + STEPS + 1))
 
     def interrupted(self, place, data):
         raise KeyboardInterrupt
@@ -152,7 +157,7 @@ class Wrong(unittest.TestCase):
         session = self.session(state)
         counter = Counter(session, "visits")
         counter.make(timeout=20.0)
-        quiet |= {5}
+        quiet.add(len(state.executed) + STEPS + 1)
         with self.assertRaises(Unknown) as raised:
             counter.add(timeout=2.0)
         self.assertEqual((str(raised.exception.operation), raised.exception.outcome), ("put visits (1 bytes)", None))
@@ -168,13 +173,12 @@ class Wrong(unittest.TestCase):
             cell.update(lambda value: str(1 // 0))
         self.assertEqual((cell.update(lambda value: f"{value}b"), cell.read()), ("ab", "ab"))
 
-    def test_a_leader_that_was_deposed_doesnt_give_back_what_another_one_holds(self):
-        state = State()
-        session = self.session(state)
+    def test_a_leader_that_was_deposed_is_told(self):
+        session = self.session(State())
         first, second = (Election(session, "leader", name) for name in ("first", "second"))
         self.assertEqual((first.make(), first.leader(), first.leads()), (None, None, False))
         first.campaign()
-        self.assertTrue(first.leads())
+        self.assertEqual((first.leads(), first.leader()), (True, ("first", first.lock.number)))
         with self.assertRaises(Taken):
             second.campaign(timeout=0.3)
         first.depose()
@@ -182,9 +186,16 @@ class Wrong(unittest.TestCase):
         self.assertEqual((first.leads(), second.leads(), second.leader().candidate), (False, True, "second"))
         with self.assertRaises(NotHeld):
             first.resign()
-        self.assertNotIn("leader.free", state.keys)
+        self.assertTrue(second.leads())
         second.resign()
-        self.assertIn("leader.free", state.keys)
+        self.assertEqual((second.leads(), second.leader()), (False, None))
+
+    def test_names_that_leave_no_room_for_a_number(self):
+        session = self.session(State())
+        Lock(session, "l" * 39)
+        for make in (lambda: Lock(session, "l" * 40), lambda: Cell(session, "c" * 35), lambda: Election(session, "e" * 40, "me")):
+            with self.assertRaises(ValueError):
+                make()
 
     def test_a_configuration_may_be_read_late(self):
         state = State()
@@ -207,6 +218,216 @@ class Wrong(unittest.TestCase):
         with self.assertRaises(SessionLost):
             lock.release()
         self.assertTrue(lock.is_held)
+
+
+class Told(Exception):
+    """The turn that a client was given is over: it is never asked again."""
+
+
+class Turns:
+    """Clients of one state, in memory, each in a thread of its own; a request is executed when its client is given a turn, so a test says in
+    which order all requests of all clients stand."""
+
+    def __init__(self):
+        self.state = State()
+        self.clients = []
+
+    def client(self, run):
+        """A client that does `run(session)`, and hasn't begun."""
+        one = Client(self.state, run)
+        self.clients.append(one)
+        return one
+
+    def end(self):
+        for one in self.clients:
+            one.end()
+
+
+class Client:
+    """One of `Turns`, and what the recipes need of a session."""
+
+    def __init__(self, state, run):
+        self.state, self.result, self.is_done, self.is_over = state, None, False, False
+        self.begun, self.asked, self.turn = False, threading.Semaphore(0), threading.Semaphore(0)
+        self.thread = threading.Thread(target=self._run, args=(run,), daemon=True)
+
+    def _run(self, run):
+        try:
+            self.result = run(self)
+        except Told:
+            pass
+        except Exception as error:
+            self.result = error
+        self.is_done = True
+        self.asked.release()
+
+    def go(self, turns=1):
+        """Has it do so many requests, and what comes after them up to its next one; all of them where `turns` is None. What it gave then."""
+        if not self.begun:
+            self.begun = True
+            self.thread.start()
+            self.asked.acquire()
+        while not self.is_done and turns != 0:
+            turns = turns and turns - 1
+            self.turn.release()
+            self.asked.acquire()
+        return self.result
+
+    def end(self):
+        self.is_over = True
+        if self.begun:
+            self.turn.release()
+            self.thread.join()
+
+    def ask(self, operation, timeout=None):
+        self.asked.release()
+        self.turn.acquire()
+        if self.is_over:
+            raise Told
+        self.state.executed.append(operation)
+        outcome = self.state.outcome(operation)
+        return Outcome(outcome.kind, outcome.value, len(self.state.executed))
+
+    def within(self, timeout):
+        return 60.0 if timeout is None else timeout
+
+    def put(self, key, value, timeout=None):
+        if self.ask(Put(key, value)).kind == OutcomeKind.FULL:
+            raise Full(Put(key, value))
+
+    def get(self, key, timeout=None):
+        outcome = self.ask(Get(key))
+        return outcome.value if outcome.kind == OutcomeKind.VALUE else None
+
+    def doubt(self, operation):
+        return None
+
+
+def taken_over(election, session):
+    """A candidate that goes on by another client."""
+    election.session = election.lock.session = session
+    return election
+
+
+class Schedules(unittest.TestCase):
+    """Requests of several clients in orders that are told by hand, and in each order that chance gives."""
+
+    def setUp(self):
+        patched = mock.patch.object(recipes.time, "sleep")
+        patched.start()
+        self.addCleanup(patched.stop)
+        self.begin()
+
+    def begin(self):
+        """Clients of a state that has a free lock, and nothing else."""
+        self.turns = Turns()
+        self.addCleanup(self.turns.end)
+        self.run_alone(lambda session: Lock(session, "leader").make_free())
+
+    def run_alone(self, run):
+        client = self.turns.client(run)
+        result = client.go(None)
+        if isinstance(result, Exception):
+            raise result
+        return result
+
+    def leader(self, name):
+        """A candidate that leads."""
+        made = []
+        self.run_alone(lambda session: made.append(Election(session, "leader", name)) or made[0].campaign())
+        return made[0]
+
+    def test_who_was_deposed_resigns_while_the_next_one_is_about_to_lead(self):
+        """A leads and is deposed, B is within `campaign`, A resigns, and C stands for it: after each request of B."""
+        for done in range(STEPS + 1):
+            with self.subTest(done=done):
+                self.begin()
+                first = self.leader("A")
+                self.run_alone(lambda session: Election(session, "leader", "watchdog").depose())
+                second = self.turns.client(lambda session: Election(session, "leader", "B").campaign())
+                second.go(done)
+                late = self.turns.client(lambda session: taken_over(first, session).resign())
+                self.assertIsInstance(late.go(None), NotHeld)
+                third = self.turns.client(lambda session: Election(session, "leader", "C").campaign())
+                third.go(STEPS + 2)
+                second.go(STEPS + 4)
+                leaders = [client.result for client in (second, third) if isinstance(client.result, int)]
+                self.assertLessEqual(len(leaders), 1)
+                self.assertTrue(leaders or done < STEPS)
+
+    def test_two_that_watch_make_a_lock_free_once(self):
+        """Both have seen that A holds it. One makes it free, B takes it, and then the other one goes on."""
+        for is_told in (False, True):
+            for done in (1, 0) if is_told else (1,):
+                with self.subTest(is_told=is_told, done=done):
+                    self.begin()
+                    words = {"number": self.leader("A").lock.number} if is_told else {}
+                    one, other = (self.turns.client(lambda session: Lock(session, "leader").make_free(**words)) for _ in range(2))
+                    other.go(done)
+                    self.assertIsNone(one.go(None))
+                    self.assertGreater(self.run_alone(lambda session: Lock(session, "leader").acquire()), 0)
+                    self.assertIsNone(other.go(None))
+                    third = self.turns.client(lambda session: Lock(session, "leader").acquire())
+                    third.go(STEPS + 2)
+                    self.assertIsNone(third.result)
+
+    def test_a_lock_is_given_back_though_the_table_is_full(self):
+        locks = []
+        self.run_alone(lambda session: locks.append(Lock(session, "leader")) or locks[0].acquire())
+        self.turns.state.room = len(self.turns.state.keys)
+        self.run_alone(lambda session: setattr(locks[0], "session", session) or locks[0].release())
+        with self.assertRaises(Full):
+            self.run_alone(lambda session: Lock(session, "leader").acquire())
+        self.turns.state.room += 1
+        self.assertGreater(self.run_alone(lambda session: Lock(session, "leader").acquire()), 0)
+
+    def test_one_that_took_it_and_is_gone(self):
+        """It ended before it said its number: nobody holds the lock, and only `anew` makes it free."""
+        gone = self.turns.client(lambda session: Lock(session, "leader").acquire())
+        gone.go(STEPS - 1)
+        with self.assertRaisesRegex(Taken, "anew"):
+            self.run_alone(lambda session: Lock(session, "leader").make_free(timeout=0.1))
+        self.run_alone(lambda session: Lock(session, "leader").make_free(anew=True))
+        self.assertGreater(self.run_alone(lambda session: Lock(session, "leader").acquire()), 0)
+
+    def test_no_two_hold_it_in_any_order(self):
+        """Three that take and release it, one of which is deposed by two that watch: each order of their requests is drawn."""
+        for seed in range(200):
+            with self.subTest(seed=seed):
+                self.play(random.Random(seed))
+
+    def play(self, draw):
+        self.begin()
+        turns, holders, deposed = self.turns, [], set()
+
+        def hold(session):
+            lock = Lock(session, "leader")
+            for _ in range(2):
+                number = lock.acquire()
+                holders.append(number)
+                self.assertLessEqual(len([one for one in holders if one not in deposed]), 1)
+                session.get("work")
+                holders.remove(number)
+                try:
+                    lock.release()
+                except NotHeld:
+                    self.assertIn(number, deposed)
+            return "done"
+
+        def depose(session):
+            if holders:
+                number = holders[0]
+                deposed.add(number)
+                Lock(session, "leader").make_free(number=number)
+            return "done"
+        clients = [turns.client(hold) for _ in range(3)] + [turns.client(depose) for _ in range(2)]
+        for _ in range(2_000):
+            waiting = [client for client in clients if not client.is_done]
+            if not waiting:
+                break
+            draw.choice(waiting).go(1)
+        self.assertEqual([client.result for client in clients], ["done"] * len(clients))
+        turns.end()
 
 
 if __name__ == "__main__":

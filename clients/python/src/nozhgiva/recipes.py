@@ -4,8 +4,9 @@ All of it rests on one thing: of several sessions that delete a key at one time,
 whoever gets a value, changes it and puts it back loses what another one put meanwhile. Here who changes it holds a lock first.
 
 None of this has an expiry. A lock whose holder is gone stays taken until a person, or a program that knows, calls `make_free`. Nor does the
-group keep a late holder out: one that stood still while its lock was made free goes on when it wakes. Each holder has a number, greater than
-that of all before it; what is guarded outside of the group can refuse a number below one that it has seen.
+group keep a late holder out: one that stood still while its lock was made free goes on when it wakes, and learns it when it releases the lock.
+What it does then harms no lock: nobody else's is released by it. Each holder has a number, greater than that of all before it; what is
+guarded outside of the group can refuse a number below one that it has seen.
 
 Each recipe needs a session; threads of a process need one each. What `Unknown` and `SessionLost` mean is said at each call.
 """
@@ -15,19 +16,23 @@ from __future__ import annotations
 import json
 import random
 import time
-from contextlib import contextmanager
-from typing import Any, Callable, Dict, Iterator, NamedTuple, Optional
+from contextlib import contextmanager, suppress
+from typing import Any, Callable, Dict, Generator, Iterator, List, NamedTuple, Optional
 
 from .blob import Blob
 from .errors import Error, Full, NotAsked, Unknown
-from .messages import Delete, Operation, Outcome, OutcomeKind, Put
+from .messages import LARGEST_KEY, Delete, Get, Operation, Outcome, OutcomeKind, Put
 from .session import Session
 
 __all__ = ["Cell", "Configuration", "Counter", "Election", "Leader", "Lock", "NotHeld", "Settings", "Taken"]
 
-FREE = "free"
+HELD, FREE = "held", "free"
 FIRST_PAUSE, PAUSE_FACTOR, PAUSE_MOST = 0.05, 1.5, 0.5
 """How many seconds a lock that is taken is left alone before it is asked for again: at first, how much longer each time, and at most."""
+GRACE = 1.0
+"""How many seconds a request has at least that ends what was begun, though the time is over."""
+LONGEST_NAME = LARGEST_KEY - len(".held.") - len(str(2**62))
+"""How many letters the name of a lock has at most, since those of its keys are longer by that."""
 
 
 class Taken(Error, TimeoutError):
@@ -55,59 +60,106 @@ class _Deadline:
             raise NotAsked(f"the time was over before `{what}` was asked")
         return left
 
+    def at_least(self, least: float) -> float:
+        """The seconds that are left, or so many where fewer are."""
+        return max(self._end - time.monotonic(), least)
+
     def rest(self, pause: float) -> None:
         """Sleeps for a pause, a random share of which is left out, but no longer than there is time."""
         time.sleep(max(min(pause * (1 - 0.5 * random.random()), self._end - time.monotonic()), 0.0))
 
 
+def _number_of(outcome: Outcome) -> Optional[int]:
+    """The number of the last holder, as the key of a lock's name says it; None where nobody has called `make_free`."""
+    return int(outcome.value) if outcome.value.isdecimal() else None
+
+
+Steps = Generator[Operation, Outcome, Optional[int]]
+"""What is asked to take a lock, one after the other, each with what it gave; the number, or None where the lock wasn't had."""
+
+
 class Lock:
-    """What one at a time holds. The key `name` is there while nobody does; who deletes it holds the lock, until it puts the key back.
+    """What one at a time holds.
 
     `make_free` has to be called once, before anybody uses it. Where `acquire` or `release` raises `Unknown`, it isn't known whether it came
     about: call the same again, on this very lock, and it finds out first, and goes on from there. Where a call raises `SessionLost` and the
     lock was held, or may have been, it stays taken: nobody holds it, and `make_free` gives it back. A lock that is waited for costs the group
-    two requests a second from each who waits.
+    four requests a second from each who waits.
+
+    Each holder has keys of its own, by its number. The key `name` has the number N of the last holder. `name.held.N` is there until that one
+    gives the lock back, or another makes it free: by a delete, which does no harm where it comes late. `name.next.N` is the right to come
+    after it: of those who delete it one hears that it was there, and is the next.
     """
 
-    def __init__(self, session: Session, name: str) -> None:
+    def __init__(self, session: Session, name: str, holder: str = HELD) -> None:
+        """`holder` is the value of the key that is there while this one holds the lock."""
+        if len(name) > LONGEST_NAME:
+            raise ValueError(f"the name of a lock has at most {LONGEST_NAME} letters, since its keys have more, not {len(name)}")
         self.session = session
         self.name = name
+        self.holder = holder
         self.number: Optional[int] = None
         """The number of who holds it, where this lock does: greater than all before it. Else None."""
         self._doubt: Optional[Unknown] = None
+        self._steps: Optional[Steps] = None
+        self._next: Optional[Operation] = None
+        self._made: List[Put] = []
 
     @property
     def is_held(self) -> bool:
         """Whether it is held by this lock, as far as is known."""
         return self.number is not None
 
-    def make_free(self, timeout: Optional[float] = None) -> None:
-        """Makes the lock free, whoever holds it: once before its first use, and where its holder is gone for good. A holder that isn't gone
-        doesn't notice."""
-        self.session.put(self.name, FREE, timeout)
+    def held_key(self, number: int) -> str:
+        """The key that is there while this number holds the lock."""
+        return f"{self.name}.held.{number}"
+
+    def next_key(self, number: int) -> str:
+        """The key whose delete takes the lock after this number."""
+        return f"{self.name}.next.{number}"
+
+    def make_free(self, timeout: Optional[float] = None, *, number: Optional[int] = None, anew: bool = False) -> None:
+        """Makes the lock free, whoever holds it, or only where this `number` does: once before its first use, and where its holder is gone for
+        good. A holder that isn't gone learns it when it releases the lock. Where several watch over a holder, each gives its number, so that
+        none makes free what the next one holds.
+
+        Raises `Taken` where one has taken it and hasn't said its number in all of the time. Where that one is gone for good, `anew` makes a
+        lock that nobody holds; call it while nobody else uses the lock.
+        """
+        deadline = _Deadline(self.session.within(timeout))
+        read = self._asked(Get(self.name), deadline)
+        last = _number_of(read)
+        if last is None or anew:
+            self._begin(read.op, deadline)
+        elif number in (None, last) and not self._end(last, deadline):
+            self._await_next(last, deadline)
 
     def acquire(self, timeout: Optional[float] = None) -> int:
-        """Waits until the lock is free, and takes it; its number. Raises `Taken` where it wasn't free in time, and `Unknown`: it may be held
-        then. Called again it finds out, and is done where it is."""
+        """Waits until the lock is free, and takes it; its number. Raises `Taken` where it wasn't free in time, `Full` where the group has no
+        room for two more keys, and `Unknown`: it may be held then. Called again it finds out, and is done where it is. What takes it has a
+        second each though the time is over."""
         if self.is_held:
             raise NotHeld(f"the lock {self.name} is held already: it can't be taken twice")
         deadline, pause = _Deadline(self.session.within(timeout)), FIRST_PAUSE
-        while (outcome := self._ask(Delete(self.name), deadline)).kind != OutcomeKind.OK:
+        while (number := self._try(deadline)) is None:
             deadline.rest(pause)
             if deadline.is_over:
                 raise Taken(f"the lock {self.name} wasn't free in time; before its first use `make_free` has to be called once")
             pause = min(pause * PAUSE_FACTOR, PAUSE_MOST)
-        self.number = outcome.op
-        return outcome.op
+        self.number = number
+        return number
 
     def release(self, timeout: Optional[float] = None) -> None:
-        """Gives it back. Raises `Full` where others have put 128 keys since it was taken, and `Unknown`: in both cases call it again."""
-        if not self.is_held:
+        """Gives it back. Raises `NotHeld` where another made it free meanwhile, so that somebody else may hold it, and `Unknown`: call it
+        again then."""
+        number = self.number
+        if number is None:
             raise NotHeld(f"the lock {self.name} isn't held")
-        operation = Put(self.name, FREE)
-        if self._ask(operation, _Deadline(self.session.within(timeout))).kind == OutcomeKind.FULL:
-            raise Full(operation)
+        operation = Delete(self.held_key(number))
+        outcome = self._settled(operation, _Deadline(self.session.within(timeout)).left(str(operation)))
         self.number = None
+        if outcome.kind != OutcomeKind.OK:
+            raise NotHeld(f"the lock {self.name} was made free while number {number} held it")
 
     @contextmanager
     def held(self, timeout: Optional[float] = None) -> Iterator[int]:
@@ -119,25 +171,92 @@ class Lock:
             self.release(timeout)
 
     def forget(self) -> None:
-        """Holds it no more, and doesn't put the key back: for who has learned that another one holds it by now."""
-        self.number = self._doubt = None
+        """Holds it no more, and gives nothing back: for who has learned that another one holds it by now."""
+        self.number = self._doubt = self._steps = None
 
-    def _ask(self, operation: Operation, deadline: _Deadline) -> Outcome:
-        """The outcome of an operation; of the last one, where it isn't known yet: that was the same, since it is called again."""
+    def _begin(self, number: int, deadline: _Deadline) -> None:
+        """Makes a lock that nobody holds, as if one with this number, which nobody else has, had given it back."""
+        for operation in (Put(self.next_key(number), FREE), Put(self.name, str(number))):
+            if self._asked(operation, deadline).kind == OutcomeKind.FULL:
+                raise Full(operation)
+
+    def _end(self, number: int, deadline: _Deadline) -> bool:
+        """Takes the lock from this number; whether nobody has taken it after that, as far as is seen."""
+        if self._asked(Delete(self.held_key(number)), deadline).kind == OutcomeKind.OK:
+            return True
+        return self._asked(Get(self.next_key(number)), deadline).kind == OutcomeKind.VALUE
+
+    def _await_next(self, number: int, deadline: _Deadline) -> None:
+        """Waits until who took the lock after this number has said its own. Raises `Taken` where nobody does."""
+        while _number_of(self._asked(Get(self.name), deadline)) == number:
+            deadline.rest(PAUSE_MOST)
+            if deadline.is_over:
+                raise Taken(f"somebody took the lock {self.name} after number {number}, and hasn't said so; `anew`, if that one is gone for good")
+
+    def _asked(self, operation: Operation, deadline: _Deadline) -> Outcome:
+        return self.session.ask(operation, deadline.left(str(operation)))
+
+    def _take(self) -> Steps:
+        """Takes the lock if it is free.
+
+        The number is that of the get of `name` in the group's list, so nobody else has it, and it is greater than the one that is read. Its
+        keys are made first. So what decides is one delete, and nothing after it needs room for a key.
+        """
+        read = yield Get(self.name)
+        last, own = _number_of(read), read.op
+        if last is None or (yield Get(self.held_key(last))).kind == OutcomeKind.VALUE:
+            return None
+        for operation in (Put(self.held_key(own), self.holder), Put(self.next_key(own), FREE)):
+            self._made.append(operation)
+            if (yield operation).kind == OutcomeKind.FULL:
+                raise Full(operation)
+        if (yield Delete(self.next_key(last))).kind != OutcomeKind.OK:
+            return None
+        yield Put(self.name, str(own))
+        self._made.clear()
+        return own
+
+    def _try(self, deadline: _Deadline) -> Optional[int]:
+        """Takes the lock if it is free, and goes on where an earlier try raised."""
+        if self._steps is None or self._next is None:
+            self._steps = self._take()
+            self._next = next(self._steps)
+        while True:
+            within = deadline.left(str(self._next)) if isinstance(self._next, Get) else deadline.at_least(GRACE)
+            outcome = self._settled(self._next, within)
+            try:
+                self._next = self._steps.send(outcome)
+            except (StopIteration, Full) as end:
+                self._steps = None
+                self._clean()
+                if isinstance(end, Full):
+                    raise
+                number: Optional[int] = end.value
+                return number
+
+    def _clean(self) -> None:
+        """Takes out the keys of a number that holds nothing. One that stays there, since no answer comes, is no harm."""
+        made, self._made = self._made, []
+        for operation in made:
+            with suppress(Unknown, NotAsked):
+                self.session.ask(Delete(operation.key), GRACE)
+
+    def _settled(self, operation: Operation, within: float) -> Outcome:
+        """The outcome of an operation; where it was asked before and that isn't known yet, of that one."""
         if self._doubt is not None:
-            outcome = self._doubt.outcome or self.session.settle(deadline.left(str(operation)))
+            outcome = self._doubt.outcome or self.session.settle(within)
             self._doubt = None
             if outcome is not None:
                 return outcome
         try:
-            return self.session.ask(operation, deadline.left(str(operation)))
+            return self.session.ask(operation, within)
         except BaseException:
             self._doubt = self.session.doubt(operation)
             raise
 
 
 class Cell:
-    """A value that many change by turns, and no change is lost. It is the key `name`; `name.free` is the key of its lock.
+    """A value that many change by turns, and no change is lost. It is the key `name`, and its lock is called `name.free`.
 
     `make` has to be called once, before anybody changes it. Anyone may read it at any time.
     """
@@ -160,13 +279,14 @@ class Cell:
         """Gives it the value that `change` makes of the one that it has; the new one. `change` may take its time, and others wait for it.
 
         Raises `Taken` where the lock wasn't free in time: nothing has changed. Where `Unknown` is raised, its operation says how far it
-        came. A delete of the lock's key, or a get: nothing has changed. A put of the value: it may have, and `error.outcome` says so once
-        the session has settled it. A put of the lock's key: it has changed. `NotAsked` names what wasn't asked any more in the same way. In
-        all these cases this cell may still hold the lock: its next update goes on with it, and `finish` gives it back.
+        came. A put of the value: it may have changed, and `error.outcome` says so once the session has settled it. A delete of the key that
+        begins with `name.free.held.`: it has changed. Any other: nothing has. `NotAsked` names what wasn't asked any more in the same way. In
+        all these cases this cell may still hold the lock: its next update goes on with it, and `finish` gives it back. `NotHeld` says that it
+        has changed, and that the lock was made free meanwhile, so another change may be lost.
         """
         deadline = _Deadline(self.session.within(timeout))
         if not self.lock.is_held:
-            self.lock.acquire(deadline.left(f"del {self.lock.name}"))
+            self.lock.acquire(deadline.left(f"get {self.lock.name}"))
         before = self.read(deadline.left(f"get {self.name}"))
         try:
             value = change(before)
@@ -174,7 +294,7 @@ class Cell:
             self.finish()
             raise
         self.session.put(self.name, value, deadline.left(f"put {self.name}"))
-        self.lock.release(deadline.left(f"put {self.lock.name}"))
+        self.lock.release(deadline.left(f"del {self.lock.name}.held"))
         return value
 
     def finish(self, timeout: Optional[float] = None) -> None:
@@ -210,7 +330,8 @@ class Leader(NamedTuple):
 
 
 class Election:
-    """One leader among several candidates, until it resigns. The key `name` says who leads, and `name.free` is the lock that leaders hold.
+    """One leader among several candidates, until it resigns. It is a lock that leaders hold, of the same name, so `name` has the number N of
+    the last term, and `name.held.N` is the candidate that leads in it.
 
     A leader that is gone without a word isn't replaced by itself: that it is gone nobody here can know. `depose`, by a person or a program
     that knows, makes room for the next. A leader that was deposed and isn't gone learns it by `leads`, which may be too late for what it
@@ -221,7 +342,7 @@ class Election:
         self.session = session
         self.name = name
         self.candidate = candidate
-        self.lock = Lock(session, f"{name}.free")
+        self.lock = Lock(session, name, candidate)
 
     def make(self, timeout: Optional[float] = None) -> None:
         """Prepares the election: once, before anybody stands for it."""
@@ -230,37 +351,33 @@ class Election:
     def campaign(self, timeout: Optional[float] = None) -> int:
         """Waits until it leads; the number of its term. Raises `Taken` where another one led all the time, and `Unknown`: it may lead then.
         Called again it finds out."""
-        deadline = _Deadline(self.session.within(timeout))
-        term = self.lock.number
-        if term is None:
-            term = self.lock.acquire(deadline.left(f"del {self.lock.name}"))
-        self.session.put(self.name, f"{term}:{self.candidate}", deadline.left(f"put {self.name}"))
-        return term
+        return self.lock.acquire(timeout) if self.lock.number is None else self.lock.number
 
     def leader(self, timeout: Optional[float] = None) -> Optional[Leader]:
-        """Who was the last to say that it leads; None where nobody has. It may have resigned, or be gone."""
-        value = self.session.get(self.name, timeout)
-        if value is None:
-            return None
-        term, _, candidate = value.partition(":")
-        return Leader(candidate, int(term))
+        """Who leads; None where nobody does. It may be gone."""
+        deadline, before = _Deadline(self.session.within(timeout)), None
+        while True:
+            term = _number_of(self.session.ask(Get(self.name), deadline.left(f"get {self.name}")))
+            if term is None or term == before:
+                return None
+            candidate = self.session.get(self.lock.held_key(term), deadline.left(f"get {self.name}"))
+            if candidate is not None:
+                return Leader(candidate, term)
+            before = term
 
     def leads(self, timeout: Optional[float] = None) -> bool:
-        """Whether this candidate led when the group was asked: it has a term, and nobody has begun a later one."""
-        leader = self.leader(timeout)
-        return leader is not None and leader == (self.candidate, self.lock.number)
+        """Whether this candidate led when the group was asked: it has a term, and neither resigned nor was deposed."""
+        term = self.lock.number
+        return term is not None and self.session.get(self.lock.held_key(term), timeout) is not None
 
     def resign(self, timeout: Optional[float] = None) -> None:
-        """Makes room for another one. Raises what `Lock.release` raises, and `NotHeld` where a later term has begun."""
-        leader = self.leader(timeout)
-        if leader is not None and self.lock.number is not None and leader.term > self.lock.number:
-            self.lock.forget()
-            raise NotHeld(f"{self.candidate} was deposed: {leader.candidate} leads in term {leader.term}")
+        """Makes room for another one. Raises what `Lock.release` raises: `NotHeld` where it was deposed."""
         self.lock.release(timeout)
 
-    def depose(self, timeout: Optional[float] = None) -> None:
-        """Makes room for another leader though this one didn't resign: for one that is gone for good."""
-        self.lock.make_free(timeout)
+    def depose(self, timeout: Optional[float] = None, *, term: Optional[int] = None) -> None:
+        """Makes room for another leader though this one didn't resign: for one that is gone for good. With `term` only where the leader is
+        that term's: where several watch over a leader, each gives the term that it saw. Raises what `Lock.make_free` raises."""
+        self.lock.make_free(timeout, number=term)
 
 
 class Settings(NamedTuple):
