@@ -27,7 +27,10 @@ fn spell(fields: RequestFields, bytes: &mut Vec<u8>) -> Result<(), AllocError>
     ensures { OnOk result (bytes.new.items ≡ spelling (frame.Request fields)) }
 {
     bytes.clear();
-    encode(&Message::request(Request::new(fields)), bytes)
+    let message = Message::request(Request::new(fields));
+    let spelled = encode(&message, bytes);
+    drop(message);
+    spelled
 }
 
 impl ClientCore {

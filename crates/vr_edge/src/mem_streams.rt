@@ -1,5 +1,5 @@
 //! Streams in memory.
-ghost use Rattle.std.specs.Prelude.{◌≡◌, ◌≤◌, ◌<◌, ◌+◌, [], ◌∷◌, List, Option, Some, IfOk, IfSome, is_some, OnErr, OnOk, if◌then◌else◌, length, vec_len, replicate, false, true, slice_get, slice_set, unwrap_or};
+ghost use Rattle.std.specs.Prelude.{◌≡◌, ◌≤◌, ◌<◌, ◌+◌, [], ◌∷◌, List, Option, Some, ℕ, IfOk, IfSome, is_some, OnErr, OnOk, if◌then◌else◌, length, vec_len, replicate, false, true, slice_get, slice_set, unwrap_or};
 ghost use Rattle.vr_base.specs.Causes.{HasCause};
 ghost use Rattle.vr_edge.specs.Attaching.{attached_by, texts_of};
 ghost use Rattle.vr_edge.specs.Counts.{is_listed, one_more};
@@ -7,7 +7,9 @@ ghost use Rattle.vr_edge.specs.Streaming.{IsPolled, polled_by, written_by};
 ghost use Rattle.vr_edge.specs.StreamScripts.{gives, is_left_out, left_behind};
 ghost use Rattle.vr_edge.specs.Stocks.{Fits, FitsOne, IsStock, Took, TookOne};
 ghost use Rattle.vr_edge.specs.Told.{Grows, GrowsOn, IsNothing};
+ghost use Rattle.vr_edge.specs.declared.stream_script.Coming.TheVariants as coming;
 ghost use Rattle.vr_edge.specs.declared.streams.StreamCall.TheVariants as call;
+ghost use Rattle.vr_edge.specs.declared.streams.StreamFailed.{StreamFailed};
 
 use crate::attach::attach_entry;
 use crate::calls::is_listed;
@@ -49,8 +51,33 @@ fn is_left_out(peers: usize, left_out: &[bool], port: u32) -> bool
     at.saturating_sub(peers) >= OTHERS || left_out.get(at).copied().unwrap_or(true)
 }
 
-/// What a poll gives of what it finds.
+/// What a poll gives of bytes that came: as much as it takes.
 #[tactic(auto, using(std::proofs::lemmas::Grind::common_steps, crate::proofs::Receiving::take_most))]
+fn give_piece(peers: usize, left_out: &[bool], piece: &Piece, to: &mut [u8]) -> Polled
+    requires { length to.old ≡ STREAM_ROOM }
+    ensures gives { polled_by {E = StreamFailed} (Ok result) to.new ≡ gives peers left_out.now (coming.Piece piece.now) }
+    ensures bound { IsPolled peers result }
+{
+    if is_left_out(peers, left_out, piece.port) || piece.bytes.len() == 0 {
+        return Polled::Quiet;
+    }
+    let count = piece.bytes.len().min(STREAM_ROOM);
+    to[..count].copy_from_slice(&piece.bytes.as_slice()[..count]);
+    Polled::Bytes(piece.port, count as u32)
+}
+
+/// What a poll gives of the end of the stream at this port.
+fn give_end(peers: usize, left_out: &[bool], port: u32) -> Polled
+    ensures gives { (to : List ℕ) → polled_by {E = StreamFailed} (Ok result) to ≡ gives peers left_out.now (coming.End port) }
+    ensures bound { IsPolled peers result }
+{
+    if is_left_out(peers, left_out, port) {
+        return Polled::Quiet;
+    }
+    Polled::Ended(port)
+}
+
+/// What a poll gives of what it finds.
 fn give(
     peers: usize,
     left_out: &[bool],
@@ -64,20 +91,8 @@ fn give(
     match found {
         Coming::Nothing => Ok(Polled::Quiet),
         Coming::Fault => Err(StreamFailed),
-        Coming::End(port) => {
-            if is_left_out(peers, left_out, *port) {
-                return Ok(Polled::Quiet);
-            }
-            Ok(Polled::Ended(*port))
-        }
-        Coming::Piece(piece) => {
-            if is_left_out(peers, left_out, piece.port) || piece.bytes.len() == 0 {
-                return Ok(Polled::Quiet);
-            }
-            let count = piece.bytes.len().min(STREAM_ROOM);
-            to[..count].copy_from_slice(&piece.bytes.as_slice()[..count]);
-            Ok(Polled::Bytes(piece.port, count as u32))
-        }
+        Coming::End(port) => Ok(give_end(peers, left_out, *port)),
+        Coming::Piece(piece) => Ok(give_piece(peers, left_out, piece, to)),
     }
 }
 
@@ -141,6 +156,36 @@ fn write_entry(
     Some(Write { port, bytes, taken })
 }
 
+/// What streams tell of their calls.
+#[derive(Drop)]
+struct Books {
+    attached: Log<Attach>,
+    calls: CallLog,
+    written: Log<Write>,
+    stock: TextStock,
+}
+
+impl Books {
+    ghost use Rattle.vr_edge.specs.Logs.{told, told_to};
+
+    /// No call is told, and there is so much room.
+    fn new(alloc: Global, room: LogRoom) -> Result<Books, AllocError>
+        ensures attached { IfOk result (λ b. told b.attached.whole b.attached.entries.items ≡ Some []) }
+        ensures calls { IfOk result (λ b. told b.calls.log.whole b.calls.log.entries.items ≡ Some []) }
+        ensures polled { IfOk result (λ b. told_to b.calls.was_whole b.calls.polled b.calls.log.entries.items ≡ Some []) }
+        ensures written { IfOk result (λ b. told b.written.whole b.written.entries.items ≡ Some []) }
+        ensures logs { IfOk result (λ b. (b.attached.room ≡ room.entries) × (b.calls.log.room ≡ room.entries) × (b.written.room ≡ room.entries)) }
+        ensures texts { IfOk result (λ b. IsStock room b.stock) }
+    {
+        Ok(Books {
+            attached: Log::new(alloc, room.entries)?,
+            calls: CallLog::new(alloc, room.entries)?,
+            written: Log::new(alloc, room.entries)?,
+            stock: TextStock::new(alloc, room)?,
+        })
+    }
+}
+
 impl MemStreams {
     ghost use Rattle.std.specs.Option.{option_map};
     ghost use Rattle.vr_edge.specs.StreamScripts.{found_at, gives_at};
@@ -170,14 +215,15 @@ impl MemStreams {
     {
         let mut left_out = Vec::new(alloc);
         left_out.resize(ports, false)?;
+        let books = Books::new(alloc, room)?;
         Ok(MemStreams {
             script,
             peers: 0,
             left_out,
-            attached: Log::new(alloc, room.entries)?,
-            calls: CallLog::new(alloc, room.entries)?,
-            written: Log::new(alloc, room.entries)?,
-            stock: TextStock::new(alloc, room)?,
+            attached: books.attached,
+            calls: books.calls,
+            written: books.written,
+            stock: books.stock,
             attaches: 0,
             polls: 0,
             writes: 0,

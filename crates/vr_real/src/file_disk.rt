@@ -36,7 +36,6 @@ const PIECES: i64 = (FILE_SIZE as i64 + PIECE - 1) / PIECE;
 ///
 /// What is written goes through the system's page cache; at each attach, and once a minute, no sector is known any more, and the
 /// system is told to forget what it keeps of the file and to read it anew, so that reads tell what the disk has.
-#[derive(Drop)]
 pub struct FileDisk<R> {
     system: R,
     file: Option<File>,
@@ -50,6 +49,22 @@ pub struct FileDisk<R> {
     memory: Option<Global>,
     /// Sectors, from the first attach after `remember` on.
     kept: Option<Kept>,
+}
+
+// By hand, so that a function that lets one go calls this, in place of spelling out each field.
+impl<R: Drop> Drop for FileDisk<R> {
+    fn drop(self) {
+        let FileDisk {
+            system: _,
+            file: _,
+            forgotten: _,
+            faults: _,
+            read_faults: _,
+            memo: _,
+            memory: _,
+            kept: _,
+        } = self;
+    }
 }
 
 /// Writes zeros to each sector that lies wholly behind this length, so that no later write has to find room for it.
@@ -103,22 +118,39 @@ fn open_locked<R: Files<File = File>>(files: &R, name: &str) -> io::Result<File>
     Ok(file)
 }
 
-/// The file with this name, locked, synced and with its folder synced; where it has to be made or is too short, zeros stand
-/// behind what it had. It gets its whole length last, so a file of that length has no holes that were made here.
-fn open<R: Files<File = File>>(files: &R, name: &str) -> io::Result<File> {
-    let file = open_locked(files, name)?;
+/// Gives a file zeros behind what it has, up to the whole length, and says whether it was too short. It gets that length last, so a
+/// file of that length has no holes that were made here.
+fn lengthen(file: &File) -> io::Result<bool> {
     let len = file.metadata()?.len();
-    if len < FILE_SIZE {
-        fill(&file, len)?;
-        file.set_len(FILE_SIZE)?;
+    if len >= FILE_SIZE {
+        return Ok(false);
     }
+    fill(file, len)?;
+    file.set_len(FILE_SIZE)?;
+    Ok(true)
+}
+
+/// Has the file with this name whole and on its disk, and its folder too where it had to be made or was too short.
+fn make_whole<R: Files<File = File>>(files: &R, name: &str, file: &File) -> io::Result<()> {
+    let is_longer = lengthen(file)?;
     file.sync_all()?;
     let named = sync_folder(files, name);
-    if len < FILE_SIZE {
-        named?;
+    if is_longer { named } else { Ok(()) }
+}
+
+/// The file with this name, locked, of the whole length, synced and with its folder synced.
+fn open<R: Files<File = File>>(files: &R, name: &str) -> io::Result<File> {
+    let file = open_locked(files, name)?;
+    match make_whole(files, name, &file) {
+        Ok(()) => {
+            renew_copies(&file);
+            Ok(file)
+        }
+        Err(error) => {
+            drop(file);
+            Err(error)
+        }
     }
-    renew_copies(&file);
-    Ok(file)
 }
 
 impl<R> FileDisk<R> {

@@ -85,7 +85,7 @@ impl Slot {
     }
 
     /// Gives its stream bytes. Where that fails, the next poll looks whether it has ended.
-    pub fn write(&mut self, bytes: &[u8]) -> io::Result<usize>
+    fn write(&mut self, bytes: &[u8]) -> io::Result<usize>
         ensures { IfOk result (λ count. count ≤ length bytes.now) }
     {
         let Some(stream) = &mut self.stream else {
@@ -175,6 +175,17 @@ pub fn put_stream(slots: &mut Vec<Slot>, at: usize, stream: TcpStream)
     if let Some(slot) = slots.get_mut(at) {
         slot.put(stream);
         slot.ready = true;
+    }
+}
+
+/// Gives the stream at a port bytes.
+pub fn write_at(slots: &mut Vec<Slot>, at: usize, bytes: &[u8]) -> io::Result<usize>
+    ensures bound { IfOk result (λ count. count ≤ length bytes.now) }
+    ensures same { vec_len slots.new ≡ vec_len slots.old }
+{
+    match slots.get_mut(at) {
+        Some(slot) => slot.write(bytes),
+        None => Err(io::Error::from(ErrorKind::NotConnected)),
     }
 }
 

@@ -8,7 +8,7 @@ use crate::descriptors::has_descriptors;
 use crate::real_clock::millis_of;
 use crate::slots::{
     ENTRANCE, Slot, begins_at, empty_slots, is_free, note, put_stream, read_ready, stands_at,
-    take_in,
+    take_in, write_at,
 };
 use crate::stream_options::watch;
 use mio::net::{TcpListener, TcpStream};
@@ -35,7 +35,6 @@ pub const PREFIX: &str = "tcp:";
 /// machine; what is written before it stands is lost. One of which bytes aren't acknowledged for two seconds ends. Where 64 others are
 /// there and one more comes, it takes the place that `vr_policy` gives it, or none. No stream is read for ever while others wait. An
 /// attach with an address of one's own fails where the descriptors for all of them can't be had.
-#[derive(Drop)]
 pub struct TcpStreams<R> {
     alloc: Global,
     net: R,
@@ -59,6 +58,102 @@ pub struct TcpStreams<R> {
     ghost few: { vec_len slots ≤ vec_len peers + 64 },
 }
 
+// By hand, so that a function that lets one go calls this, in place of spelling out each field.
+impl<R: Drop> Drop for TcpStreams<R> {
+    fn drop(self) {
+        let TcpStreams {
+            alloc: _,
+            net: _,
+            poll: _,
+            events: _,
+            listener: _,
+            peers: _,
+            slots: _,
+            places: _,
+            next: _,
+            pieces: _,
+            knocks: _,
+            now: _,
+            faults: _,
+            call_faults: _,
+        } = self;
+    }
+}
+
+/// What an attach makes for so many ports.
+#[derive(Drop)]
+struct Rooms {
+    slots: Vec<Slot>,
+    places: Places,
+}
+
+impl Rooms {
+    /// Ports without streams, as many as these peers and all others have.
+    fn new(alloc: Global, peers: usize) -> Result<Rooms, AllocError>
+        ensures { IfOk result (λ r. vec_len r.slots ≤ peers + 64) }
+    {
+        Ok(Rooms {
+            slots: empty_slots(alloc, peers.saturating_add(PLACES))?,
+            places: Places::new(alloc)?,
+        })
+    }
+}
+
+/// The own address, opened to others where there is one; the poll tells when they come.
+fn entrance<R: Net>(net: &R, poll: &Poll, own: &str) -> io::Result<Option<TcpListener>> {
+    if own.is_empty() {
+        return Ok(None);
+    }
+    let mut listener = TcpListener::bind(net, address_of(net, PREFIX, own)?)?;
+    poll.registry()
+        .register(&mut listener, Token(ENTRANCE), Interest::READABLE)?;
+    Ok(Some(listener))
+}
+
+/// Notes what is there, once something is or so long was waited; says whether the wait went to its end, and no signal came.
+fn await_events(poll: &mut Poll, events: &mut Events, millis: u64) -> io::Result<bool> {
+    match poll.poll(events, Some(Duration::from_millis(millis))) {
+        Ok(()) => Ok(true),
+        Err(error) if error.kind() == ErrorKind::Interrupted => Ok(false),
+        Err(error) => Err(error),
+    }
+}
+
+/// A stream to a peer, of which the poll tells by this number.
+fn begin<R: Net>(net: &R, poll: &Poll, address: SocketAddr, at: usize) -> io::Result<TcpStream> {
+    let mut stream = TcpStream::connect(net, address)?;
+    stream.set_nodelay(true)?;
+    watch(&stream);
+    poll.registry()
+        .register(&mut stream, Token(at), Interest::READABLE)?;
+    Ok(stream)
+}
+
+/// Fails where the descriptors for the streams of so many peers can't be had.
+fn want_descriptors(alloc: Global, peers: usize, is_member: bool) -> io::Result<()> {
+    if has_descriptors(alloc, descriptors_wanted(peers, is_member))? {
+        return Ok(());
+    }
+    Err(io::Error::from(ErrorKind::OutOfMemory))
+}
+
+/// What an attach opens.
+#[derive(Drop)]
+struct Opened {
+    poll: Poll,
+    listener: Option<TcpListener>,
+}
+
+impl Opened {
+    /// The own address is open to others, and there are descriptors for them and so many peers.
+    fn new<R: Net>(alloc: Global, net: &R, own: &str, peers: usize) -> io::Result<Opened> {
+        let poll = Poll::new(net)?;
+        let listener = entrance(net, &poll, own)?;
+        want_descriptors(alloc, peers, !own.is_empty())?;
+        Ok(Opened { poll, listener })
+    }
+}
+
 /// The address at which streams of others are taken in.
 fn own_address(listener: &Option<TcpListener>) -> Option<SocketAddr> {
     listener.as_ref()?.local_addr().ok()
@@ -67,15 +162,17 @@ fn own_address(listener: &Option<TcpListener>) -> Option<SocketAddr> {
 impl<R: Drop> TcpStreams<R> {
     /// Streams that aren't attached, which `attach` opens through `net`.
     pub fn new(alloc: Global, net: R) -> Result<TcpStreams<R>, AllocError> {
+        let events = Events::with_capacity(alloc, 128)?;
+        let places = Places::new(alloc)?;
         Ok(TcpStreams {
             alloc,
             net,
             poll: None,
-            events: Events::with_capacity(alloc, 128)?,
+            events,
             listener: None,
             peers: Vec::new(alloc),
             slots: Vec::new(alloc),
-            places: Places::new(alloc)?,
+            places,
             next: 0,
             pieces: 0,
             knocks: false,
@@ -95,13 +192,20 @@ impl<R: Drop> TcpStreams<R> {
             return Err(io::Error::from(ErrorKind::NotConnected));
         };
         self.pieces = 0;
-        match poll.poll(&mut self.events, Some(Duration::from_millis(millis))) {
-            Ok(()) => {}
-            Err(error) if error.kind() == ErrorKind::Interrupted => return Ok(()),
-            Err(error) => return Err(error),
+        if await_events(poll, &mut self.events, millis)? {
+            let knock = note(&self.events, &mut self.slots);
+            self.answer(knock || self.knocks);
         }
-        let knock = note(&self.events, &mut self.slots);
-        if let (true, Some(listener)) = (knock || self.knocks, &self.listener) {
+        Ok(())
+    }
+
+    /// Takes in streams that wait, where there may be some.
+    fn answer(&mut self, knocks: bool)
+        ensures attached { vec_len self.new.peers ≡ vec_len self.old.peers }
+        ensures faults { self.new.faults ≡ self.old.faults }
+        ensures others { self.new.call_faults ≡ self.old.call_faults }
+    {
+        if let (true, Some(poll), Some(listener)) = (knocks, &self.poll, &self.listener) {
             self.knocks = take_in(
                 poll,
                 listener,
@@ -111,7 +215,6 @@ impl<R: Drop> TcpStreams<R> {
                 self.now,
             );
         }
-        Ok(())
     }
 
     /// What the first stream has that has something, from the next one on; who has its place is told of it.
@@ -190,6 +293,20 @@ impl<R: Drop> TcpStreams<R> {
 }
 
 impl<R: Net + Clock + Drop> TcpStreams<R> {
+    /// Takes the peers, with the ports for them and what was opened, in the place of what it had.
+    fn take(&mut self, peers: Vec<SocketAddr>, rooms: Rooms, opened: Opened)
+        requires { vec_len rooms.slots ≤ vec_len peers + 64 }
+        ensures attached { vec_len self.new.peers ≡ vec_len peers }
+        ensures faults { self.new.faults ≡ self.old.faults }
+        ensures others { self.new.call_faults ≡ self.old.call_faults }
+    {
+        self.slots = rooms.slots;
+        self.places = rooms.places;
+        self.peers = peers;
+        self.poll = Some(opened.poll);
+        self.listener = opened.listener;
+    }
+
     /// Takes the peers, and opens the own address to others.
     fn open(&mut self, own: &str, peers: &Vec<String>) -> io::Result<()>
         ensures attached { OnOk result (vec_len self.new.peers ≡ vec_len peers.now) }
@@ -198,46 +315,38 @@ impl<R: Net + Clock + Drop> TcpStreams<R> {
         ensures others { self.new.call_faults ≡ self.old.call_faults }
     {
         let peers = addresses_of(self.alloc, &self.net, PREFIX, peers)?;
-        let poll = Poll::new(&self.net)?;
-        if !own.is_empty() {
-            let mut listener = TcpListener::bind(&self.net, address_of(&self.net, PREFIX, own)?)?;
-            poll.registry()
-                .register(&mut listener, Token(ENTRANCE), Interest::READABLE)?;
-            self.listener = Some(listener);
-        }
-        let wanted = descriptors_wanted(peers.len(), !own.is_empty());
-        if !has_descriptors(self.alloc, wanted)? {
-            return Err(io::Error::from(ErrorKind::OutOfMemory));
-        }
-        let places = Places::new(self.alloc)?;
-        self.slots = empty_slots(self.alloc, peers.len().saturating_add(PLACES))?;
-        self.places = places;
-        self.peers = peers;
-        self.poll = Some(poll);
+        let rooms = Rooms::new(self.alloc, peers.len())?;
+        let opened = Opened::new(self.alloc, &self.net, own, peers.len())?;
+        self.take(peers, rooms, opened);
         Ok(())
     }
 
-    /// Begins the stream to a peer, where there is none or the one that was begun doesn't stand.
+    /// Whether the stream to a peer is to be begun, where there is none or the one that was begun doesn't stand. Then that counts as begun now.
+    fn begins(&mut self, at: usize) -> bool
+        ensures attached { vec_len self.new.peers ≡ vec_len self.old.peers }
+        ensures faults { self.new.faults ≡ self.old.faults }
+        ensures others { self.new.call_faults ≡ self.old.call_faults }
+    {
+        if at >= self.peers.len() || stands_at(&self.slots, at) {
+            return false;
+        }
+        self.now = millis_of(&self.net, self.now);
+        begins_at(&mut self.slots, at, self.now)
+    }
+
+    /// Begins the stream to a peer, where it is to be begun.
     fn connect(&mut self, at: usize) -> io::Result<()>
         ensures attached { vec_len self.new.peers ≡ vec_len self.old.peers }
         ensures faults { self.new.faults ≡ self.old.faults }
         ensures others { self.new.call_faults ≡ self.old.call_faults }
     {
-        if stands_at(&self.slots, at) {
+        if !self.begins(at) {
             return Ok(());
         }
-        self.now = millis_of(&self.net, self.now);
         let (Some(address), Some(poll)) = (self.peers.get(at), &self.poll) else {
             return Ok(());
         };
-        if !begins_at(&mut self.slots, at, self.now) {
-            return Ok(());
-        }
-        let mut stream = TcpStream::connect(&self.net, *address)?;
-        stream.set_nodelay(true)?;
-        watch(&stream);
-        poll.registry()
-            .register(&mut stream, Token(at), Interest::READABLE)?;
+        let stream = begin(&self.net, poll, *address, at)?;
         put_stream(&mut self.slots, at, stream);
         Ok(())
     }
@@ -267,10 +376,7 @@ impl<R: Net + Clock + Drop> TcpStreams<R> {
     {
         let at = port as usize;
         self.connect(at)?;
-        let Some(slot) = self.slots.get_mut(at) else {
-            return Err(io::Error::from(ErrorKind::NotConnected));
-        };
-        let count = slot.write(bytes)?;
+        let count = write_at(&mut self.slots, at, bytes)?;
         if let Some(place) = self.place(port) {
             self.places.answer(place, self.now);
         }

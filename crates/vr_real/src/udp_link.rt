@@ -23,7 +23,6 @@ const SIZE_AT: usize = 104;
 /// Datagrams over UDP. It tells nothing. A receive waits at most ten milliseconds; the ports of the peers are those of
 /// their addresses, and the 64 other senders that were heard last have ports behind them, of which a new one takes that of
 /// the one that was heard longest ago. A sender that isn't heard, since what it sent can't be a message, has the port of nobody.
-#[derive(Drop)]
 pub struct UdpLink<R> {
     alloc: Global,
     net: R,
@@ -32,6 +31,21 @@ pub struct UdpLink<R> {
     room: Vec<u8>,
     faults: u64,
     send_faults: u64,
+}
+
+// By hand, so that a function that lets one go calls this, in place of spelling out each field.
+impl<R: Drop> Drop for UdpLink<R> {
+    fn drop(self) {
+        let UdpLink {
+            alloc: _,
+            net: _,
+            socket: _,
+            ports: _,
+            room: _,
+            faults: _,
+            send_faults: _,
+        } = self;
+    }
 }
 
 /// The own address; without one, any of the kind that the peers have.
@@ -45,9 +59,9 @@ fn own_address<R: Net>(net: &R, own: &str, peers: &Vec<SocketAddr>) -> io::Resul
     }
 }
 
-/// A socket at an address, whose receives wait a little.
-fn bind<R: Net>(net: &R, own: SocketAddr) -> io::Result<UdpSocket> {
-    let socket = UdpSocket::bind(net, own)?;
+/// A socket at the own address, whose receives wait a little.
+fn bind<R: Net>(net: &R, own: &str, peers: &Vec<SocketAddr>) -> io::Result<UdpSocket> {
+    let socket = UdpSocket::bind(net, own_address(net, own, peers)?)?;
     socket.set_read_timeout(Some(Duration::from_millis(WAIT_MILLIS)))?;
     Ok(socket)
 }
@@ -83,14 +97,13 @@ fn port_of(ports: &mut Ports<SocketAddr>, address: SocketAddr, bytes: &[u8]) -> 
 impl<R: Drop> UdpLink<R> {
     /// A link without its socket, which `attach` opens through `net`.
     pub fn new(alloc: Global, net: R) -> Result<UdpLink<R>, AllocError> {
-        let mut room = Vec::new(alloc);
-        room.resize(RECEIVE_ROOM, 0)?;
+        let ports = Ports::new(alloc, Vec::new(alloc))?;
         Ok(UdpLink {
             alloc,
             net,
             socket: None,
-            ports: Ports::new(alloc, Vec::new(alloc))?,
-            room,
+            ports,
+            room: Vec::from_elem(alloc, 0, RECEIVE_ROOM)?,
             faults: 0,
             send_faults: 0,
         })
@@ -130,8 +143,7 @@ impl<R: Net + Drop> UdpLink<R> {
         ensures others { self.new.send_faults ≡ self.old.send_faults }
     {
         let peers = addresses_of(self.alloc, &self.net, "", peers)?;
-        let own = own_address(&self.net, own, &peers)?;
-        self.socket = Some(bind(&self.net, own)?);
+        self.socket = Some(bind(&self.net, own, &peers)?);
         self.ports = Ports::new(self.alloc, peers)?;
         Ok(())
     }

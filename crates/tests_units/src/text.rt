@@ -16,7 +16,10 @@ fn chooses(rt: &impl Abort, alloc: Global, own: Vec<Part>, line: &[u8]) -> Resul
         head: 1,
         own: Seq::from_vec(own),
     };
-    assert_eq!(rt; text(alloc, 6, &Output::Choose(chosen))?.as_slice(), line);
+    let output = Output::Choose(chosen);
+    let said = text(alloc, 6, &output);
+    drop(output);
+    assert_eq!(rt; said?.as_slice(), line);
     Ok(())
 }
 

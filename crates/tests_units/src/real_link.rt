@@ -78,7 +78,10 @@ mod tests {
     ) -> Result<Option<u32>, AllocError> {
         let mut from = RealLink::new(rt.alloc(), rt)?;
         let mut to = RealLink::new(rt.alloc(), rt)?;
-        port_over(rt.alloc(), &mut from, &mut to, first, second)
+        let port = port_over(rt.alloc(), &mut from, &mut to, first, second);
+        drop(from);
+        drop(to);
+        port
     }
 
     #[test]
@@ -94,7 +97,9 @@ mod tests {
     fn is_attached(rt: &HostRuntime, own: &str) -> Result<bool, AllocError> {
         let peers = owned(rt.alloc(), &["tcp:127.0.0.1:47115", "127.0.0.1:47116"])?;
         let mut link = RealLink::new(rt.alloc(), rt)?;
-        Ok(link.attach(own, &peers).is_ok())
+        let attached = link.attach(own, &peers).is_ok();
+        drop(link);
+        Ok(attached)
     }
 
     #[test]

@@ -10,11 +10,11 @@ mod tests {
     use vr_real::RealSpawner;
     use vr_spawn::{SpawnFailed, Spawner};
 
-    const NAME: &str = "vr_real_tests.program";
+    const NAME: &str = "tests_units.program";
 
     /// It writes its own number, and then runs for longer than the test.
     const SCRIPT: &str =
-        "echo $$ > vr_real_tests.part; mv vr_real_tests.part vr_real_tests.program; exec sleep 600";
+        "echo $$ > tests_units.part; mv tests_units.part tests_units.program; exec sleep 600";
 
     /// Starts the program with the words that have a shell do this; the number that it is given.
     fn start<S: Spawner>(
