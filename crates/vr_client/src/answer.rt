@@ -10,7 +10,7 @@ use vr_mail::{Letter, ReceiveFault};
 use vr_msg::{Answered, Frame, Reply, ReplyKind};
 
 /// The answer to a request.
-#[derive(Debug, Drop, PartialEq, Eq)]
+#[derive(Drop, PartialEq, Eq)]
 pub enum Answer {
     /// It was executed.
     Outcome(Answered),
@@ -54,7 +54,7 @@ impl From<ReceiveFault> for AskFault {
 }
 
 /// What a client makes of a turn.
-#[derive(Debug, Drop, PartialEq, Eq)]
+#[derive(Drop, PartialEq, Eq)]
 pub enum Heed {
     /// Nothing.
     Ignored,

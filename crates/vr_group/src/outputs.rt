@@ -11,7 +11,7 @@ use vr_msg::{Outbox, Output};
 use vr_text::write_text;
 
 /// What is put out: a message, which stays with those that were sent, by its number, or any other output.
-#[derive(Debug, Drop, PartialEq, Eq)]
+#[derive(Drop, PartialEq, Eq)]
 pub enum Put {
     Message(u64),
     Other(Output),

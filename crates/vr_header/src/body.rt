@@ -1,15 +1,54 @@
 //! The bytes of operations and outcomes, both ways.
-ghost use Rattle.std.specs.Prelude.{◌≡◌, ◌++◌, ◌+◌, ◌≤◌, Some, IfOk, IfSome, OnOk, OnErr, is_some, length};
+ghost use Rattle.std.specs.Prelude.{◌≡◌, ◌++◌, ◌+◌, ◌≤◌, ◌∷◌, Some, IfOk, IfSome, IsTrue, OnOk, OnErr, is_some, length};
 ghost use Rattle.vr_base.specs.Bytes.{KeepsFront, name_of};
 ghost use Rattle.vr_header.specs.declared.operation.Operation.{Operation};
+ghost use Rattle.vr_header.specs.declared.operation.Operation.TheVariants as operation;
 ghost use Rattle.vr_header.specs.declared.outcome.Outcome.{Outcome};
+ghost use Rattle.vr_header.specs.declared.outcome.Outcome.TheVariants as outcome;
 ghost use Rattle.vr_header.specs.Bodies.{IsOperation, IsOutcome, operation_bytes, operation_of, outcome_bytes, outcome_of};
+ghost use Rattle.vr_header.specs.Text.{is_text};
 ghost use Rattle.vr_header.specs.Views.{operation_seen, outcome_seen};
 
 use crate::view::{OperationView, OutcomeView, read_operation, read_outcome};
 use crate::{HEADER_SIZE, Key, Operation, Outcome, Size, Value};
 use std::alloc::{AllocError, Global};
 use vr_base::{ByteList, Sum, Version, checksum, checksum_of_parts};
+
+// Adds the spelling of a put. An `Err` may have added some of it.
+#[tactic(auto, using(std::proofs::lemmas::Grind::common_steps, vr_base::proofs::Writing::kept_before), unfolding(crate::specs::Bodies::operation_bytes, vr_base::specs::Bytes::bytes16))]
+fn write_put(key: &Key, value: &Value, to: &mut Vec<u8>) -> Result<(), AllocError>
+    ensures ok { OnOk result (to.new.items ≡ to.old.items ++ operation_bytes (operation.Put key.now value.now)) }
+    ensures front { OnErr result (KeepsFront to.old.items to.new.items) }
+    ensures texts { IsOperation 2 (operation.Put key.now value.now) }
+{
+    let [high, low] = (value.as_slice().len() as u16).to_be_bytes();
+    to.extend_from_slice(&[2, key.as_slice().len() as u8, high, low])?;
+    to.extend_from_slice(key.as_slice())?;
+    to.extend_from_slice(value.as_slice())
+}
+
+// Adds a key behind this code, as an operation on one key is spelled. An `Err` may have added some of it.
+#[tactic(auto, using(std::proofs::lemmas::Grind::common_steps, vr_base::proofs::Writing::kept_before))]
+fn write_keyed(code: u8, key: &Key, to: &mut Vec<u8>) -> Result<(), AllocError>
+    ensures ok { OnOk result (to.new.items ≡ to.old.items ++ (code ∷ length key.now ∷ key.now)) }
+    ensures front { OnErr result (KeepsFront to.old.items to.new.items) }
+    ensures text { IsTrue (is_text 64 key.now) }
+{
+    to.extend_from_slice(&[code, key.as_slice().len() as u8])?;
+    to.extend_from_slice(key.as_slice())
+}
+
+// Adds the spelling of an outcome with this value. An `Err` may have added some of it.
+#[tactic(auto, using(std::proofs::lemmas::Grind::common_steps, vr_base::proofs::Writing::kept_before), unfolding(crate::specs::Bodies::outcome_bytes, vr_base::specs::Bytes::bytes16))]
+fn write_value(value: &Value, to: &mut Vec<u8>) -> Result<(), AllocError>
+    ensures ok { OnOk result (to.new.items ≡ to.old.items ++ outcome_bytes (outcome.Value value.now)) }
+    ensures front { OnErr result (KeepsFront to.old.items to.new.items) }
+    ensures text { IsOutcome 2 (outcome.Value value.now) }
+{
+    let [high, low] = (value.as_slice().len() as u16).to_be_bytes();
+    to.extend_from_slice(&[5, high, low])?;
+    to.extend_from_slice(value.as_slice())
+}
 
 impl Operation {
     /// The one spelling of an operation, of at most 3,068 bytes, as a list of its own. It is for whoever keeps or sends a body alone: entries
@@ -30,23 +69,11 @@ impl Operation {
         ensures texts { IsOperation 2 self.now }
     {
         match self {
-            Operation::Register => to.extend_from_slice(&[1])?,
-            Operation::Put(key, value) => {
-                let [high, low] = (value.as_slice().len() as u16).to_be_bytes();
-                to.extend_from_slice(&[2, key.as_slice().len() as u8, high, low])?;
-                to.extend_from_slice(key.as_slice())?;
-                to.extend_from_slice(value.as_slice())?;
-            }
-            Operation::Get(key) => {
-                to.extend_from_slice(&[3, key.as_slice().len() as u8])?;
-                to.extend_from_slice(key.as_slice())?;
-            }
-            Operation::Delete(key) => {
-                to.extend_from_slice(&[4, key.as_slice().len() as u8])?;
-                to.extend_from_slice(key.as_slice())?;
-            }
+            Operation::Register => to.extend_from_slice(&[1]),
+            Operation::Put(key, value) => write_put(key, value, to),
+            Operation::Get(key) => write_keyed(3, key, to),
+            Operation::Delete(key) => write_keyed(4, key, to),
         }
-        Ok(())
     }
 
     /// The name of the spelling.
@@ -132,17 +159,12 @@ impl Outcome {
         ensures texts { IsOutcome 2 self.now }
     {
         match self {
-            Outcome::Session => to.extend_from_slice(&[1])?,
-            Outcome::Ok => to.extend_from_slice(&[2])?,
-            Outcome::Full => to.extend_from_slice(&[3])?,
-            Outcome::Absent => to.extend_from_slice(&[4])?,
-            Outcome::Value(value) => {
-                let [high, low] = (value.as_slice().len() as u16).to_be_bytes();
-                to.extend_from_slice(&[5, high, low])?;
-                to.extend_from_slice(value.as_slice())?;
-            }
+            Outcome::Session => to.extend_from_slice(&[1]),
+            Outcome::Ok => to.extend_from_slice(&[2]),
+            Outcome::Full => to.extend_from_slice(&[3]),
+            Outcome::Absent => to.extend_from_slice(&[4]),
+            Outcome::Value(value) => write_value(value, to),
         }
-        Ok(())
     }
 
     /// Whether the bytes spell an outcome.

@@ -14,7 +14,7 @@ use vr_edge::{Link, LinkFailed, RECEIVE_ROOM, Received};
 use vr_msg::Message;
 
 /// A message that came, and the port of its sender.
-#[derive(Debug, Drop, PartialEq, Eq)]
+#[derive(Drop, PartialEq, Eq)]
 pub struct Letter {
     pub port: u32,
     pub message: Message,

@@ -3,7 +3,7 @@
 use vr_header::HeaderList;
 
 /// The log that a new view begins with, as far as the statements decide it.
-#[derive(Debug, Drop, PartialEq, Eq)]
+#[derive(Drop, PartialEq, Eq)]
 pub enum Choice {
     /// It ends; its headers, from the first that is given on to the head, in order.
     Ends(HeaderList),

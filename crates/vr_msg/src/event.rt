@@ -3,7 +3,7 @@
 use crate::{Message, Request};
 
 /// What happens to a replica, and is handled in one step.
-#[derive(Debug, Drop, PartialEq, Eq)]
+#[derive(Drop, PartialEq, Eq)]
 pub enum Event {
     /// A client asks.
     Request(Request),

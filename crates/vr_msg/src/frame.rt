@@ -5,7 +5,7 @@ use vr_base::{ByteList, Sum, Version};
 use vr_header::Entry;
 
 /// An entry goes out from the primary of `view`.
-#[derive(Debug, Drop, PartialEq, Eq)]
+#[derive(Drop, PartialEq, Eq)]
 pub struct Prepare {
     pub version: Version,
     pub replica: u8,
@@ -28,7 +28,7 @@ impl Prepare {
 }
 
 /// The entry of this op and name is stored.
-#[derive(Clone, Copy, Debug, PartialEq, Eq)]
+#[derive(Clone, Copy, PartialEq, Eq)]
 pub struct PrepareOk {
     pub version: Version,
     pub cluster: u64,
@@ -42,7 +42,7 @@ pub struct PrepareOk {
 }
 
 /// The primary's head and commit number.
-#[derive(Clone, Copy, Debug, PartialEq, Eq)]
+#[derive(Clone, Copy, PartialEq, Eq)]
 pub struct Commit {
     pub version: Version,
     pub cluster: u64,
@@ -53,7 +53,7 @@ pub struct Commit {
 }
 
 /// The sender has entered `view`.
-#[derive(Clone, Copy, Debug, PartialEq, Eq)]
+#[derive(Clone, Copy, PartialEq, Eq)]
 pub struct StartViewChange {
     pub version: Version,
     pub cluster: u64,
@@ -62,7 +62,7 @@ pub struct StartViewChange {
 }
 
 /// The sender's statement for the choice of the log of `view`.
-#[derive(Debug, Drop, PartialEq, Eq)]
+#[derive(Drop, PartialEq, Eq)]
 pub struct DoViewChange {
     pub version: Version,
     pub cluster: u64,
@@ -72,7 +72,7 @@ pub struct DoViewChange {
 }
 
 /// The log of `view`, up to `head`.
-#[derive(Debug, Drop, PartialEq, Eq)]
+#[derive(Drop, PartialEq, Eq)]
 pub struct StartView {
     pub version: Version,
     pub cluster: u64,
@@ -84,7 +84,7 @@ pub struct StartView {
 }
 
 /// Asks for the log of `view`.
-#[derive(Clone, Copy, Debug, PartialEq, Eq)]
+#[derive(Clone, Copy, PartialEq, Eq)]
 pub struct GetView {
     pub version: Version,
     pub cluster: u64,
@@ -93,7 +93,7 @@ pub struct GetView {
 }
 
 /// Asks for the entry of this op and name.
-#[derive(Clone, Copy, Debug, PartialEq, Eq)]
+#[derive(Clone, Copy, PartialEq, Eq)]
 pub struct GetPrepare {
     pub version: Version,
     pub cluster: u64,
@@ -106,7 +106,7 @@ pub struct GetPrepare {
 }
 
 /// An entry that was asked for.
-#[derive(Debug, Drop, PartialEq, Eq)]
+#[derive(Drop, PartialEq, Eq)]
 pub struct GivePrepare {
     pub version: Version,
     pub replica: u8,
@@ -115,7 +115,7 @@ pub struct GivePrepare {
 }
 
 /// Asks for the block of this address and name.
-#[derive(Clone, Copy, Debug, PartialEq, Eq)]
+#[derive(Clone, Copy, PartialEq, Eq)]
 pub struct GetBlock {
     pub version: Version,
     pub cluster: u64,
@@ -126,7 +126,7 @@ pub struct GetBlock {
 }
 
 /// A block that was asked for.
-#[derive(Debug, Drop, PartialEq, Eq)]
+#[derive(Drop, PartialEq, Eq)]
 pub struct GiveBlock {
     pub version: Version,
     pub cluster: u64,
@@ -137,7 +137,7 @@ pub struct GiveBlock {
 }
 
 /// Asks for the checkpoint and the log of `view`.
-#[derive(Clone, Copy, Debug, PartialEq, Eq)]
+#[derive(Clone, Copy, PartialEq, Eq)]
 pub struct GetSync {
     pub version: Version,
     pub cluster: u64,
@@ -146,7 +146,7 @@ pub struct GetSync {
 }
 
 /// The checkpoint of the primary of `view`, and its log from below the checkpoint up to `head`.
-#[derive(Debug, Drop, PartialEq, Eq)]
+#[derive(Drop, PartialEq, Eq)]
 pub struct SyncView {
     pub version: Version,
     pub cluster: u64,
@@ -164,7 +164,7 @@ pub struct SyncView {
 }
 
 /// What a message says, by its kind.
-#[derive(Debug, Drop, PartialEq, Eq)]
+#[derive(Drop, PartialEq, Eq)]
 pub enum Frame {
     Request(Request),
     Reply(Reply),

@@ -5,7 +5,7 @@ use vr_base::Seq;
 use vr_header::{Entry, Part};
 
 /// A message on its way between replicas.
-#[derive(Debug, Drop, PartialEq, Eq)]
+#[derive(Drop, PartialEq, Eq)]
 pub struct Sent {
     pub from: u8,
     pub to: u8,
@@ -13,14 +13,14 @@ pub struct Sent {
 }
 
 /// A replica applied an entry.
-#[derive(Debug, Drop, PartialEq, Eq)]
+#[derive(Drop, PartialEq, Eq)]
 pub struct Committed {
     pub replica: u8,
     pub entry: Entry,
 }
 
 /// A new primary chose the log of its view.
-#[derive(Debug, Drop, PartialEq, Eq)]
+#[derive(Drop, PartialEq, Eq)]
 pub struct Chosen {
     pub replica: u8,
     pub view: u32,
@@ -34,7 +34,7 @@ pub struct Chosen {
 }
 
 /// A new primary can't choose a log yet, for what it doesn't know of `op`.
-#[derive(Clone, Copy, Debug, PartialEq, Eq)]
+#[derive(Clone, Copy, PartialEq, Eq)]
 pub struct Waiting {
     pub replica: u8,
     pub view: u32,
@@ -42,7 +42,7 @@ pub struct Waiting {
 }
 
 /// A replica recovered with these numbers.
-#[derive(Clone, Copy, Debug, PartialEq, Eq)]
+#[derive(Clone, Copy, PartialEq, Eq)]
 pub struct Started {
     pub replica: u8,
     pub view: u32,
@@ -51,7 +51,7 @@ pub struct Started {
 }
 
 /// One output of a replica, or the world's answer to a fault.
-#[derive(Debug, Drop, PartialEq, Eq)]
+#[derive(Drop, PartialEq, Eq)]
 pub enum Output {
     Send(Sent),
     Commit(Committed),

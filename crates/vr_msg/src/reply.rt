@@ -7,14 +7,14 @@ use vr_base::{Sum, Version};
 use vr_header::Outcome;
 
 /// The outcome of a request, and the op that it was.
-#[derive(Debug, Drop, PartialEq, Eq)]
+#[derive(Drop, PartialEq, Eq)]
 pub struct Answered {
     pub op: u64,
     pub outcome: Outcome,
 }
 
 /// What is replied to a request.
-#[derive(Debug, Drop, PartialEq, Eq)]
+#[derive(Drop, PartialEq, Eq)]
 pub enum ReplyKind {
     /// It was executed.
     Outcome(Answered),
@@ -31,7 +31,7 @@ pub enum ReplyKind {
 }
 
 /// What a reply says.
-#[derive(Debug, Drop, PartialEq, Eq)]
+#[derive(Drop, PartialEq, Eq)]
 pub struct ReplyFields {
     pub version: Version,
     /// The number of the group.
@@ -48,7 +48,7 @@ pub struct ReplyFields {
 }
 
 /// A reply to a client; its view is at most 2^32 - 2 and its op at most 2^62, and an outcome fits the version.
-#[derive(Debug, Drop, PartialEq, Eq)]
+#[derive(Drop, PartialEq, Eq)]
 pub struct Reply {
     fields: ReplyFields,
 }

@@ -4,7 +4,7 @@ use vr_base::Seq;
 use vr_header::{HeaderList, Part};
 
 /// What a replica knows of the ops from `first` on, a Part for each; of later ones it knows nothing.
-#[derive(Debug, Drop, PartialEq, Eq)]
+#[derive(Drop, PartialEq, Eq)]
 pub struct DvcBody {
     /// Where the run of known headers begins that ends at the sender's head and has at most 64.
     pub first: u64,
@@ -13,7 +13,7 @@ pub struct DvcBody {
 }
 
 /// The headers of the ops after `lo`, in order.
-#[derive(Debug, Drop, PartialEq, Eq)]
+#[derive(Drop, PartialEq, Eq)]
 pub struct SvBody {
     pub lo: u64,
     /// At most 64 headers of entries.
@@ -21,7 +21,7 @@ pub struct SvBody {
 }
 
 /// What a replica states of its log for the choice of a new one.
-#[derive(Debug, Drop, PartialEq, Eq)]
+#[derive(Drop, PartialEq, Eq)]
 pub struct Statement {
     /// The last view in which the replica had its log from the primary.
     pub log_view: u32,
