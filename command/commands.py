@@ -42,6 +42,8 @@ COMMANDS: Tuple[Command, ...] = (
             (("0", "it is built"), ("1", "the sources are refused"), WORDS), "command/build", True),
     Command("test", BUILDING, "proves and tests everything (rt ci), then runs the checks outside the proofs; the last line counts both", "[--quick]\n--checks\n--list\nNAME..",
             "nozhgiva test --quick", (("0", "all passed"), ("1", "something failed"), WORDS), "command/test", True),
+    Command("map", BUILDING, "prints the crates row by row, each with its lines and a sentence; with words only those that have them", "[WORD..] [--cost FILE]\n--check", "nozhgiva map checkpoint",
+            (("0", "printed, or nothing to mend"), ("1", "no crate has the words, or --check finds something"), WORDS), "bench/map", True),
     Command("run", PLAYING, "prints each line of a schedule with what it gives, indented under it; where a line is refused it says why", "[--whole] [EXAMPLE]",
             "nozhgiva run examples/put-get.txt", (("0", "each line was taken"), ("1", "it can't be built"), WORDS, ("3", "a line is refused: it says why")), "examples/run",
             more="EXAMPLE is a file, or the name of one in examples/; without it the lines come from standard input. Comments may stand in it."),
