@@ -106,6 +106,9 @@ pub fn heed_letter(n: u8, name: &Sum, letter: Option<Letter>) -> Heed
     };
     match letter.message.into_frame() {
         Frame::Reply(reply) => heed_reply(n, name, reply),
-        _ => Heed::Ignored,
+        other => {
+            drop(other);
+            Heed::Ignored
+        }
     }
 }

@@ -21,13 +21,26 @@ enum Over {
 
 /// The link over streams where all addresses begin with `tcp:`, that over datagrams where none does; otherwise it can't be
 /// attached. It tells nothing.
-#[derive(Drop)]
 pub struct RealLink<D, S> {
     datagrams: D,
     streams: S,
     over: Over,
+    /// Counted here too: an attach may change which of the two is used, and each of them has counts of its own.
     faults: u64,
     send_faults: u64,
+}
+
+// By hand, so that a function that lets one go calls this, in place of spelling out each field.
+impl<D: Drop, S: Drop> Drop for RealLink<D, S> {
+    fn drop(self) {
+        let RealLink {
+            datagrams: _,
+            streams: _,
+            over: _,
+            faults: _,
+            send_faults: _,
+        } = self;
+    }
 }
 
 /// A link over UDP or over TCP.
@@ -55,9 +68,10 @@ where
 {
     /// A link that isn't attached; `attach` opens it through `net`.
     pub fn new(alloc: Global, net: R) -> Result<SocketLink<R>, AllocError> {
+        let streams = StreamLink::new(alloc, PEERS, TcpStreams::new(alloc, net)?)?;
         Ok(RealLink {
             datagrams: UdpLink::new(alloc, net)?,
-            streams: StreamLink::new(alloc, PEERS, TcpStreams::new(alloc, net)?)?,
+            streams,
             over: Over::Datagrams,
             faults: 0,
             send_faults: 0,

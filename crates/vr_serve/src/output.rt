@@ -136,6 +136,23 @@ fn send_output<L: Link>(
     }
 }
 
+/// The same, after a message that isn't needed any more.
+fn send_next<L: Link>(
+    link: &mut L,
+    clients: &[Client],
+    output: Output,
+    last: Option<Message>,
+    bytes: &mut Vec<u8>,
+) -> Result<Option<Message>, AllocError>
+    requires { IfSome last (λ m. bytes.old.items ≡ spelling m) }
+    ensures last { IfOk result (λ last. IfSome last (λ m. bytes.new.items ≡ spelling m)) }
+    ensures sends { SendsOrNone L.Link (datagram_for clients.now output) link.old link.new result }
+{
+    let sent = send_output(link, clients, output, &last, bytes);
+    drop(last);
+    sent
+}
+
 /// Gives the datagrams of all outputs to the link, in order: messages go to their members, replies to their clients' ports in the
 /// list. One that the link fails to send is lost, and the next ones are sent. After an `Err`, want of memory, a front of them was
 /// given. The link's receives, attaches and faults stay as they are.
@@ -149,7 +166,8 @@ pub fn send_outputs<L: Link>(
 {
     let mut last = None;
     for output in outputs.into_vec() {
-        last = send_output(link, clients, output, &last, bytes)?;
+        last = send_next(link, clients, output, last, bytes)?;
     }
+    drop(last);
     Ok(())
 }
