@@ -11,7 +11,6 @@ use vr_super::{Fields, Super};
 use vr_window::{Places, Window, known_from, run_of};
 
 /// A replica between two events. Contracts see it as the definitions do.
-#[derive(Drop)]
 pub struct Replica {
     pub(crate) cluster: u64,
     pub(crate) index: u8,
@@ -39,6 +38,38 @@ pub struct Replica {
     pub(crate) saved: Super,
     /// Room to read a slot or block into; what it holds between two reads is unspecified.
     pub(crate) buffer: Buffer,
+}
+
+// By hand, so that a function that lets one go calls this, in place of spelling out each field.
+impl Drop for Replica {
+    fn drop(self) {
+        let Replica {
+            cluster: _,
+            index: _,
+            n: _,
+            view: _,
+            log_view: _,
+            commit: _,
+            applied: _,
+            checkpoint: _,
+            root: _,
+            table: _,
+            state: _,
+            missing: _,
+            first: _,
+            parts: _,
+            names: _,
+            ackers: _,
+            heard: _,
+            statements: _,
+            idle: _,
+            turn: _,
+            cursor: _,
+            worn: _,
+            saved: _,
+            buffer: _,
+        } = self;
+    }
 }
 
 impl Model for Replica {

@@ -268,7 +268,9 @@ impl Replica {
         ensures { OnOk result (out.new ≡ out.old ++ send_to_all start_view self.now) }
     {
         let message = self.start_view(alloc)?;
-        self.tell_others(alloc, &message, out)
+        let told = self.tell_others(alloc, &message, out);
+        drop(message);
+        told
     }
 }
 

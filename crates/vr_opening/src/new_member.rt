@@ -92,7 +92,10 @@ pub fn fresh<D: SectorDisk>(
         Err(_) => Err(FreshFault::NoMemory),
         Ok(replica) => match write_format(disk, config, &replica) {
             Ok(()) => Ok(replica),
-            Err(_) => Err(FreshFault::DiskFault),
+            Err(_) => {
+                drop(replica);
+                Err(FreshFault::DiskFault)
+            }
         },
     }
 }

@@ -52,7 +52,10 @@ fn open_value<D: SectorDisk>(
         Err(_) => Err(Halt::NoMemory),
         Ok(mut replica) => match open_mended(&mut replica, alloc, disk, out) {
             Ok(()) => Ok(replica),
-            Err(halt) => Err(halt),
+            Err(halt) => {
+                drop(replica);
+                Err(halt)
+            }
         },
     }
 }
