@@ -1,4 +1,4 @@
--- A backup with nothing behind takes the prepare, and sends its acknowledgement alone.
+-- A backup that lags in nothing takes the prepare, and sends its acknowledgement alone.
 use Rattle.std.proofs.Common.{arith, ℕ, ◌<◌, ◌≡◌, ◌≢◌, ◌∙◌, refl, sym, ap, false, List, [], ◌∷◌, ◌++◌, map}
 use Rattle.vr_header.specs.declared.header.Header.{Header}
 use Rattle.vr_header.specs.Made.{Whole}

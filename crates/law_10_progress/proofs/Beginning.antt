@@ -1,4 +1,4 @@
--- A new group has nothing behind, and answers.
+-- A new group lags in nothing, and answers.
 use Rattle.std.proofs.Common.{arith, ℕ, zero, suc, ◌+◌, ◌-◌, ◌<◌, ◌≤◌, ◌≡◌, ◌∙◌, inl, inr, refl, sym, ap, subst, Bool, true, cond, List, length, Some, None}
 use Rattle.std.specs.Prelude.{Contains, IfSome, slice_get}
 use Rattle.std.specs.List.{range_with_len}

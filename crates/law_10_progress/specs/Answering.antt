@@ -1,4 +1,4 @@
--- The normal case: a group of which a primary and enough backups have nothing behind, and the lines by which it answers a request.
+-- The normal case: a group of which a primary and enough backups lag in nothing, and the lines by which it answers a request.
 use Rattle.std.specs.Prelude.{ℕ, ◌+◌, ◌-◌, ◌*◌, ◌<◌, ◌≤◌, ◌≡◌, ◌≢◌, ◌⊎◌, ⊤, true, false, nat_lt, List, [], ◌∷◌, length, slice_get, All, Contains, Some, None, if◌then◌else◌}
 use Rattle.std.specs.List.{range_with_len}
 use Rattle.vr_base.specs.Groups.{least_members}
@@ -34,7 +34,7 @@ pub record Runs {F : Type 0} (w : World F) (at : ℕ) (r : Replica) (f : F) : Ty
   pub sound : IsSound r
   pub awake : is_frozen r ≡ false
 
--- The primary of a view that it is started in, with nothing behind: it has its state, has applied all that its log has, and nobody has
+-- The primary of a view that it is started in, that lags in nothing: it has its state, has applied all that its log has, and nobody has
 -- acknowledged anything above that. Ops haven't ended.
 pub record LeadsLevel (r : Replica) : Type 0 where
   pub started : r.view ≡ r.log_view
@@ -45,7 +45,7 @@ pub record LeadsLevel (r : Replica) : Type 0 where
   pub unheard : ackers_at r (head r + 1) ≡ no_replicas
   pub room : head r < last_op
 
--- A backup with nothing behind this primary: it is of its group, on a file of its version, started in its view, and its log ends with the same
+-- A backup that lags in nothing this primary has: it is of its group, on a file of its version, started in its view, and its log ends with the same
 -- entry. There is room for the next one in its window.
 pub record FollowsLevel (hash : List ℕ → List ℕ) (r b : Replica) : Type 0 where
   pub of_version : version b ≡ version r
@@ -77,7 +77,7 @@ abbrev pub AreDistinct : List ℕ → Type 0
 AreDistinct [] = ⊤
 AreDistinct (x ∷ xs) = ¬ Contains xs x × AreDistinct xs
 
--- With the primary p and these backups a replication quorum has nothing behind. The others may be behind, or stopped.
+-- With the primary p and these backups a replication quorum lags in nothing. The others may lag, or be stopped.
 pub record IsLevel {F : Type 0} (hash : List ℕ → List ℕ) (w : World F) (p : ℕ) (backups : List ℕ) : Type 0 where
   pub replica : Replica
   pub disk : F

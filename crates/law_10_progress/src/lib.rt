@@ -16,12 +16,12 @@ pub fn furthest_members_take()
     ensures { FurthestMembersTake }
 {}
 
-/// So from a quorum that is whole a log is chosen, and its furthest member may take it.
+/// From a quorum that is whole a log is chosen, and its furthest member may take it.
 pub fn whole_quorums_decide<F>()
     ensures { WholeQuorumsDecide F }
 {}
 
-/// So its furthest member begins its view, once it is the primary of one and has heard enough of them.
+/// The furthest member of a quorum that is whole begins its view, once it is the primary of one and has heard enough of them.
 pub fn whole_quorums_begin<F>()
     ensures { WholeQuorumsBegin F }
 {}
@@ -32,7 +32,7 @@ pub fn heard_is_one_log()
     ensures { InEachRun HearsOneLog }
 {}
 
-/// So in every run a primary that has heard enough of a quorum that is whole, itself the furthest of them, begins its view when it tries.
+/// In every run a primary that has heard enough of a quorum that is whole, itself the furthest of them, begins its view when it tries.
 pub fn runs_begin()
     ensures { InEachRun BeginsByWhole }
 {}
@@ -42,8 +42,8 @@ pub fn a_new_quorum_begins<F>()
     ensures { ANewQuorumBegins F }
 {}
 
-/// A request is answered after 2 deliveries for each of replication - 1 backups, and no tick, where the primary of a view and these have nothing
-/// behind: it puts out the outcome of the request's operation. So it is in groups of every size, on files of either version, whatever else is
+/// A request is answered after 2 deliveries for each of replication - 1 backups, and no tick, where the primary of a view and these lag in
+/// nothing: it puts out the outcome of the request's operation. So it is in groups of every size, on files of either version, whatever else is
 /// under way, and whatever the other members do.
 pub fn requests_are_answered()
     ensures { RequestsAreAnswered }

@@ -1,6 +1,6 @@
 -- A member takes over the log of a view.
 -- Where it has the entry that the log has, its copy counts on; where it doesn't know what it had, it goes on as if it may have had the
--- entry; else it wants it. A member that is too far behind goes on from a later checkpoint (it jumps).
+-- entry; else it wants it. A member that lags too far goes on from a later checkpoint (it jumps).
 use Rattle.std.specs.Prelude.{List, ℕ, suc, ◌+◌, ◌≤◌, ◌<◌, ◌≡◌, false, Option, None, Some, ◌⊎◌}
 use Rattle.law_1_machine.specs.Parts.{Part, Here, Lost, Wanted, Nothing, header, denied}
 use Rattle.law_1_machine.specs.Members.{Memory}

@@ -1,5 +1,5 @@
-// Safety of Viewstamped Replication whose stores may lose what was written: pure specification, over any type of entry headers and
-// any sizes of quorums that fit. Each function is a law: its contract is the statement, and it does nothing.
+//! Safety of Viewstamped Replication whose stores may lose what was written: pure specification, over any type of entry headers and
+//! any sizes of quorums that fit. Each function is a law: its contract is the statement, and it does nothing.
 #![tactic(auto)]
 
 ghost use Rattle.law_1_machine.specs.Laws.{EachRunKeepsTheInvariant, NothingIsTakenBack, CommittedEntriesAgree, CommittedEntriesEndure, OnlyNackQuorumsShorten, KnownHeadersStay, StatesComeFromCommittedEntries, NothingBecomesCommittable, ChoicesAreSafe};

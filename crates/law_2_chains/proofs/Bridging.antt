@@ -413,7 +413,7 @@ cut_so P k es l cuts end =
           record { left = carried es l; stopped = end; member = y.member ∙ sym n.0; made = y.made ∙ ap (λ (ys : List Effect). l.made ++ made_in ys) (sym n.1) }
     ]
 
--- a cut among the first effects, and one behind them
+-- a cut among the first effects, and one after them
 cut_front : (k : ℕ) (xs ys : List Effect) (m : group.Member) → k < length xs → cut_after k (xs ++ ys) m ≡ cut_after k xs m
 unfolding carried_out
 cut_front k [] ys m l = absurd (omega arith)
@@ -587,7 +587,7 @@ module _ (u : Setup) (fits : Fits u) (hash : u.hash ≡ lying.hash) (g : group.G
             (λ o j. line_true u c.begun.sent c.finishes.after.sent (outputs x.script) (subst (Every (IsTrue u c.begun.sent c.finishes.after.sent)) (leaves x.script (local m)).said c.finishes.ends.told) o (outputs_take (k + 1) x.script (output.Commit o) j)),
       )
 
-  -- it is cut before it has vouched, or behind that
+  -- it is cut before it has vouched, or after that
   cuts_alone : u.quorums.n ≡ 1 → (at : ℕ) (a : Arrival) (e : Event) (d : Lying) (k : ℕ) (m : group.Member) (r : Replica) → slice_get g.members at ≡ Some m → m.replica ≡ Some r → IsFitArrival a → IsArrival g at a e → CutsSo at a e d k m r
   cuts_alone alone at a e d k m r there runs h i =
       let c = (lone_of alone at a e d m r there runs h i).chain in

@@ -6,7 +6,7 @@ pub fn moves_are_chains()
     ensures { MovesAreChains }
 {}
 
-/// So is each run of such a group, move by move.
+/// Each run of a group that the machine's group stands for is a chain of the machine's moves, move by move, and leaves such a group.
 pub fn runs_are_chains()
     ensures { RunsAreChains }
 {}

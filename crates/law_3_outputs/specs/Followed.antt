@@ -137,7 +137,7 @@ pub record IsCarried (cluster : ℕ) (u : Setup) (run : List Played) (before aft
   -- nothing else was sent, but for what counts from the beginning of the next move on; and only what was written was made
   pub only : (m : Message Header) → In m after.sent → In m before.sent ⊎ (IsSaid u p.moved.outputs m ⊎ In m (own_vouches u (stored_of p ++ stored_from p.moved.group [])))
   pub made : (x : Made Header) → In x after.made → In x before.made ⊎ In x.entry (made_in p.moved.script)
-  -- behind a commit line all that the replica of a step has committed at its end is so by what counts
+  -- after a commit line all that the replica of a step has committed at its end is so by what counts
   pub served : (line number : ℕ) (c : Line) → line < number → slice_get p.moved.outputs line ≡ Some (output.Commit c) → ServesWell u p.before p.move (by_then u before p number)
   -- each commit line that it began to put out is of an entry that is committed in the machine
   pub lines : (c : Line) → In (output.Commit c) (outputs p.moved.script) → IsBackedLine u after.sent c.entry.header

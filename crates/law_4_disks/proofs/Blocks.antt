@@ -106,7 +106,7 @@ goes_made : (r : Run) (address : ℕ) (bytes : List ℕ) → 0 < address → add
 unfolding goes_to data_content
 goes_made r address bytes some l are s = record { blocks = (content_good (data_content r address bytes) l (omega arith) are s, tt); payload = record { sum = name_made (data_content r address bytes); some = some; few = l } }
 
--- a place of a payload is an address behind the root's first
+-- a place of a payload is an address after the root's first
 pub placed : (low address : ℕ) → IsLower low → low ≢ 0 → AtPlace low address → (0 < address) × (address < grid_size)
 placed low address l some at =
     let few = at_within low address l at in (

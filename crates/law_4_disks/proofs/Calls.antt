@@ -178,11 +178,11 @@ reserved_written ver home zero i is room l = tt
 reserved_written ver home (suc n) i is room l =
     ((omega (arith, l), sector_content (reserved_header ver home i) (reserved_is ver home i is room (omega (arith, l)))), reserved_written ver home n (i + 1) is room (omega (arith, l)))
 
--- the prepares of all slots, one behind the other
+-- the prepares of all slots, one after the other
 pub prepares_fit : (ver : ℕ) → prepare_place ver 0 + 64 * prepare_sectors ver ≤ sectors
 prepares_fit ver = elim (eqb ver 2) as (λ t. cond t 1424 144 + 64 * cond t 8 4 ≤ sectors) [ true ↦ omega arith | false ↦ omega arith ]
 
--- the calls of a formatting, one part behind the other
+-- the calls of a formatting, one part after the other
 pub format_is : (kind : Kind) (home n i : ℕ)
     → format_calls kind home n i ≡ zero_prepares kind.version ++ (reserved_headers kind.version home ++ Sync ∷ save_from 0 4 (copy_bytes (first_value kind home n i)))
 unfolding format_calls

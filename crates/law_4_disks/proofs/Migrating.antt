@@ -135,7 +135,7 @@ same_settled d x s =
       version = version;
     }
 
--- calls behind others
+-- calls after others
 after_later : (cs ds : List Call) (d : Lying) → Same (after_calls (after_calls d cs) ds) (after_calls d (cs ++ ds))
 after_later cs ds d = record {
   face = after_all_append cs ds d.face;
@@ -256,7 +256,7 @@ module _ (v : SuperValue) (d : Lying) (m : Member) (o : IsOff d m v) (first : v.
         )
       ]
 
-  -- ---- all calls, one behind the other
+  -- ---- all calls, one after the other
 
   all_calls : migration_calls v d.face ≡ mend_calls v d.face ++ (slot_calls mid.face ++ saves)
   all_calls = rw first refl

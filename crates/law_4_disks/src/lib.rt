@@ -13,7 +13,7 @@ pub fn effects_stay()
     ensures { EffectsStay }
 {}
 
-/// So does one that is cut at one of its calls.
+/// An effect that is cut at one of its calls leaves the disk beside the member.
 pub fn effects_cut()
     ensures { EffectsCut }
 {}
@@ -28,12 +28,12 @@ pub fn scripts_cut()
     ensures { ScriptsCut }
 {}
 
-/// The same of a script that begins with a mending, from a stopped member.
+/// A script that begins with a mending, from a stopped member, leaves the disk beside the member where it is carried out.
 pub fn openings_stay()
     ensures { OpeningsStay }
 {}
 
-/// And of its stops.
+/// A stop at any call of a script that begins with a mending is a stop within one of its effects.
 pub fn openings_cut()
     ensures { OpeningsCut }
 {}
@@ -63,7 +63,7 @@ pub fn steps_chain<F>()
     ensures { StepsChain F }
 {}
 
-/// So does what comes of an opening.
+/// What an opening saves follows what its replica saved last, and the replica knows it.
 pub fn openings_chain<F>()
     ensures { OpeningsChain F }
 {}
@@ -78,7 +78,7 @@ pub fn entries_tell()
     ensures { EntriesTell }
 {}
 
-/// And a copy with the name of a value has its text.
+/// Where names don't collide, a copy with the name of a value has its text.
 pub fn values_tell()
     ensures { ValuesTell }
 {}

@@ -42,7 +42,7 @@ zeros_behind xs n p =
           get_or-append_right xs (replicate n 0) (length xs) p 0 refl g ∙ (z ∙ sym (get_or_past xs p 0 g))
     ]
 
--- behind the first 128 bytes there is the payload, and zeros
+-- after the first 128 bytes there is the payload, and zeros
 block_at : (c : Content) (p : ℕ) → get_or (block_bytes c) (128 + p) 0 ≡ get_or c.payload p 0
 unfolding block_bytes
 block_at c p =
@@ -96,7 +96,7 @@ headless_both (c ∷ cs) ds a b = (a.0, headless_both cs ds a.1 b)
 
 -- ---- blocks
 
--- the sectors behind the first of a block are so
+-- the sectors after the first of a block are so
 abbrev pub IsLater : (List ℕ → Type 0) → Block → Type 0
 IsLater S x = (c : Content) × (x ≡ block_of c) × ((j : ℕ) → j < 7 → S (piece (0 + 512 * suc j) 512 (block_bytes c)))
 

@@ -9,7 +9,7 @@ use Rattle.law_5_seals.proofs.Begins.{Begins, Covers, covers, first, prior}
 use Rattle.law_5_seals.proofs.Keys.{IsPrinted}
 use Rattle.law_5_seals.proofs.Marks.{IsLow}
 
--- a session's text by its form: client, request and op in twenty bytes, and the outcome behind them
+-- a session's text by its form: client, request and op in twenty bytes, and the outcome after them
 pub record IsForm (x : List ℕ) : Type 0 where
   pub long : 21 ≤ length x
   pub high : get_or x 12 0 ≤ 64

@@ -50,7 +50,7 @@ pub record IsClear (t : List ℕ) : Type 0 where
 none_clear : IsClear []
 none_clear = record { one = λ q e m a b. omega (arith, e); other = λ q e a. omega (arith, e) }
 
--- a length and two bytes of another one, and texts behind them
+-- a length and two bytes of another one, and texts after them
 module _ (n high low : ℕ) (text rest : List ℕ) (small : n ≤ 64) (some : 1 ≤ high + low) (few : high < 253) (long : 1 ≤ length text) (p : (i : ℕ) → i < length text → IsPrinted (get_or text i 0)) (c : IsClear rest) where
   abbrev whole : List ℕ
   whole = n ∷ high ∷ low ∷ (text ++ rest)
@@ -111,7 +111,7 @@ pub pairs_clear : (m : kv.Map) → AllByRecursion Fits m → IsClear (flat_map p
 pairs_clear [] h = none_clear
 pairs_clear (e ∷ es) h = pair_clear e (flat_map pair_text es) h.0 (pairs_clear es h.1)
 
--- behind the two bytes of its count
+-- after the two bytes of its count
 pub keys_at : (m : kv.Map) (q : ℕ) → 2 ≤ q → get_or (kv_text m) q 0 ≡ get_or (flat_map pair_text m) (q - 2) 0
 unfolding table_text bytes16
 keys_at m zero l = absurd (omega (arith, l))

@@ -1,4 +1,4 @@
--- No header of an entry begins behind the first sector of a root's block: at the places of the header's zeros, or of its command, there stand an address of the grid or zeros.
+-- No header of an entry begins after the first sector of a root's block: at the places of the header's zeros, or of its command, there stand an address of the grid or zeros.
 use Rattle.std.proofs.Common.{ℕ, zero, suc, ◌+◌, ◌-◌, ◌*◌, ◌<◌, ◌≤◌, ◌≡◌, inl, inr, arith, refl, sym, ap, ◌∙◌, List, [], ◌∷◌, ◌++◌, length, drop, get_or, append_assoc}
 use Rattle.std.specs.List.{AllByRecursion}
 use Rattle.std.proofs.lemmas.Bool.{cases_lt}
@@ -35,7 +35,7 @@ names_long (p ∷ ps) h =
     let rest = names_long ps h.1 in
     omega (arith, x, y, z, w, rest)
 
--- behind the first name
+-- after the first name
 next_name : (p : Payload) (ps : List Payload) (q : ℕ) → HasPlace p → get_or (names_bytes (p ∷ ps)) (24 + q) 0 ≡ get_or (names_bytes ps) q 0
 unfolding names_bytes
 next_name p ps q h =
@@ -109,14 +109,14 @@ module _ (op s k : ℕ) (t : PayloadTable) where
     abbrev sector : ℕ → List ℕ
     sector j = piece (0 + 512 * suc j) 512 (block_bytes c)
 
-    -- what stands in a sector behind the first one
+    -- what stands in a sector after the first one
     byte_at : (j i q : ℕ) → i < 512 → 512 * j + 384 + i ≡ 18 + q → get_or (sector j) i 0 ≡ get_or (names_bytes all) q 0
     byte_at j i q l e = later_at c j i l ∙ (ap (λ b. get_or b (512 * j + 384 + i) 0) is ∙ (ap (λ n. get_or (root_payload op s k t) n 0) e ∙ root_at q))
 
     no_command : (j : ℕ) → get_or (sector j) 108 0 ≡ 0 → IsMarkless (sector j)
     no_command j e = (λ m. (let x = m.command in omega (arith, e, x)), λ m. (let x = m.command in omega (arith, e, x)))
 
-    -- the command stands in the name behind an address that ends where the header has two zeros
+    -- the command stands in the name after an address that ends where the header has two zeros
     at_zeros : (j r i : ℕ) → i < 112 → 512 * j + 384 + i ≡ 18 + (24 * r + 6) → ((f : ℕ → ℕ) → Marked f (sector j) → (get_or (sector j) i 0 ≡ f 0) × (get_or (sector j) (i + 1) 0 ≡ f 0)) → IsMarkless (sector j)
     at_zeros j r i l at zeros =
         elim (cases_lt r (length all)) [

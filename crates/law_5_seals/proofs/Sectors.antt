@@ -36,7 +36,7 @@ use Rattle.law_5_seals.proofs.Turning.{headed_sealed, plain_sealed}
 
 -- ---- bytes of texts
 
--- a byte of a text, or behind its end
+-- a byte of a text, or after its end
 abbrev pub IsPlain : ℕ → Type 0
 IsPlain x = (x ≡ 0) ⊎ ((33 ≤ x) × (x ≤ 126))
 
@@ -205,7 +205,7 @@ blank_of b e =
     let s = and_parts modes (is_zeros (piece 94 34 b) && rest) r.1 in
     (and_parts (is_zeros (piece 94 34 b)) rest s.1).0
 
--- the bytes behind the fields, from a header of the list on, or behind them all
+-- the bytes after the fields, from a header of the list on, or after them all
 module _ (cluster : ℕ) (made : List Header) (v : SuperValue) (g : IsGood v) (are : IsBytes (copy_bytes v)) (m : AllByRecursion (λ h. In h made) v.headers) where
   abbrev hs : List Header
   hs = v.headers
@@ -216,7 +216,7 @@ module _ (cluster : ℕ) (made : List Header) (v : SuperValue) (g : IsGood v) (a
   size : length (copy_bytes v) ≡ 10240
   size = length-copy_bytes v g
 
-  -- behind the list there are zeros
+  -- after the list there are zeros
   past_list : (i : ℕ) → 128 * length hs ≤ i → IsPlain (get_or (tail_bytes v) i 0)
   unfolding zeros
   past_list i l =
@@ -226,7 +226,7 @@ module _ (cluster : ℕ) (made : List Header) (v : SuperValue) (g : IsGood v) (a
   tail_at : (i : ℕ) → 128 ≤ i → get_or (copy_bytes v) i 0 ≡ get_or (tail_bytes v) (i - 128) 0
   tail_at i l = let e : i ≡ 128 + (i - 128) = omega (arith, l) in ap (λ k. get_or (copy_bytes v) k 0) e ∙ (sym (get_or-drop 128 (copy_bytes v) (i - 128) 0) ∙ ap (λ b. get_or b (i - 128) 0) (behind_copy v g.numbers))
 
-  -- byte 110 is one of the zeros behind the fields
+  -- byte 110 is one of the zeros after the fields
   blank : get_or (copy_bytes v) 110 0 ≡ 0
   blank =
       let zeros_there = blank_of (copy_bytes v) (closed_of (copy_bytes v) v (value_again v g)) in

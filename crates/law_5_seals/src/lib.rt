@@ -14,12 +14,12 @@ pub fn slots_are_sealed()
     ensures { SlotsAreSealed }
 {}
 
-/// So is a value of the superblock that names what was made.
+/// A value of the superblock that names what was made is written in sealed sectors.
 pub fn values_are_sealed()
     ensures { ValuesAreSealed }
 {}
 
-/// So are the prepares of a sealed disk of version 1, as a migration writes them at their new places.
+/// The prepares of a sealed disk of version 1 are sealed as a migration writes them at their new places.
 pub fn moves_are_sealed()
     ensures { MovesAreSealed }
 {}
@@ -29,8 +29,8 @@ pub fn checkpoints_are_headless()
     ensures { CheckpointsAreHeadless }
 {}
 
-/// Nor does a sector of the blocks of sessions that come of entries, by their form, wherever in the sector one of them ends and another
-/// begins.
+/// No sector of the blocks of sessions that come of entries begins with such a header, by their form, wherever in the sector one session ends
+/// and another begins.
 pub fn sessions_are_headless()
     ensures { SessionsAreHeadless }
 {}

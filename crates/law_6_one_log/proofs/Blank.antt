@@ -105,7 +105,7 @@ module _ (kind : Kind) (n i : ℕ) where
   count : length fresh_face.cells ≡ sectors
   count = length_after_all (format_calls kind 0 n i) zero_face ∙ length-replicate sectors zero_cell
 
-  -- what reads behind the header sectors is zeros
+  -- what reads after the header sectors is zeros
   all_zero : (k s : ℕ) (b : List ℕ) → 144 ≤ s → s + k ≤ sectors → together s k fresh_face ≡ Some b → b ≡ zeros k
   unfolding together
   all_zero zero s b l m r = let same : [] ≡ b = cc in sym same

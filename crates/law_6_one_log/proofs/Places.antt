@@ -53,7 +53,7 @@ pub record Placed (run : List Played) (i : ℕ) (o : Output) : Type 0 where
   pub is : IsOutput run move number moved o
   pub same : (before run move number moved).outputs ≡ take i (run_outputs run)
 
--- in these, or behind them
+-- in these, or after them
 data Split {X : Type 0} (xs ys : List X) (i : ℕ) (x : X) : Type 0 where
   here : slice_get xs i ≡ Some x → take i xs ≡ take i (xs ++ ys) → Split xs ys i x
   there : (j : ℕ) → slice_get ys j ≡ Some x → xs ++ take j ys ≡ take i (xs ++ ys) → Split xs ys i x

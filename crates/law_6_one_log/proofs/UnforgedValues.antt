@@ -1,5 +1,5 @@
 -- The headers that values name are of entries that were begun to be written: of the values of each member, and of each that a script saves.
--- And no head is greater than the count of entries that were made, at most one by a move.
+-- No head of a value is greater than the count of entries that were made, at most one by a move.
 use Rattle.vr_base.specs.declared.kind.Kind.{Kind}
 use Rattle.std.proofs.Common.{ℕ, zero, suc, ◌+◌, ◌-◌, ◌^◌, ◌≤◌, ◌<◌, ◌≡◌, inl, inr, arith, refl, sym, ap, ◌∙◌, subst, Bool, cond, List, [], ◌∷◌, ◌++◌, length, take, drop, Option, Some, None}
 use Rattle.std.specs.Prelude.{All, slice_get}

@@ -12,12 +12,12 @@ pub fn replicas_have_one_log()
     ensures { ReplicasHaveOneLog }
 {}
 
-/// So is whatever happens to a group that was just made, of any number, on disks that lie within their premise.
+/// Whatever happens to a group that was just made, of any number, on disks that lie within their premise, keeps one log.
 pub fn worlds_keep_one_log()
     ensures { WorldsKeepOneLog }
 {}
 
-/// So is what happens on a schedule: its commit lines are of one log, and what its messages commit is of one log.
+/// What happens on a schedule keeps one log: its commit lines are of it, and so is what its messages commit.
 pub fn schedules_keep_one_log()
     ensures { SchedulesKeepOneLog }
 {}

@@ -38,8 +38,8 @@ pub fn some_schedule_may()
     ensures { SomeScheduleMay }
 {}
 
-/// And of one in which an entry is made: the names of the three texts that are hashed in it, the root's, the entry's and its operation's,
-/// are computed, and differ.
+/// All that is asked holds of some schedule in which an entry is made: the names of the three texts that are hashed in it, the root's, the
+/// entry's and its operation's, are computed, and differ.
 pub fn some_entry_may()
     ensures { SomeEntryMay }
 {}

@@ -80,7 +80,7 @@ ended c file arrival node left d' (inr s) tells rests own =
 script_stays : (es : List Effect) (file : Lying) → file.face.waiting ≡ [] → (after_all lying file es).face.waiting ≡ []
 script_stays es file rests = ap (λ (f : Face). f.waiting) (face_all es file) ∙ script_rests file.version es file.face rests
 
--- the file behind them
+-- the file after them
 record IsReached (c : Config) (last : Node) (left : Option Disk) (file : Lying) : Type 0 where
   tells : TellsFace left file.face
   rests : file.face.waiting ≡ []

@@ -27,7 +27,7 @@ use Rattle.law_4_disks.proofs.Effects.{synced}
 use Rattle.law_7_members.specs.Whole.{making}
 use Rattle.law_7_members.proofs.Making.{saves_rest}
 
--- where nothing waits before these calls, nothing waits behind them
+-- where nothing waits before these calls, nothing waits after them
 abbrev pub Rests : List Call → Face → Type 0
 Rests cs f = f.waiting ≡ [] → (after_all f cs).waiting ≡ []
 

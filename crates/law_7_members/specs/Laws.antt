@@ -52,7 +52,7 @@ NodesKeepOneLog =
     (kinds : ℕ → Kind) (cluster n : ℕ) (xs : List ActBy) (h : Happened Lying) → AreKinds kinds n → cluster < 2 ^ 64 → 1 ≤ n → n ≤ 6 → length xs < 2 ^ 46 → files.AtWork cluster (first_world kinds cluster n) xs h
     → NoCollision (IsHashedOf cluster (first_world kinds cluster n) (all_lines xs)) → KeepsLog kinds cluster n h
 
--- And it leaves the members so that each that is stopped is found as it may be, on whatever tells its file.
+-- What befalls such members leaves each that is stopped so that it is found as it may be, on whatever tells its file.
 pub record AreFound (kinds : ℕ → Kind) (cluster n : ℕ) (h : Happened Lying) : Type 0 where
   pub matched : IsMatched (fresh_group kinds cluster n) h
   pub each : (at : ℕ) (m : Host Lying) (d : Disk) → slice_get h.world.members at ≡ Some m → m.replica ≡ None → d.face ≡ m.disk.face → IsFoundAgain (left (fresh_group kinds cluster n) matched.run) at d

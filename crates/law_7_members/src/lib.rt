@@ -10,7 +10,7 @@ ghost use Rattle.law_7_members.specs.Runs.{RunsAreDeeds};
 ghost use Rattle.law_7_members.specs.Whole.{MakingsLeaveUnfinished, RunsAreAtWork, RunsKeepOneLog, ZerosBeginTheFirst};
 
 /// What a run of a member's program comes to, however it ends: whole steps, each on the disk that the one before left, at most one that
-/// stopped behind them, and a front of their text.
+/// stopped after them, and a front of their text.
 pub fn runs_are_deeds()
     ensures { RunsAreDeeds }
 {}
@@ -52,7 +52,7 @@ pub fn runs_are_at_work()
     ensures { RunsAreAtWork }
 {}
 
-/// So they are one run of the group, and keep one log.
+/// Whole runs of the programs of a group's members are one run of the group, and keep one log.
 pub fn runs_keep_one_log()
     ensures { RunsKeepOneLog }
 {}
@@ -63,7 +63,7 @@ pub fn found_runs_end()
     ensures { FoundRunsEnd }
 {}
 
-/// So does a run that made its member.
+/// A run that made its member ends, however it does, by an act, and what it leaves is what the next attach of the file tells.
 pub fn made_runs_end()
     ensures { MadeRunsEnd }
 {}
@@ -73,13 +73,13 @@ pub fn openings_halt()
     ensures { OpeningsHalt }
 {}
 
-/// So any run that makes nothing anew, however it ends, left its file alone, or as an opening that is cut, or is one of those that a member's acts
+/// Any run that makes nothing anew, however it ends, left its file alone, or as an opening that is cut, or is one of those that a member's acts
 /// tell of, and an act that ends it.
 pub fn node_runs_are_acts()
     ensures { NodeRunsAreActs }
 {}
 
-/// And a run that was to make its member left a file on which the next one may make it, or made it and ended by an act.
+/// A run that was to make its member left a file on which the next one may make it, or made it and ended by an act.
 pub fn making_runs_are_acts()
     ensures { MakingRunsAreActs }
 {}
@@ -94,12 +94,12 @@ pub fn files_open_as_own()
     ensures { FilesOpenAsOwn }
 {}
 
-/// So any next run of a member's program on its file is acts that go on from what was left.
+/// Any next run of a member's program on its file is acts that go on from what was left.
 pub fn next_runs_are_acts()
     ensures { NextRunsAreActs }
 {}
 
-/// So is any next run of the migration.
+/// Any next run of the migration on a member's file is acts that go on from what was left.
 pub fn next_migrations_are_acts()
     ensures { NextMigrationsAreActs }
 {}

@@ -126,7 +126,7 @@ module _ {F : Type 0} where
   low_before : Low {F = F} (leave_view ⨾ says start_line)
   low_before = low_then _ _ low_leave (low_says start_line)
 
-  -- and behind it
+  -- and after it
   standing_announce : Standing {F = F} announce
   standing_announce = standing_by _ (λ r. standing_when (not (is_started r)) _ (standing_then _ _ (standing_change heard_itself (λ q. refl)) (standing_by _ (λ q. standing_when _ _ (standing_says _)))))
 

@@ -42,7 +42,7 @@ place_within r =
     ] in
     go (nat_lt r.cursor (words.places r)) refl
 
--- a cursor that stands behind a slot has come from it
+-- a cursor that stands after a slot has come from it
 came_from : (at n slot : ℕ) → at < n → (at + 1) % n ≡ slot + 1 → at ≡ slot
 came_from at n slot l e =
     elim (cases_lt (at + 1) n) [

@@ -163,7 +163,7 @@ module _ {F : Type 0} (s : Setting F) (Fine : F → Type 0) (store : Stores s Fi
             (there.0, same_read s Fine store x f g slot ∙ there.1)
       ]
 
-  -- ---- applying behind it
+  -- ---- applying after it
 
   applied_taken : (e : Whole) (r : Replica) (f g : F) → LacksEntries s r f → Fine g → IsSound (stored e r) → AllRead s (stored e r) g → r.checkpoint < e.header.op → e.header.op ≤ r.commit
       → Taken e.header.op r (apply s (stored e r) g).replica (after_all s g (apply s (stored e r) g).script)

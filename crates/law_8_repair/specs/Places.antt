@@ -54,8 +54,8 @@ pub record IsInPlace (r : Replica) : Type 0 where
 abbrev pub StaysInPlace : Replica → Type 0
 StaysInPlace r = is_spent r ≡ false → IsInPlace r
 
--- So a replica begins, and so it goes on, whatever comes: where its disk, and a block that comes, consist of bytes.
--- And then its blocks are laid out.
+-- A replica begins with its checkpoint in place, and stays so, whatever comes: where its disk, and a block that comes, consist of bytes.
+-- The blocks of a replica whose checkpoint is in place are laid out.
 pub record PlacesStay {F : Type 0} (s : Setting F) (face : F → Face) : Type 0 where
   pub fresh : (kind : Kind) (cluster n index : ℕ) → IsInPlace (fresh kind cluster n index)
   pub openings : (f : F) (v : SuperValue) → IsFace (face f) → IsGood v → StaysInPlace (opening v s (blank v) f).replica

@@ -40,7 +40,7 @@ abbrev pub ClientsWriteWhatTheyHear : Type 0
 ClientsWriteWhatTheyHear =
     (c : Client) (peers : List (List ℕ)) (o o' : client.Outside) (before now : ask.Faults) (status : Status) (h : ClientEnds c peers o o' before now status) → AppendsFront o.taken o'.taken (lines_of (heard_client c peers o o' before now status h))
 
--- So does a trial, beside the lines of members that start and stop, step by step.
+-- What a trial writes is the lines of what it heard, beside those of members that start and stop, step by step.
 abbrev pub TrialsWriteWhatTheyHear : Type 0
 TrialsWriteWhatTheyHear =
     (t : Trial) (o o' : trial.Outside) (before now : trial.Faults) (status : Status) (h : TrialEnds t o o' before now status) → AppendsFront o.taken o'.taken (lines_trial t o o' before now status h)

@@ -18,7 +18,7 @@ WorldsKeepOrder =
     (kinds : ℕ → Kind) (cluster n : ℕ) (xs : List Happening) → AreKinds kinds n → cluster < 2 ^ 64 → 1 ≤ n → n ≤ 6 → length xs < room cluster → AllByRecursion IsLine xs → NoCollision (IsHashedOf cluster (first_world kinds cluster n) xs)
     → (k : KeepsLog kinds cluster n (happen hazards (first_world kinds cluster n) xs)) × KeepsOrder (first_world kinds cluster n) k.safe.log xs
 
--- So does the group that a schedule begins, over each list of fewer than 2^60 lines that may happen to it.
+-- The group that a schedule begins keeps one log, which has the order of the lines: over each list of fewer than 2^60 lines that may happen to it.
 abbrev pub SchedulesKeepOrder : Type 0
 SchedulesKeepOrder =
     (kind : Kind) (n : ℕ) (xs : List Happening) → IsKind kind → least_members kind.version ≤ n → n ≤ 6 → length xs < 2 ^ 60 → MayAll (fresh_world hazards kind n) xs

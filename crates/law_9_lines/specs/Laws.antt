@@ -19,7 +19,7 @@ LinesKeepOrder kind n lines =
     NoCollision (IsHashed (fresh_world hazards kind n) (happenings lines))
     → (k : KeepsOneLog kind n (happen hazards (fresh_world hazards kind n) (happenings lines))) × KeepsOrder (fresh_world hazards kind n) k.safe.log (happenings lines)
 
--- of the lines that are played: those behind the first and before the first that is refused
+-- of the lines that are played: those after the first and before the first that is refused
 abbrev pub ScheduleKeepsOrder : Schedule → Type 0
 ScheduleKeepsOrder s = 0 < s.n → LinesKeepOrder s.kind s.n s.lines
 

@@ -46,7 +46,7 @@ none_is : (before after : List Moment) (m : Moment) → [] ≡ before ++ (m ∷ 
 none_is [] after m e = cc
 none_is (x ∷ before) after m e = cc
 
--- the rest of it, behind its first moment
+-- the rest of it, after its first moment
 rest_of : (m : Moment) (before h : List Moment) → Carries before (m ∷ h) → Carries (before ++ m ∷ []) h
 rest_of (Asks by q) before h c = c
 rest_of (Hears by t) before h c = c.1

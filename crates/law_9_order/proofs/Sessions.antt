@@ -154,7 +154,7 @@ module _ (log : List Whole) (once : IsOnceInSession log) (each : HasOneSessionEa
       let whole : log ≡ (before ++ d ∷ []) ++ (between ++ (e ∷ later)) = is ∙ (append_assoc before (d ∷ between) (e ∷ later) ∙ sym (append_assoc before (d ∷ []) (between ++ (e ∷ later)))) in
       each c (before ++ d ∷ []) (between ++ (e ∷ later)) whole (begun_then before d first) (subst (λ (xs : List Whole). begins_session c s xs ≡ true) tail more)
 
-  -- an entry behind another one
+  -- an entry after another one
   record Parts (i j : ℕ) (xs : List Whole) (d e : Whole) : Type 0 where
     between : List Whole
     later : List Whole

@@ -11,7 +11,7 @@ pub fn runs_keep_order()
     ensures { RunsKeepOrder }
 {}
 
-/// So what clients ask and hear over a network that forges neither requests nor outcomes has the order of the log: each outcome is the plain
+/// What clients ask and hear over a network that forges neither requests nor outcomes has the order of the log: each outcome is the plain
 /// machine's at its place there, all up to that place was asked by then, and what was heard before another request was asked stands before it.
 /// Where each client has a number of its own, and none begins a second session in the log, each outcome is of the operation that was asked, each
 /// request is executed at most once, and the history is linearizable. Else one client may hear the outcome of another one's operation, or a late
@@ -20,8 +20,8 @@ pub fn histories_are_linearizable()
     ensures { HistoriesAreLinearizable }
 {}
 
-/// So are whole runs of `client` and of `trial` among those of the members, over a network that brings no request that nobody asked and no reply
-/// that no member put out. Where a program's client number is its own, each outcome that it hears is of the operation that it asked; where each one's
+/// Whole runs of `client` and of `trial`, among those of the members, have the order of the log too: over a network that brings no request that
+/// nobody asked and no reply that no member put out. Where a program's client number is its own, each outcome that it hears is of the operation that it asked; where each one's
 /// is, and none begins a second session, it is linearizable.
 pub fn programs_are_linearizable()
     ensures { ProgramsAreLinearizable }

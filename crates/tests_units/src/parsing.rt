@@ -10,7 +10,7 @@ fn reads(rt: &impl Abort, alloc: Global, line: &[u8], want: Line) {
     reads_of(rt, alloc, Version::new(1), line, want);
 }
 
-/// The same of a version.
+/// What a line of a group of three of this version is read as.
 fn reads_of(rt: &impl Abort, alloc: Global, version: Version, line: &[u8], want: Line) {
     let read = parse_line(alloc, 3, line, version);
     assert_eq!(rt; read, Ok(want), "at {line:?}");
@@ -22,7 +22,7 @@ fn refused(rt: &impl Abort, alloc: Global, version: Version, line: &[u8]) {
     assert_eq!(rt; read, Err(LineFault::NotALine), "at {line:?}");
 }
 
-/// Nor is it one of the other version.
+/// It is a line of neither version.
 fn refused_by_both(rt: &impl Abort, alloc: Global, line: &[u8]) {
     refused(rt, alloc, Version::new(1), line);
     refused(rt, alloc, Version::new(2), line);

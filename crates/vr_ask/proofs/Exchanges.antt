@@ -174,7 +174,7 @@ stops_later c number r s r' s' b m n status l w (inl x) = inl x
 stops_later c number r s r' s' b m n status l w (inr e) =
     inr (record { line = e.line; operation = e.operation; read = e.read; meant = e.meant; ends = ends_later c number e.operation s s' b m n status (omega (arith, l)) (omega (arith, w)) e.ends })
 
--- a line behind the last one that may be is refused
+-- a line after the last one that may be is refused
 pub one_too_many : (version : ℕ) (r r' : Reading) (operation : Operation) → Hears version (limit + 1) r r' (Ok operation) → ⊥
 one_too_many version r r' operation h = omega (arith, h.1)
 

@@ -18,7 +18,7 @@ use Rattle.vr_status.specs.Counts.{reads_after}
 use Rattle.vr_status.specs.declared.status.Status.{Status}
 use Rattle.vr_status.specs.declared.status.Status.TheVariants.{Done, Refused, ReadFault, LinkFault, NoMemory}
 
--- what a source has: bytes that were read and not handed out, and what is left behind them
+-- what a source has: bytes that were read and not handed out, and what is left after them
 pub record Reading : Type 0 where
   pub rest : List ℕ
   pub left : Option (List ℕ)

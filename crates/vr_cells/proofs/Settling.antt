@@ -38,7 +38,7 @@ settle_step code kept ws i d xs x l n o h =
     ∙ (ap (settled (code / 3) (waiting_of kept xs rest)) (sym (map-set room_of xs at x))
     ∙ ap (λ r. settled (code / 3) r (map room_of (set xs at x))) (sym (apart kept xs at x rest alone))))
 
--- none of those behind waits twice
+-- none of those after waits twice
 pub once_behind : (kept : List MemKept) (ws : List MemWaiting) (i : ℕ) (d : MemWaiting) (xs ys : List MemRoom) → i < length ws → once (waiting_of kept xs (drop i ws)) ≡ true → once (waiting_of kept ys (drop (i + 1) ws)) ≡ true
 once_behind kept ws i d xs ys l o =
     let rest = drop (suc i) ws in

@@ -186,7 +186,7 @@ pub record AreRooms (m : MemRooms) : Type 0 where
 abbrev pub is_in_room : MemWaiting → Bool
 is_in_room w = is_none w.kept
 
--- right behind a place, 0 where there is none
+-- right after a place, 0 where there is none
 abbrev pub place_end : Option ℕ → ℕ
 place_end None = 0
 place_end (Some place) = place + 1

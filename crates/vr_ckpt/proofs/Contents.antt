@@ -58,7 +58,7 @@ header_is c h =
       aux = omega arith;
     }
 
--- what stands behind the header
+-- what stands after the header
 behind_header : (c : Content) → IsContent c → drop 128 (block_bytes c) ≡ c.payload ++ replicate (3968 - length c.payload) 0
 unfolding block_bytes
 behind_header c h = drop_at (header_bytes (block_header c)) _ 128 (length-header_bytes (block_header c) (header_is c h))

@@ -67,11 +67,11 @@ block_of c = record { name = block_name c; bytes = block_bytes c }
 
 -- ---- the content of bytes
 
--- what stands behind a header
+-- what stands after a header
 abbrev pub content_at : Header → List ℕ → Content
 content_at h bytes = record { cluster = h.cluster; address = h.aux; op = h.op; kind = h.kind; payload = piece 128 (h.size - 128) bytes }
 
--- the header is that of what stands behind it, and zeros fill the rest
+-- the header is that of what stands after it, and zeros fill the rest
 unfoldable pub is_block : Header → List ℕ → Bool
 is_block h bytes =
     nat_le h.size 4096 && (is_kind h.kind && (nat_lt h.aux grid_size && (is_zeros (drop h.size bytes) && same_header h (block_header (content_at h bytes)))))

@@ -33,7 +33,7 @@ fn is_over<D: SectorDisk>(disk: &mut D, h: &Header, payload: &[u8]) -> bool
     *h == header_over(h.cluster, h.aux, h.op, h.kind, payload, body)
 }
 
-// The header is that of the payload behind it.
+// The header is that of the payload after it.
 #[tactic(auto, unfolding(crate::specs::Blocks::is_block, vr_base::specs::Bytes::piece, vr_header::specs::Same::same_header))]
 fn is_block<D: SectorDisk>(disk: &mut D, h: &Header, bytes: &[u8]) -> bool
     requires { length bytes.now ≡ 4096 }
@@ -63,7 +63,7 @@ fn has_name(h: &Header, bytes: &[u8], name: &Name) -> bool
     h.aux == name.address && sum_at(bytes, 0) == name.sum
 }
 
-// The length of the payload, where the header is that of the payload behind it and has the name.
+// The length of the payload, where the header is that of the payload after it and has the name.
 fn payload_behind<D: SectorDisk>(
     disk: &mut D,
     h: Header,

@@ -16,7 +16,7 @@ use vr_state::Texts;
 /// The bytes of the numbers at the front of a root's payload.
 const FRONT: usize = 18;
 
-/// The bytes of a name behind them: an address and a sum.
+/// The bytes of a name after them: an address and a sum.
 const NAME: usize = 24;
 
 /// The bytes of an address.

@@ -59,7 +59,7 @@ pub record HearsOnce {L : Type 0} (l : of_link.Ghosts L) (name : Sum) (c c' : Cl
   pub sent : l.sent link' ≡ l.sent link
   pub attached : l.attached link' ≡ l.attached link
 
--- A turn was taken behind so many others, or its receive failed.
+-- A turn was taken after so many others, or its receive failed.
 pub record TakesTurn {L : Type 0} (l : of_link.Ghosts L) (name : Sum) (turns done : ℕ) (c c' : ClientCore) (link link' : L)
     (result : Result (Option Answer) AskFault) : Type 0 where
   pub core : Keeps c c'

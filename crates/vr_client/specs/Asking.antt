@@ -82,7 +82,7 @@ go_on_port n turns done port = if is_due turns done then (port + 1) % n else por
 abbrev pub go_on_to : ℕ → ℕ → ℕ → ℕ → List ℕ
 go_on_to n turns done port = if is_due turns done then (port + 1) % n ∷ [] else []
 
--- the port after a turn without an answer, behind so many turns
+-- the port after a turn without an answer, after so many turns
 abbrev pub port_after : Ask → ℕ → ℕ → Option Letter → ℕ
 port_after a done port letter = go_on_port a.n a.turns done (moved (heed a.n a.name letter) port)
 
@@ -129,7 +129,7 @@ Hears version cluster n name got got' heard =
     (arrival : Arrival) × (letter : Option Letter) × Grows got got' (arrival ∷ []) × Brings version cluster arrival letter
     × (heard ≡ heed n name letter)
 
--- a turn, behind so many others: it may bring the answer
+-- a turn, after so many others: it may bring the answer
 abbrev pub TurnedBy : Ask → ℕ → ℕ → ℕ → Option (List (Option Datagram)) → Option (List (Option Datagram)) → Option Letter → Option Answer → Type 0
 TurnedBy a done port port' sent sent' letter None =
     IsSilent (heed a.n a.name letter) × (port' ≡ port_after a done port letter)
@@ -143,7 +143,7 @@ Turned a done port port' sent sent' got got' answer =
     (arrival : Arrival) × (letter : Option Letter) × Grows got got' (arrival ∷ []) × Brings a.version a.cluster arrival letter
     × TurnedBy a done port port' sent sent' letter answer
 
--- How an ask ends behind turns without an answer, and what it receives last: the answer comes; all turns have passed; or a
+-- How an ask ends after turns without an answer, and what it receives last: the answer comes; all turns have passed; or a
 -- receive failed.
 abbrev pub EndsBy : Ask → List (Option Letter) → List Arrival → Result Answer AskFault → Type 0
 EndsBy a ls last (Ok answer) =

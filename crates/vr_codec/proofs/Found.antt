@@ -508,7 +508,7 @@ get_sync_found h body b e =
       spelled = nothing body e;
     }
 
--- a log behind a checkpoint
+-- a log after a checkpoint
 sync_view_found : (h : Header) (body : List ℕ) → Base command.SyncView h body → sync_fits h body ≡ true → Found command.SyncView h body
 sync_view_found h body b e =
     let s = sync_found h body e in

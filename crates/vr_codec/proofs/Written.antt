@@ -89,7 +89,7 @@ put_front start m h head old new e b i front back body =
     ∙ (ap (λ x. (take start old ++ head) ++ x) rest
     ∙ (ap (λ x. (take start old ++ x) ++ body_bytes m) bytes ∙ append_assoc (take start old) (header_bytes (frame_header m)) (body_bytes m))))
 
--- what is added behind keeps a front
+-- what is added after keeps a front
 pub kept_more : (before now more : List ℕ) → KeepsFront before now → KeepsFront before (now ++ more)
 kept_more before now more e =
     let rest = drop (length before) now in

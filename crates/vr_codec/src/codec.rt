@@ -74,7 +74,7 @@ fn read_message(alloc: Global, header: &Header, bytes: &[u8]) -> Result<Message,
 }
 
 /// Adds the one spelling of a message at the end, of at most 20,480 bytes. An `Err` may have added some
-/// bytes behind what was there.
+/// bytes after what was there.
 #[tactic(auto, using(std::proofs::lemmas::Grind::common_steps, crate::proofs::Written::behind_zeros, vr_base::proofs::Writing::kept_before))]
 pub fn encode(message: &Message, to: &mut Vec<u8>) -> Result<(), AllocError>
     ensures bytes { OnOk result (to.new.items ≡ to.old.items ++ spelling message.now) }

@@ -117,7 +117,7 @@ fn unused_names_are_zero(h: &Header) -> bool
     uses_client(h.command) || h.request == 0
 }
 
-// And numbers.
+// Whether each number that the command has no use for is zero.
 #[tactic(auto, unfolding(crate::specs::Shapes::unused_numbers_are_zero))]
 fn unused_numbers_are_zero(h: &Header) -> bool
     ensures { result ≡ unused_numbers_are_zero h.now }

@@ -18,7 +18,7 @@ const LOG_ROOM: LogRoom = LogRoom {
     bytes: 256,
 };
 
-/// What the next run finds outside: a disk, which stays for the runs behind it, and what comes and what fails in the next one.
+/// What the next run finds outside: a disk, which stays for the runs after it, and what comes and what fails in the next one.
 #[derive(Drop)]
 pub struct Outside {
     pub disk: MemDisk,

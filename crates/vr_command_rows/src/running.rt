@@ -56,7 +56,7 @@ fn put_ports(alloc: Global, link: &MemLink, to: &mut ByteList) -> Result<(), All
     to.extend(b"\n")
 }
 
-/// A start: its words, and behind them the number that was given, `-` where it failed.
+/// A start: its words, and after them the number that was given, `-` where it failed.
 fn put_start(alloc: Global, start: &Start, to: &mut ByteList) -> Result<(), AllocError> {
     to.extend(b"  start")?;
     for word in start.words.as_slice() {
@@ -69,7 +69,7 @@ fn put_start(alloc: Global, start: &Start, to: &mut ByteList) -> Result<(), Allo
     }
 }
 
-/// A stop, `-` behind it where it failed.
+/// A stop, `-` after it where it failed.
 fn put_stop(alloc: Global, stop: Stop, to: &mut ByteList) -> Result<(), AllocError> {
     let Stop { id, is_done } = stop;
     let failed = if is_done { "" } else { ": -" };
@@ -126,7 +126,7 @@ fn put_run<L: Link>(
     put_end(alloc, &end, to)
 }
 
-/// The same with a command line, and with a sink that takes as much as was said.
+/// Runs a command line over a sink that takes as much as was said, and tells how it ends and what it wrote.
 fn put_line_run<L: Link>(
     alloc: Global,
     line: &str,
@@ -140,7 +140,7 @@ fn put_line_run<L: Link>(
     put_run(alloc, &words, outside, link, spawner, &mut sink, to)
 }
 
-/// The same, and to which ports it sent, and what it had the spawner do.
+/// Runs a command line, and tells its end, what it wrote, to which ports it sent, and what it had the spawner do.
 fn put_whole_run(
     alloc: Global,
     line: &str,
@@ -154,7 +154,7 @@ fn put_whole_run(
     put_calls(alloc, spawner, to)
 }
 
-/// The same over datagrams.
+/// Runs a command line over datagrams, and tells all that comes of it.
 fn put_linked_run(
     alloc: Global,
     line: &str,

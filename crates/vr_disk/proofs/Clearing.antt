@@ -10,7 +10,7 @@ later size u m b l z =
     let there : drop (m - u) (drop u b) ≡ drop m b = drop-drop (m - u) u b ∙ ap (λ n. drop n b) (omega (arith, l)) in
     sym there ∙ (ap (drop (m - u)) z ∙ (drop-replicate (m - u) (size - u) 0 ∙ ap (λ n. replicate n 0) (omega (arith, l))))
 
--- behind the first bytes, of which the others are cut off
+-- after the first bytes, of which the others are cut off
 pub cut_rest : (u n : ℕ) (b : List ℕ) → n ≤ length b → drop u b ≡ replicate (length b - u) 0 → drop (u - n) (drop n b) ≡ replicate (length (drop n b) - (u - n)) 0
 cut_rest u n b l z =
     let d = length-drop n b in

@@ -3,7 +3,7 @@ use Rattle.std.proofs.Common.{ℕ, ◌+◌, ◌*◌, ◌-◌, ◌≤◌, ◌<◌
 use Rattle.std.proofs.lemmas.Bool.{cases_lt, lt-ltb, le-ltb}
 use Rattle.vr_disk.specs.Regions.{block_place, header_place, prepare_place, prepare_sectors, sectors}
 
--- a prepare has four sectors or eight, behind all headers
+-- a prepare has four sectors or eight, after all headers
 pub counted : (v : ℕ) → (4 ≤ prepare_sectors v) × (prepare_sectors v ≤ 8)
 counted v = elim (eqb v 2) as (λ t. (4 ≤ cond t 8 4) × (cond t 8 4 ≤ 8)) [ true ↦ (omega arith, omega arith) | false ↦ (omega arith, omega arith) ]
 
@@ -17,7 +17,7 @@ pub inside : (v slot : ℕ) → slot < 64 → prepare_place v slot + prepare_sec
 inside v slot l =
     elim (eqb v 2) as (λ t. cond t (1424 + 8 * slot) (144 + 4 * slot) + cond t 8 4 ≤ sectors) [ true ↦ omega arith | false ↦ omega arith ]
 
--- a later slot lies behind
+-- a later slot lies after
 pub in_order : (v s slot : ℕ) → s < slot → prepare_place v s + prepare_sectors v ≤ prepare_place v slot
 in_order v s slot l =
     elim (eqb v 2) as (λ t. cond t (1424 + 8 * s) (144 + 4 * s) + cond t 8 4 ≤ cond t (1424 + 8 * slot) (144 + 4 * slot)) [ true ↦ omega arith | false ↦ omega arith ]

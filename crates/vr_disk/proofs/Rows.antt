@@ -1,4 +1,4 @@
--- The regions of a data file lie one behind the other and fill it; a settled sector by each digit.
+-- The regions of a data file lie one after the other and fill it; a settled sector by each digit.
 use Rattle.std.proofs.Common.{◌≡◌, ◌∷◌, [], List, ℕ, refl, Some}
 use Rattle.vr_disk.specs.Regions.{copy_place, header_place, prepare_place, prepare_sectors, block_place, sectors}
 use Rattle.vr_disk.specs.DiskState.{Cell, Face, Call, Write, Sync, cut}
@@ -7,7 +7,7 @@ regions : copy_place 0 0 ∷ copy_place 4 0 ∷ header_place 64 ∷ prepare_plac
     ≡ 0 ∷ header_place 0 ∷ prepare_place 1 0 ∷ block_place 0 ∷ 1416 ∷ block_place 128 ∷ sectors ∷ []
 regions = refl
 
--- those of version 2 behind the grid of version 1
+-- those of version 2 after the grid of version 1
 behind : prepare_place 2 0 ∷ prepare_place 1 7 ∷ prepare_sectors 1 ∷ prepare_sectors 2 ∷ [] ≡ 1424 ∷ 172 ∷ 4 ∷ 8 ∷ []
 behind = refl
 

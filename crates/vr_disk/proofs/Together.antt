@@ -1,4 +1,4 @@
--- What sectors one behind the other read as, before and after calls.
+-- What sectors one after the other read as, before and after calls.
 use Rattle.std.proofs.Common.{ℕ, zero, suc, ◌+◌, ◌-◌, ◌*◌, ◌≤◌, ◌<◌, ◌≡◌, ◌⊎◌, inl, inr, arith, refl, sym, ap, ◌∙◌, true, List, [], ◌∷◌, ◌++◌, length, take, drop, Option, Some, None, subst, length-append, length-set}
 use Rattle.std.specs.List.{AllByRecursion}
 use Rattle.std.proofs.lemmas.Bool.{cases_lt}
@@ -134,7 +134,7 @@ pub within_append : (low high : ℕ) (cs ds : List Call) → AllByRecursion (Wit
 within_append low high [] ds a b = b
 within_append low high (c ∷ cs) ds a b = (a.0, within_append low high cs ds a.1 b)
 
--- ---- sectors written one behind the other
+-- ---- sectors written one after the other
 
 pub writes_within : (low high n i : ℕ) (bytes : List ℕ) → low ≤ i → i + n ≤ high → AllByRecursion (Within low high) (writes i n bytes)
 unfolding writes Within

@@ -93,7 +93,7 @@ pub trait SectorDisk {
         ensures faults { faults self.new ≡ faults self.old }
         ensures reads { read_faults self.new ≡ read_faults self.old };
 
-    /// Writes to a sector the name of a text, and the text behind it as far as it fits. A disk may make the name when the
+    /// Writes to a sector the name of a text, and the text after it as far as it fits. A disk may make the name when the
     /// sector is read.
     fn write_front(&mut self, i: u32, room: Room, text: &[u8]) -> Result<(), DiskFailed>
         requires i { i < SECTORS }
@@ -106,7 +106,7 @@ pub trait SectorDisk {
         self.write(i, &front_sector(name, text))
     }
 
-    /// Whether a sector reads as the name of a text, and the text behind it as far as it fits.
+    /// Whether a sector reads as the name of a text, and the text after it as far as it fits.
     fn reads_front(&mut self, i: u32, room: Room, text: &[u8]) -> bool
         requires i { i < SECTORS }
         requires size { 496 ≤ length text.now }

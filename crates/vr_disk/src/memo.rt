@@ -14,7 +14,7 @@ const NAMELESS: usize = 112;
 #[derive(Drop)]
 struct Text {
     bytes: Vec<u8>,
-    // How many zeros stand behind them: most of a value of the superblock are.
+    // How many zeros stand after them: most of a value of the superblock are.
     zeros: usize,
     name: Option<Sum>,
 }

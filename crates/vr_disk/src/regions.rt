@@ -26,7 +26,7 @@ pub const BLOCKS: u32 = 384;
 /// The number of sectors of a block.
 pub const BLOCK_SECTORS: u32 = 8;
 
-// The regions lie one behind the other, from the first sector to the last; a block has 4,096 bytes, a copy 10,240.
+// The regions lie one after the other, from the first sector to the last; a block has 4,096 bytes, a copy 10,240.
 const _: () = prove!(COPY_SECTORS * COPIES == 80);
 
 const _: () = prove!(80 + SLOTS == 144);

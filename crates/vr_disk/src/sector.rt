@@ -17,7 +17,7 @@ pub struct Sector {
 /// A sector of zeros.
 pub const ZEROS: Sector = Sector { bytes: [0; 512] };
 
-/// How many bytes of a text stand behind its name in the sector that begins with this.
+/// How many bytes of a text stand after its name in the sector that begins with this.
 pub const FRONT_TEXT: usize = 496;
 
 // A name has 16 bytes.
@@ -33,7 +33,7 @@ fn put_front(out: &mut [u8], name: Sum, text: &[u8])
     to_text.copy_from_slice(&text[..FRONT_TEXT]);
 }
 
-/// The sector that begins with the name of a text, and the text behind it as far as it fits.
+/// The sector that begins with the name of a text, and the text after it as far as it fits.
 #[tactic(auto, unfolding(crate::specs::Fronts::front))]
 pub fn front_sector(name: Sum, text: &[u8]) -> Sector
     requires size { 496 ≤ length text.now }

@@ -1,4 +1,4 @@
-//! Sectors one behind the other, written and read together.
+//! Sectors one after the other, written and read together.
 ghost use Rattle.std.specs.Prelude.{◌≡◌, ◌≤◌, ◌<◌, ◌+◌, ◌*◌, Some, None, if◌then◌else◌, length, replicate, IfSome, is_ok};
 ghost use Rattle.vr_base.specs.Bytes.{piece};
 ghost use Rattle.vr_base.specs.Causes.{HasCause, one_more};

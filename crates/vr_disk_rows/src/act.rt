@@ -14,7 +14,7 @@
 //! | `first N`, `second N` | checkpoint 32 is saved, with sessions of N bytes; checkpoint 64 after it |
 //! | `load` | what the checkpoint that was saved last loads as |
 //! | `put S B`, `sector S` | bytes B are written to sector S of the disk that lies, and synced; the first byte that it reads as |
-//! | `member` | that disk has a superblock, and the entry of op 1 in slot 1 behind a header that is none |
+//! | `member` | that disk has a superblock, and the entry of op 1 in slot 1 after a header that is none |
 //! | `mend` | its header sector of slot 1 is written again |
 //! | `damage S`, `stale S`, `unread S`, `misdirect S T` | a fault of that disk |
 //!

@@ -149,7 +149,7 @@ fn put_loaded(
     Ok(told?)
 }
 
-/// The same of the one that was saved last.
+/// Loads the checkpoint that was saved last, and tells of it.
 fn put_last(alloc: Global, bench: &mut Bench, to: &mut ByteList) -> Result<(), NoMemory> {
     match &bench.checkpoint {
         Some((texts, done)) => put_loaded(alloc, &mut bench.disk, texts, done, to),

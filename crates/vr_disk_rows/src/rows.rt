@@ -1,4 +1,4 @@
-//! Rows, and what is told of them. A row begins at a line `== WHAT`, with disks of zeros. Each line behind it is told with what it comes to under
+//! Rows, and what is told of them. A row begins at a line `== WHAT`, with disks of zeros. Each line after it is told with what it comes to under
 //! it, two spaces in.
 
 use crate::act::Act;

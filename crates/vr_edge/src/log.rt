@@ -104,7 +104,7 @@ impl CallLog {
         self.was_whole = self.log.whole;
     }
 
-    /// Adds a close; it stands behind the last poll.
+    /// Adds a close; it stands after the last poll.
     pub fn note_close(&mut self, port: u32)
         ensures calls { Grows (told self.old.log.whole self.old.log.entries.items) (told self.new.log.whole self.new.log.entries.items) (call.Closed port ∷ []) }
         ensures polled { told_to self.new.was_whole self.new.polled self.new.log.entries.items ≡ told_to self.old.was_whole self.old.polled self.old.log.entries.items }

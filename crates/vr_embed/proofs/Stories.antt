@@ -144,13 +144,13 @@ one_log_of xs h names =
 pub went_on : (xs : List Happening) (kept : ℕ) (old mid new : Group) → Goes xs old mid → Goes (letters kept new.link.next) mid new → kept ≤ new.link.next → new.link.next ≤ kept + 1000 → (new.link.next < kept + 1000 → length new.link.letters ≤ new.link.next) → GoesOn xs kept old new
 went_on xs kept old mid new h k l m z = record { goes = goes_then xs (letters kept new.link.next) old mid new h k; least = l; most = m; all = z }
 
--- from where the link stood before and behind it
+-- from where the link stood before and after it
 pub went_on_ok : (xs : List Happening) (old mid new : Group) (result : Result (Unit {0}) NoMemory) → Goes xs old mid → mid.link.next ≡ old.link.next → OnOk result (Goes (letters mid.link.next new.link.next) mid new) → mid.link.next ≤ new.link.next → new.link.next ≤ mid.link.next + 1000
     → OnOk result (new.link.next < mid.link.next + 1000 → length new.link.letters ≤ new.link.next) → OnOk result (GoesOn xs old.link.next old new)
 went_on_ok xs old mid new (Ok r) h e k l m z = subst (λ n. GoesOn xs n old new) e (went_on xs mid.link.next old mid new h k l m z)
 went_on_ok xs old mid new (Err r) h e k l m z = tt
 
--- behind a letter that is lost
+-- after a letter that is lost
 pub went_behind_ok : (xs : List Happening) (old mid lost new : Group) (result : Result (Unit {0}) NoMemory) → Goes xs old mid → mid.link.next ≡ old.link.next → Goes [] mid lost → lost.link.next ≤ mid.link.next + 1 → OnOk result (Goes (letters lost.link.next new.link.next) lost new)
     → lost.link.next ≤ new.link.next → new.link.next ≤ lost.link.next + 1000 → OnOk result (new.link.next < lost.link.next + 1000 → length new.link.letters ≤ new.link.next) → OnOk result (GoesOnBehind xs old new)
 went_behind_ok xs old mid lost new (Ok r) h e k l g m o z =

@@ -63,7 +63,7 @@ pub record GoesOn (xs : List Happening) (kept : ℕ) (old new : Group) : Type 0 
   pub most : new.link.next ≤ kept + 1000
   pub all : new.link.next < kept + 1000 → length new.link.letters ≤ new.link.next
 
--- the same behind a letter that is lost, if there is one
+-- the same after a letter that is lost, if there is one
 pub record GoesOnBehind (xs : List Happening) (old new : Group) : Type 0 where
   pub kept : ℕ
   pub lost : kept ≤ old.link.next + 1

@@ -20,7 +20,7 @@ fn letter_at(letters: &Seq<Sent>, at: usize) -> Option<&Sent>
     letters.as_slice().get(at)
 }
 
-// The same letter.
+// A copy of a letter.
 fn copied(alloc: Global, letter: &Sent) -> Result<Sent, AllocError>
     ensures { IfOk result (λ copy. copy ≡ letter.now) }
 {

@@ -102,7 +102,7 @@ fn recover_stopped(
     }
 }
 
-// The same, where no replica runs.
+// Recovers the member from its disk where no replica runs; where one runs, nothing happens.
 fn recover_on(
     replica: &mut Option<Replica>,
     disk: &mut Shelf,

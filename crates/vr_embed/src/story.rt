@@ -52,7 +52,7 @@ fn ask(alloc: Global, group: &mut Group, request: Request) -> Result<(), NoMemor
     group.deliver(alloc, MOST)
 }
 
-// The same, but that the first letter is lost.
+// The first member is asked this, the first letter is lost, and all others are delivered.
 fn ask_and_lose(alloc: Global, group: &mut Group, request: Request) -> Result<(), NoMemory>
     ensures { OnOk result (GoesOnBehind (Asks 0 request ∷ []) group.old group.new) }
 {

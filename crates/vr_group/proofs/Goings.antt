@@ -87,7 +87,7 @@ pub happen_one : (w : World Lying) (x : Happening) → happen hazards w (x ∷ [
 unfolding happen
 happen_one w x = let h = happens hazards w x in ap (λ (os : List Output). let y : Happened Lying = record { world = h.world; outputs = os } in y) (append-nil h.outputs)
 
--- the messages that it sends stand behind the others
+-- the messages that it sends stand after the others
 pub sent_more : (version : ℕ) (w new : World Lying) (l : Line) (out : List Output) (before now : List ℕ) → 0 < w.n → IsLineOf version w.n l → HasHappened (happens hazards w (happening l)) w new out before now
     → length w.sent + length (messages out) ≡ length new.sent
 sent_more version w new l out before now some fits h =
@@ -95,7 +95,7 @@ sent_more version w new l out before now some fits h =
     let all : length new.sent ≡ length (w.sent ++ messages out) = ap (λ (x : World Lying). length x.sent) h.world ∙ ap length grows.sent ∙ ap (λ os. length (w.sent ++ messages os)) (sym h.outputs) in
     sym (all ∙ length-append w.sent (messages out))
 
--- and it is put out, with its text, behind others
+-- and it is put out, with its text, after others
 pub put_more : (w new : World Lying) (x : Happening) (out : List Output) (before now : Outputs) → HasHappened (happens hazards w x) w new out before.text now.text → now.puts ≡ before.puts ++ puts_of (length w.sent) out
     → HaveHappened (happens hazards w x) w new before now
 put_more w new x out before now h puts = record {

@@ -162,7 +162,7 @@ halted_acted n index d e mid new y x j k one t h again left fate =
     subst (λ k. HasActed (migrates hazards index (host_on k None d)) (host_of None new) (output.Halted index ∷ [])) (sym one)
     (was_halted index d e mid new (subst (λ n. IsTold n d) one t) (halted_as d e y x j k h) again left fate)
 
--- memory was wanted, before a call or behind the mending
+-- memory was wanted, before a call or after the mending
 wanting : (v : SuperValue) (d e : Disk) → IsTold 1 d → StopsMigration v (Some d) (Some e) NoMemory → IsTold 1 e
 wanting v d e t (inl same) = let is : e ≡ d = cc in subst (IsTold 1) (sym is) t
 wanting v d e t (inr ran) = (went (mend_calls v d.face) d e t ran).told

@@ -16,7 +16,7 @@ messages_none : messages [] ≡ []
 unfolding messages
 messages_none = refl
 
--- those behind a place
+-- those after a place
 pub messages_at : (os : List Output) (i : ℕ) (d : Output) → i < length os → messages (drop i os) ≡ message_of (get_or os i d) ++ messages (drop (i + 1) os)
 messages_at os i d h = at_drop_more messages os i d h ∙ messages_more (get_or os i d) (drop (i + 1) os)
 
@@ -39,7 +39,7 @@ pub text_append : (a b : List Numbered) → text_of (a ++ b) ≡ text_of a ++ te
 unfolding text_of
 text_append a b = flat_map-append line_text a b
 
--- the text of those behind a place
+-- the text of those after a place
 numbered_more : (m : ℕ) (o : Output) (os : List Output) → numbered m (o ∷ os) ≡ with_number m o ∷ numbered (m + length (message_of o)) os
 unfolding numbered
 numbered_more m o os = refl
@@ -56,7 +56,7 @@ text_at m os i d h = at_drop_more (λ xs. text_of (numbered m xs)) os i d h ∙ 
 pub text_past : (m : ℕ) (os : List Output) (i : ℕ) → length os ≤ i → text_of (numbered m (drop i os)) ≡ []
 text_past m os i h = at_drop_all (λ xs. text_of (numbered m xs)) os i h ∙ ap text_of (numbered_none m) ∙ text_none
 
--- nothing behind a text
+-- nothing after a text
 pub text_same : (m : ℕ) (before : List ℕ) → before ≡ before ++ text_of (numbered m [])
 text_same m before = sym (ap (λ ns. before ++ text_of ns) (numbered_none m) ∙ ap (λ t. before ++ t) text_none ∙ append-nil before)
 
@@ -106,11 +106,11 @@ outputs_append before a b =
     let text : (before.text ++ text_of a) ++ text_of b ≡ before.text ++ text_of (a ++ b) = append_assoc before.text (text_of a) (text_of b) ∙ ap (λ x. before.text ++ x) (sym (text_append a b)) in
     ap (λ x. outputs_as x ((before.text ++ text_of a) ++ text_of b)) puts ∙ ap (λ x. outputs_as (before.puts ++ map put_of (a ++ b)) x) text
 
--- puts and text, each behind what stood there
+-- puts and text, each after what stood there
 pub put_behind : (before now : Outputs) (m : ℕ) (os : List Output) → now.puts ≡ before.puts ++ puts_of m os → now.text ≡ before.text ++ text_of (numbered m os) → now ≡ with_outputs before (numbered m os)
 put_behind before now m os puts text = ap (λ x. outputs_as x now.text) puts ∙ ap (λ x. outputs_as (before.puts ++ puts_of m os) x) text
 
--- outputs behind none
+-- outputs after none
 pub outputs_alone : (before now : Outputs) (outputs : List Numbered) → before ≡ outputs_of [] → now ≡ with_outputs before outputs → now ≡ outputs_of outputs
 unfolding text_of
 outputs_alone before now outputs none is = is ∙ ap (λ x. with_outputs x outputs) none

@@ -17,13 +17,13 @@ pub record Group : Type 0 where
 abbrev pub world_of : Members → World Lying
 world_of m = record { n = m.n; members = m.hosts.items; sent = m.sent }
 
--- the world after it, what it puts out, and the text of that behind another
+-- the world after it, what it puts out, and the text of that after another
 pub record HasHappened (h : Happened Lying) (old new : World Lying) (out : List Output) (before now : List ℕ) : Type 0 where
   pub world : new ≡ h.world
   pub outputs : out ≡ h.outputs
   pub text : now ≡ before ++ text_of (numbered (length old.sent) h.outputs)
 
--- the world after all of it, with its outputs behind the others
+-- the world after all of it, with its outputs after the others
 pub record HaveHappened (h : Happened Lying) (old new : World Lying) (before now : Outputs) : Type 0 where
   pub world : new ≡ h.world
   pub outputs : now ≡ with_outputs before (numbered (length old.sent) h.outputs)

@@ -24,7 +24,7 @@ happening (Misdirect replica sector other) = Lies replica (fault.Misdirect secto
 unfoldable pub happenings : List Line → List Happening
 happenings lines = map happening lines
 
--- the lines behind one that makes a group are of the version of its files
+-- the lines after one that makes a group are of the version of its files
 abbrev pub version_behind : ℕ → Line → ℕ
 version_behind v (Cluster n kind) = kind.version
 version_behind v _ = v

@@ -49,6 +49,6 @@ puts_of m outputs = map put_of (numbered m outputs)
 abbrev pub outputs_of : List Numbered → Outputs
 outputs_of outputs = record { puts = map put_of outputs; text = text_of outputs }
 
--- outputs behind others
+-- outputs after others
 abbrev pub with_outputs : Outputs → List Numbered → Outputs
 with_outputs before outputs = record { puts = before.puts ++ map put_of outputs; text = before.text ++ text_of outputs }

@@ -168,7 +168,7 @@ fn made<'a>(frame: Frame) -> Delivery<'a>
 }
 
 impl Kept {
-    /// A message, as it is kept behind these letters.
+    /// A message, as it is kept after these letters.
     pub fn of(alloc: Global, letters: &[Letter], message: &Message) -> Result<Kept, AllocError>
         ensures frame { IfOk result (λ k. frame_in k ≡ message.now) }
         ensures kept { IfOk result IsKept }

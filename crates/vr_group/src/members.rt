@@ -86,7 +86,7 @@ impl Members {
         Ok(())
     }
 
-    /// What a line says of it; the text of what that puts out goes behind what stands there, of which an `Err` may have added some.
+    /// What a line says of it; the text of what that puts out goes after what stands there, of which an `Err` may have added some.
     #[tactic(auto, using(vr_base::proofs::Members::is_sized, vr_text::proofs::Fronts::front_same, crate::proofs::Acts::begun, crate::proofs::Sectors::on_disk))]
     pub fn happen(&mut self, alloc: Global, line: &Line, to: &mut ByteList) -> Result<(), NoMemory>
         requires { (version : ℕ) × IsLineOf version self.old.n line.now }

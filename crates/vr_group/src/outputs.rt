@@ -58,7 +58,7 @@ fn record_output(
     Ok(())
 }
 
-/// Each output, in order: its line goes behind what stands there, of which an `Err` may have added some.
+/// Each output, in order: its line goes after what stands there, of which an `Err` may have added some.
 #[tactic(auto, using(std::proofs::lemmas::Grind::common_steps, crate::proofs::Numbering::messages_at, crate::proofs::Numbering::messages_past, crate::proofs::Numbering::text_at, crate::proofs::Numbering::text_past, vr_text::proofs::Fronts::front_same, vr_text::proofs::Fronts::front_then))]
 pub fn record_outputs(
     alloc: Global,
@@ -89,7 +89,7 @@ fn put_of(number: u64, output: Output) -> Put
     }
 }
 
-// The number of the next message behind an output; below `end` there is one more.
+// The number of the next message after an output; below `end` there is one more.
 fn number_after(number: u64, end: u64, output: &Output) -> u64
     requires { number + length (message_of output.now) ≤ end }
     ensures { result ≡ number + length (message_of output.now) }
@@ -100,7 +100,7 @@ fn number_after(number: u64, end: u64, output: &Output) -> u64
     }
 }
 
-/// Puts each output out, in order. The first message among them has this number, and behind them comes that of `end`.
+/// Puts each output out, in order. The first message among them has this number, and after them comes that of `end`.
 #[tactic(auto, using(std::proofs::lemmas::Grind::common_steps, crate::proofs::Numbering::puts_none))]
 pub fn put_out(
     number: u64,

@@ -39,7 +39,7 @@ impl Model for World {
     ghost view = { λ w. record { world = world_of w.members; last = w.members.out; version = w.version; live = w.live } };
 }
 
-// What happens at a line, behind others.
+// What happens at a line, after others.
 #[tactic(auto, using(crate::proofs::Goings::sent_more, crate::proofs::Goings::put_more))]
 fn happen_behind(
     members: &mut Members,
@@ -78,7 +78,7 @@ fn happen_all(
     Ok(())
 }
 
-// Cuts a text behind so many bytes.
+// Cuts a text after so many bytes.
 fn cut(alloc: Global, text: &mut ByteList, len: usize)
     ensures { text.new ≡ take len text.old }
 {
@@ -164,7 +164,7 @@ impl World {
         self.members.out.as_slice()
     }
 
-    /// What happens at one line; the text of what it puts out goes behind what stands there. An `Err` stops the group and leaves the text as it was.
+    /// What happens at one line; the text of what it puts out goes after what stands there. An `Err` stops the group and leaves the text as it was.
     #[tactic(auto, unfolding(vr_text::specs::Fronts::IsFront))]
     pub fn step(&mut self, alloc: Global, line: &Line, to: &mut ByteList) -> Result<(), NoMemory>
         requires live { self.old.live ≡ true }

@@ -99,7 +99,7 @@ fn so_does_one_on_careful_files(rt: HostRuntime) -> Result<(), Fail> {
     )
 }
 
-/// A fuse cuts the call behind the eight sectors of a prepare and their sync, and a sector is one that files of version 1 don't have.
+/// A fuse cuts the call after the eight sectors of a prepare and their sync, and a sector is one that files of version 1 don't have.
 #[test]
 fn and_one_on_files_of_version_2(rt: HostRuntime) -> Result<(), Fail> {
     check(
@@ -126,7 +126,7 @@ fn and_one_on_files_of_version_2(rt: HostRuntime) -> Result<(), Fail> {
     )
 }
 
-/// A group of one: the sync behind its prepare is cut, and then one call behind that sync. What it has then it chooses at a tick.
+/// A group of one: the sync after its prepare is cut, and then one call after that sync. What it has then it chooses at a tick.
 #[test]
 fn and_a_group_of_one(rt: HostRuntime) -> Result<(), Fail> {
     check(

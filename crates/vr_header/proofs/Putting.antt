@@ -1,4 +1,4 @@
--- Pieces put one behind the other.
+-- Pieces put one after the other.
 use Rattle.std.proofs.Common.{true, false, cond, eqb, ℕ, ◌+◌, ◌-◌, ◌≤◌, ◌≡◌, arith, sym, ap, ◌∙◌, List, ◌∷◌, ◌++◌, length, drop, length-append}
 use Rattle.std.proofs.lemmas.List.{drop-drop}
 use Rattle.vr_base.specs.Bytes.{bytes16}

@@ -7,7 +7,7 @@ regrouped : (z a b c d e f g h i j k l m : List ℕ)
     ≡ z ++ (a ++ (b ++ (c ++ (d ++ (e ++ (f ++ (g ++ (h ++ (i ++ (j ++ (k ++ (l ++ m))))))))))))
 regrouped z a b c d e f g h i j k l m = simp append_assoc
 
--- thirteen writes behind the first bytes
+-- thirteen writes after the first bytes
 pub behind : (n : ℕ) (z a b c d e f g h i j k l m : List ℕ) → length z ≡ n
     → drop n (((((((((((((z ++ a) ++ b) ++ c) ++ d) ++ e) ++ f) ++ g) ++ h) ++ i) ++ j) ++ k) ++ l) ++ m)
     ≡ a ++ (b ++ (c ++ (d ++ (e ++ (f ++ (g ++ (h ++ (i ++ (j ++ (k ++ (l ++ m)))))))))))

@@ -10,7 +10,7 @@ use Rattle.vr_header.specs.declared.outcome.Outcome.{Outcome}
 use Rattle.vr_header.specs.declared.outcome.Outcome.TheVariants as outcome
 use Rattle.vr_header.specs.Text.{is_text, text_of}
 
--- a number of the kind, a key behind its length of one byte, a value behind its length of two bytes
+-- a number of the kind, a key after its length of one byte, a value after its length of two bytes
 unfoldable pub operation_bytes : Operation → List ℕ
 operation_bytes Register = 1 ∷ []
 operation_bytes (Put key value) = (2 ∷ length key ∷ bytes16 (length value)) ++ (key ++ value)
@@ -38,18 +38,18 @@ IsOutcome version outcome.Full = ⊤
 IsOutcome version outcome.Absent = ⊤
 IsOutcome version (outcome.Value value) = IsTrue (is_text (value_limit version) value)
 
--- a key behind its length
+-- a key after its length
 unfoldable pub key_of : List ℕ → Option (List ℕ)
 key_of [] = None
 key_of (n ∷ key) = if length key == n then text_of 64 key else None
 
--- a value of at most so many bytes behind its length
+-- a value of at most so many bytes after its length
 unfoldable pub value_of : ℕ → List ℕ → Option (List ℕ)
 value_of limit [] = None
 value_of limit (high ∷ []) = None
 value_of limit (high ∷ low ∷ value) = if length value == from_be_bytes w16 (high ∷ low ∷ []) then text_of limit value else None
 
--- a key and a value behind both lengths
+-- a key and a value after both lengths
 unfoldable pub pair_of : ℕ → List ℕ → Option Operation
 pair_of limit [] = None
 pair_of limit (n ∷ []) = None

@@ -71,7 +71,7 @@ abbrev pub is_entry_header : Header → Bool
 is_entry_header h =
     (code_of h.command == 3) && nat_lt 128 h.size && nat_le h.size (128 + body_limit h.version) && nat_lt h.view (2 ^ 32 - 1) && nat_le 1 h.op && nat_le h.op (2 ^ 62) && is_bare h
 
--- a header, and its operation behind it
+-- a header, and its operation after it
 unfoldable pub entry_bytes : Whole → List ℕ
 entry_bytes e = header_bytes e.header ++ operation_bytes e.operation
 
@@ -81,7 +81,7 @@ is_register (Put key value) = false
 is_register (Get key) = false
 is_register (Delete key) = false
 
--- the bytes are as many as the header says, and those behind it have the name that it gives
+-- the bytes are as many as the header says, and those after it have the name that it gives
 abbrev pub is_whole : Header → List ℕ → Bool
 is_whole h bytes = is_entry_header h && (h.size == length bytes) && pointwise nat_eq h.body.0 (name_of (drop 128 bytes))
 

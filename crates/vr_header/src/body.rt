@@ -27,7 +27,7 @@ fn write_put(key: &Key, value: &Value, to: &mut Vec<u8>) -> Result<(), AllocErro
     to.extend_from_slice(value.as_slice())
 }
 
-// Adds a key behind this code, as an operation on one key is spelled. An `Err` may have added some of it.
+// Adds a key after this code, as an operation on one key is spelled. An `Err` may have added some of it.
 #[tactic(auto, using(std::proofs::lemmas::Grind::common_steps, vr_base::proofs::Writing::kept_before))]
 fn write_keyed(code: u8, key: &Key, to: &mut Vec<u8>) -> Result<(), AllocError>
     ensures ok { OnOk result (to.new.items ≡ to.old.items ++ (code ∷ length key.now ∷ key.now)) }
@@ -104,7 +104,7 @@ impl Operation {
         }
     }
 
-    /// How many bytes a header with this spelling behind it has, from 129 to 3,196.
+    /// How many bytes a header with this spelling after it has, from 129 to 3,196.
     #[tactic(auto, using(std::proofs::lemmas::Grind::common_steps), unfolding(crate::specs::Bodies::operation_bytes, vr_base::specs::Bytes::bytes16))]
     pub fn size(&self) -> Size
         ensures value { result ≡ 128 + length (operation_bytes self.now) }

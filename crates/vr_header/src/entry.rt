@@ -113,7 +113,7 @@ impl Entry {
         &self.operation
     }
 
-    /// The same entry.
+    /// A copy of the entry.
     pub fn try_clone(&self, alloc: Global) -> Result<Entry, AllocError>
         ensures { IfOk result (λ copy. copy ≡ self.now) }
     {
@@ -121,7 +121,7 @@ impl Entry {
         Ok(Entry::named(header, self.operation().try_clone(alloc)?, self.name))
     }
 
-    /// Adds the spelling at the end: the header, and the operation behind it. An `Err` may have added
+    /// Adds the spelling at the end: the header, and the operation after it. An `Err` may have added
     /// some of it.
     #[tactic(auto, using(std::proofs::lemmas::Grind::common_steps, vr_base::proofs::Writing::kept_before), unfolding(crate::specs::Made::entry_bytes))]
     pub fn write(&self, to: &mut Vec<u8>) -> Result<(), AllocError>

@@ -1,4 +1,4 @@
-//! Headers, the operations and outcomes that stand behind them, and their bytes.
+//! Headers, the operations and outcomes that stand after them, and their bytes.
 #![tactic(auto)]
 
 mod body;

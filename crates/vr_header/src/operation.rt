@@ -40,7 +40,7 @@ impl Operation {
         matches!(self, Operation::Register)
     }
 
-    /// The same operation.
+    /// A copy of the operation.
     pub fn try_clone(&self, alloc: Global) -> Result<Operation, AllocError>
         ensures { IfOk result (λ copy. copy ≡ self.now) }
     {

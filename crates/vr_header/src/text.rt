@@ -76,7 +76,7 @@ impl<const LIMIT: usize> Text<LIMIT> {
         self.bytes.as_slice()
     }
 
-    /// The same text.
+    /// A copy of the text.
     pub fn try_clone(&self, alloc: Global) -> Result<Text<LIMIT>, AllocError>
         ensures { IfOk result (λ copy. copy ≡ self.now) }
     {

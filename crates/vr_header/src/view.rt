@@ -125,7 +125,7 @@ pub fn read_entry(bytes: &[u8]) -> Option<EntryView<'_>>
     }
 }
 
-/// The entry that these bytes spell, as `read_entry` gives it, where they begin with this header, and this is the name of those behind it.
+/// The entry that these bytes spell, as `read_entry` gives it, where they begin with this header, and this is the name of those after it.
 #[tactic(auto, unfolding(crate::specs::Made::entry_of))]
 pub fn entry_by(bytes: &[u8], header: Header, body: Sum) -> Option<EntryView<'_>>
     requires long { 128 ≤ length bytes.now }
@@ -140,7 +140,7 @@ pub fn entry_by(bytes: &[u8], header: Header, body: Sum) -> Option<EntryView<'_>
     }
 }
 
-// This header with the operation behind it.
+// This header with the operation after it.
 fn with_body(header: Header, bytes: &[u8]) -> Option<EntryView<'_>>
     requires { 128 ≤ length bytes.now }
     ensures { option_map entry_seen result ≡ with_body header (operation_of header.version (drop 128 bytes.now)) }
@@ -166,7 +166,7 @@ pub fn entry_at(bytes: &[u8]) -> EntryView<'_>
     EntryView { header, operation }
 }
 
-// Whether the header is an entry's, of so many bytes, with the name of those behind it.
+// Whether the header is an entry's, of so many bytes, with the name of those after it.
 fn is_whole(header: &Header, bytes: &[u8]) -> bool
     ensures value { result ≡ is_whole header.now bytes.now }
     ensures long { IsTrue result → 128 < length bytes.now }
@@ -174,7 +174,7 @@ fn is_whole(header: &Header, bytes: &[u8]) -> bool
     header.is_entry() && header.size.get() as usize == bytes.len() && has_name(bytes, header.body)
 }
 
-// The same, where the name of those behind it is known.
+// Whether the header is an entry's, of so many bytes, where the name of those after it is known: it has that name.
 fn is_whole_by(header: &Header, bytes: &[u8], body: Sum) -> bool
     requires { body.0 ≡ name_of (drop 128 bytes.now) }
     ensures { result ≡ is_whole header.now bytes.now }

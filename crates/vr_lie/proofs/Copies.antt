@@ -112,7 +112,7 @@ three_stay f g c a h =
 abbrev Spared : ℕ → ℕ → ℕ → Type 0
 Spared a b c = (d k : ℕ) → d < 4 → d ≢ c → 20 * d ≤ k → k < 20 * d + 20 → (k ≢ a) × (k ≢ b)
 
--- where two sectors lie in one copy, or one of them behind the copies
+-- where two sectors lie in one copy, or one of them after the copies
 spared_by : (a b : ℕ) (x y z : Bool) → leb 80 a ≡ x → leb 80 b ≡ y → eqb (a / 20) (b / 20) ≡ z → (x || (y || z)) ≡ true → (c : ℕ) × Spared a b c
 spared_by a b true y z p q r h = let l = leb-true 80 a p in (b / 20, λ d k m n i j. (λ e. absurd (omega arith), λ e. n (omega arith)))
 spared_by a b false true z p q r h = let l = leb-true 80 b q in (a / 20, λ d k m n i j. (λ e. n (omega arith), λ e. absurd (omega arith)))

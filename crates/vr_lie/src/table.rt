@@ -25,7 +25,7 @@ use vr_rings::{PREPARE_SIZE, SIZE_AT, header_sector, read_bytes, read_front, who
 #[derive(Clone, Copy)]
 pub struct Held {
     pub some: bool,
-    /// The entry ends in the first sector: in the slot zeros stand behind it, and what stands behind it here means nothing.
+    /// The entry ends in the first sector: in the slot zeros stand after it, and what stands after it here means nothing.
     pub short: bool,
     /// Its header, its body and zeros. What stands here where nothing is held stays: to clear it would only take time.
     pub prepare: [u8; PREPARE_SIZE],
@@ -95,7 +95,7 @@ impl Held {
     }
 }
 
-// The slot that a sector belongs to, of 64 that have so many sectors each, one behind the other from the first one on.
+// The slot that a sector belongs to, of 64 that have so many sectors each, one after the other from the first one on.
 #[tactic(auto, using(std::proofs::lemmas::Grind::common_steps, crate::proofs::Slotted::in_64))]
 fn slot_in(i: u32, first: u32, count: u32) -> Option<u32>
     requires first { first < SECTORS }
@@ -163,7 +163,7 @@ fn look_held(disk: &mut CellDisk, slot: u32, held: &mut Held, version: Version)
 }
 
 // Whether a slot whose header sector is that of the prepare beside it reads as an entry that ends in the first sector of
-// this prepare, which reads as these bytes and tells so. Where anything but zeros stands behind it, it reads as none.
+// this prepare, which reads as these bytes and tells so. Where anything but zeros stands after it, it reads as none.
 fn is_short(disk: &mut CellDisk, slot: u32, first: &[u8], version: Version) -> bool
     requires slot { slot < 64 }
     requires own { IsOwnHeader version (disk_of disk.old).face slot }
@@ -177,7 +177,7 @@ fn is_short(disk: &mut CellDisk, slot: u32, first: &[u8], version: Version) -> b
     ends_first(disk, slot, version) && whole_front(disk, first).is_some()
 }
 
-// As `look_free`, of an entry that goes on behind its first sector, whatever it is.
+// As `look_free`, of an entry that goes on after its first sector, whatever it is.
 fn look_long(disk: &mut CellDisk, slot: u32, held: &mut Held, version: Version)
     requires slot { slot < 64 }
     requires own { IsOwnHeader version (disk_of disk.old).face slot }
@@ -366,7 +366,7 @@ pub fn put(disk: &mut CellDisk, held: &mut [Held], i: u32, from: &Sector, versio
     }
 }
 
-/// A write of the name of a text, and of the text behind it as far as it fits, that goes through.
+/// A write of the name of a text, and of the text after it as far as it fits, that goes through.
 pub fn put_text(
     disk: &mut CellDisk,
     held: &mut [Held],
@@ -392,7 +392,7 @@ pub fn put_text(
     }
 }
 
-/// A write of the name of a text, and of the text behind it as far as it fits, that is cut by this code.
+/// A write of the name of a text, and of the text after it as far as it fits, that is cut by this code.
 pub fn cut_put_text(
     disk: &mut CellDisk,
     held: &mut [Held],

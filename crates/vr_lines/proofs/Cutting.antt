@@ -6,7 +6,7 @@ use Rattle.std.proofs.lemmas.Bool.Decides.{nat_tests}
 use Rattle.memchr.specs.Find.{IsFirstByte, is_byte}
 use Rattle.vr_lines.specs.Cuts.{Cut, joined, before, cut, whole_lines, if_any, lines_of, IsEnd}
 
--- a text behind what another was cut into
+-- a text after what another was cut into
 unfoldable pub extended : Cut → List ℕ → Cut
 extended c ys = record { lines = c.lines ++ (cut (c.last ++ ys)).lines; last = (cut (c.last ++ ys)).last }
 
@@ -27,7 +27,7 @@ unfolding cut extended
 cut_append [] ys = refl
 cut_append (b ∷ xs) ys = ap (before b) (cut_append xs ys) ∙ before_extended b (cut xs) ys
 
--- what a text is cut into, behind a text without LF
+-- what a text is cut into, after a text without LF
 unfoldable pub prefixed : List ℕ → List (List ℕ) → List ℕ → Cut
 prefixed p [] last = record { lines = []; last = p ++ last }
 prefixed p (line ∷ lines) last = record { lines = (p ++ line) ∷ lines; last = last }
@@ -96,7 +96,7 @@ last_before b c h =
     elim [ true ↦ λ e. h | false ↦ λ e. last_joined b c.lines c.last e h ] in
     cases (eqb b 10) refl
 
--- what stands behind the last LF has none
+-- what stands after the last LF has none
 pub last_part : (xs : List ℕ) → whole_lines (cut xs).last ≡ []
 unfolding cut
 last_part [] = refl

@@ -16,7 +16,7 @@ front_of buffer start end at h =
     let n : start + at - start ≡ at = omega arith in
     ap (λ n. take n (drop start buffer)) n ∙ sym (take-take at (end - start) (drop start buffer) h)
 
--- what stands behind it
+-- what stands after it
 rest_of : (buffer : List ℕ) (start end at : ℕ) → at < end - start → between (start + (at + 1)) end buffer ≡ drop (at + 1) (between start end buffer)
 rest_of buffer start end at h =
     let m = end - (start + (at + 1)) in
@@ -41,7 +41,7 @@ moved buffer start held copied e room =
     ∙ ap (λ n. take n (paste buffer 0 (drop start buffer) held)) (sym none)
     ∙ take-paste buffer 0 (drop start buffer) held (omega arith) room
 
--- a piece behind what stands, which was moved to the front
+-- a piece after what stands, which was moved to the front
 pub pushed : (buffer copied piece part : List ℕ) (start end count k : ℕ) → start ≤ end → end ≤ length buffer → length copied ≡ length buffer → copied ≡ copy_within buffer start end 0 → part ≡ take count piece → length part ≡ count
     → between 0 (end - start + count) (put_mid (end - start) k copied part) ≡ between start end buffer ++ take count piece
 pushed buffer copied piece part start end count k h l same e p c =
@@ -58,7 +58,7 @@ pushed buffer copied piece part start end count k h l same e p c =
 pub length_held : (buffer : List ℕ) (start end : ℕ) → start ≤ end → end ≤ length buffer → length (between start end buffer) ≡ end - start
 length_held buffer start end h l = length-take-le (end - start) (drop start buffer) (omega (arith, length-drop start buffer))
 
--- so many bytes of a piece behind what stands, which was moved to the front
+-- so many bytes of a piece after what stands, which was moved to the front
 pub filled : (buffer copied piece : List ℕ) (start end count k : ℕ) → start ≤ end → end ≤ length buffer → length copied ≡ length buffer → copied ≡ copy_within buffer start end 0 → count ≤ length piece
     → between 0 (end - start + count) (put_mid (end - start) k copied piece) ≡ between start end buffer ++ take count piece
 filled buffer copied piece start end count k h l same e few =

@@ -1,4 +1,4 @@
--- What comes next of a source, behind bytes that had come of it.
+-- What comes next of a source, after bytes that had come of it.
 use Rattle.std.specs.Io.KnownBytes.{Consumes, IsAtEnd}
 use Rattle.std.specs.Prelude.{ℕ, ◌+◌, ◌≡◌, ◌≤◌, ◌<◌, ◌⊎◌, List, [], ◌∷◌, ◌++◌, Option, length, take}
 use Rattle.vr_lines.specs.Cuts.{whole_lines}

@@ -1,7 +1,7 @@
 -- The lines of a text.
 use Rattle.std.specs.Prelude.{ℕ, ◌+◌, ◌≡◌, ◌==◌, List, [], ◌∷◌, ◌++◌, take, drop, if◌then◌else◌}
 
--- a text cut at each LF: the lines that end, and what stands behind the last LF
+-- a text cut at each LF: the lines that end, and what stands after the last LF
 pub record Cut : Type 0 where
   pub lines : List (List ℕ)
   pub last : List ℕ

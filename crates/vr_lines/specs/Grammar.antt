@@ -20,17 +20,17 @@ use Rattle.vr_lines.specs.Words.{only_word, words_of}
 
 -- ---- the line that makes a group
 
--- the version of a group's files, behind their mode: 1, where nothing stands there
+-- the version of a group's files, after their mode: 1, where nothing stands there
 abbrev pub version_words : List (List ℕ) → Option ℕ
 version_words [] = Some 1
 version_words (word ∷ []) = if bytes_eq word (codes "v2") then Some 2 else None
 version_words _ = None
 
--- files of this mode, and of the version behind it
+-- files of this mode, and of the version after it
 abbrev pub kind_of : Mode → List (List ℕ) → Option Kind
 kind_of mode words = option_map (λ version. record { mode = mode; version = version }) (version_words words)
 
--- what a group's files are, behind its size: `careful` and `v2`, in this order; strict and of version 1, where nothing stands there
+-- what a group's files are, after its size: `careful` and `v2`, in this order; strict and of version 1, where nothing stands there
 abbrev pub kind_words : List (List ℕ) → Option Kind
 kind_words [] = kind_of Strict []
 kind_words (word ∷ words) = if bytes_eq word (codes "careful") then kind_of Careful words else kind_of Strict (word ∷ words)
@@ -72,7 +72,7 @@ request_for version asked operation =
     then Some (Request asked.replica (record { version = version; cluster = 0; client = asked.client; request = asked.request; operation = operation }))
     else None
 
--- the operation behind
+-- the operation after
 abbrev pub behind_asked : ℕ → Asked → List (List ℕ) → Option Line
 behind_asked version asked words = option_and_then (request_for version asked) (operation_words version words)
 
@@ -172,7 +172,7 @@ lost_words version n word words =
     else (if bytes_eq word (codes "misdirect") then misdirect_line version n words
     else None))))
 
--- by its first word and those behind it
+-- by its first word and those after it
 abbrev pub member_line : ℕ → ℕ → List ℕ → List (List ℕ) → Option Line
 member_line version n word words =
     if bytes_eq word (codes "tick") then tick_line n words
@@ -183,7 +183,7 @@ member_line version n word words =
 
 -- ---- all lines
 
--- a line by its first word and those behind it, for a group of n replicas of a version; n is 0 and the version 1 before the first line,
+-- a line by its first word and those after it, for a group of n replicas of a version; n is 0 and the version 1 before the first line,
 -- which makes the group, and no other line does
 abbrev pub line_behind : ℕ → ℕ → List ℕ → List (List ℕ) → Option Line
 line_behind version n word words =

@@ -19,7 +19,7 @@ room = 3112
 abbrev pub between : ℕ → ℕ → List ℕ → List ℕ
 between from to buffer = take (to - from) (drop from buffer)
 
--- so many bytes of a source came behind what stood, none only at its end; with them there is no more than the longest line with its end
+-- so many bytes of a source came after what stood, none only at its end; with them there is no more than the longest line with its end
 pub record Fills (left left' : Option (List ℕ)) (old new : List ℕ) (count : ℕ) : Type 0 where
   pub piece : List ℕ
   pub size : length piece ≡ count

@@ -4,12 +4,12 @@ use Rattle.std.specs.Prelude.{ℕ, Bool, nat_le, nat_lt, ◌+◌, ◌-◌, ◌*�
 abbrev pub is_digit : ℕ → Bool
 is_digit b = nat_le 48 b && nat_le b 57
 
--- one more digit behind a number; none at 2 ^ 64 and beyond
+-- one more digit after a number; none at 2 ^ 64 and beyond
 abbrev pub with_digit : ℕ → ℕ → Option ℕ
 with_digit n b =
     if is_digit b && nat_lt (10 * n + (b - 48)) (2 ^ 64) then Some (10 * n + (b - 48)) else None
 
--- further digits behind a number
+-- further digits after a number
 unfoldable pub digits_on : ℕ → List ℕ → Option ℕ
 digits_on n [] = Some n
 digits_on n (b ∷ bytes) = option_and_then (λ m. digits_on m bytes) (with_digit n b)

@@ -12,12 +12,12 @@ use Rattle.vr_lines.specs.Words.{only_word}
 abbrev pub pair_of : ℕ → List ℕ → List ℕ → Option Operation
 pair_of version key value = option_and_then (λ k. option_map (Put k) (text_of (value_limit version) value)) (text_of 64 key)
 
--- KEY and VALUE behind `put`
+-- KEY and VALUE after `put`
 abbrev pub put_words : ℕ → List (List ℕ) → Option Operation
 put_words version (key ∷ value ∷ []) = pair_of version key value
 put_words version _ = None
 
--- KEY alone behind `get` and `del`
+-- KEY alone after `get` and `del`
 abbrev pub key_word : List (List ℕ) → Option (List ℕ)
 key_word words = option_and_then (text_of 64) (only_word words)
 
@@ -25,7 +25,7 @@ abbrev pub register_words : List (List ℕ) → Option Operation
 register_words [] = Some Register
 register_words _ = None
 
--- an operation by its first word and those behind it
+-- an operation by its first word and those after it
 abbrev pub operation_behind : ℕ → List ℕ → List (List ℕ) → Option Operation
 operation_behind version word words =
     if bytes_eq word (codes "register") then register_words words

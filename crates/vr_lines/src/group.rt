@@ -8,7 +8,7 @@ use crate::number::read_below;
 use crate::words::{Words, is_word};
 use vr_base::{Kind, Mode, Version, is_size};
 
-/// The version of a group's files, behind their mode: 1, where nothing stands there.
+/// The version of a group's files, after their mode: 1, where nothing stands there.
 fn read_version(words: Words<'_>) -> Option<Version>
     ensures { result ≡ version_words (words_left words.entry) }
 {
@@ -22,7 +22,7 @@ fn read_version(words: Words<'_>) -> Option<Version>
     }
 }
 
-/// What a group's files are, behind its size: strict and of version 1, where nothing stands there.
+/// What a group's files are, after its size: strict and of version 1, where nothing stands there.
 fn read_kind(words: Words<'_>) -> Option<Kind>
     ensures { result ≡ kind_words (words_left words.entry) }
 {
@@ -51,7 +51,7 @@ fn read_size(version: Version, word: &[u8]) -> Option<u8>
     if is_size(version, n) { Some(n) } else { None }
 }
 
-/// `cluster N`, `cluster N careful`, `cluster N v2` and `cluster N careful v2` behind the first word.
+/// `cluster N`, `cluster N careful`, `cluster N v2` and `cluster N careful v2` after the first word.
 pub fn read_cluster(words: Words<'_>) -> Option<Line>
     ensures { result ≡ cluster_line (words_left words.entry) }
 {

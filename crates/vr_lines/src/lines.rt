@@ -92,7 +92,7 @@ impl Lines {
         count
     }
 
-    /// Reads more of a source behind what wasn't given yet, as much as there is room for, and returns how many bytes. The line that was
+    /// Reads more of a source after what wasn't given yet, as much as there is room for, and returns how many bytes. The line that was
     /// given last is lent no more.
     pub fn fill<S: Source>(&mut self, source: &mut S) -> Result<usize, ReadFailed>
         requires { length self.old.bytes < room }

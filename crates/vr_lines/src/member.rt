@@ -22,28 +22,28 @@ fn read_replica(n: u8, words: Words<'_>) -> Option<u8>
     Some(read_below(u64::from(n), words.only()?)? as u8)
 }
 
-/// `tick R` behind its first word.
+/// `tick R` after its first word.
 fn read_tick(n: u8, words: Words<'_>) -> Option<Line>
     ensures { result ≡ tick_line n (words_left words.entry) }
 {
     Some(Line::Tick(read_replica(n, words)?))
 }
 
-/// `stop R` behind its first word.
+/// `stop R` after its first word.
 fn read_stop(n: u8, words: Words<'_>) -> Option<Line>
     ensures { result ≡ stop_line n (words_left words.entry) }
 {
     Some(Line::Stop(read_replica(n, words)?))
 }
 
-/// `start R` behind its first word.
+/// `start R` after its first word.
 fn read_start(n: u8, words: Words<'_>) -> Option<Line>
     ensures { result ≡ start_line n (words_left words.entry) }
 {
     Some(Line::Start(read_replica(n, words)?))
 }
 
-/// `migrate R` behind its first word.
+/// `migrate R` after its first word.
 fn read_migrate(n: u8, words: Words<'_>) -> Option<Line>
     ensures { result ≡ migrate_line n (words_left words.entry) }
 {
@@ -72,7 +72,7 @@ fn read_fused(n: u8, r: &[u8], j: &[u8], code: &[u8]) -> Option<Line>
     })
 }
 
-/// `fuse R J CODE` behind its first word.
+/// `fuse R J CODE` after its first word.
 fn read_fuse(n: u8, words: Words<'_>) -> Option<Line>
     ensures { result ≡ fuse_line n (words_left words.entry) }
 {
@@ -99,7 +99,7 @@ fn read_place(n: u8, words: Words<'_>, version: Version) -> Option<Place>
     Some(Place { replica, sector })
 }
 
-/// `damage R S` behind its first word.
+/// `damage R S` after its first word.
 fn read_damage(n: u8, words: Words<'_>, version: Version) -> Option<Line>
     ensures { result ≡ damage_line version n (words_left words.entry) }
 {
@@ -107,7 +107,7 @@ fn read_damage(n: u8, words: Words<'_>, version: Version) -> Option<Line>
     Some(Line::Damage { replica, sector })
 }
 
-/// `stale R S` behind its first word.
+/// `stale R S` after its first word.
 fn read_stale(n: u8, words: Words<'_>, version: Version) -> Option<Line>
     ensures { result ≡ stale_line version n (words_left words.entry) }
 {
@@ -115,7 +115,7 @@ fn read_stale(n: u8, words: Words<'_>, version: Version) -> Option<Line>
     Some(Line::Stale { replica, sector })
 }
 
-/// `unread R S` behind its first word.
+/// `unread R S` after its first word.
 fn read_unread(n: u8, words: Words<'_>, version: Version) -> Option<Line>
     ensures { result ≡ unread_line version n (words_left words.entry) }
 {
@@ -141,7 +141,7 @@ fn read_misdirected(n: u8, r: &[u8], s: &[u8], t: &[u8], version: Version) -> Op
     }
 }
 
-/// `misdirect R S T` behind its first word.
+/// `misdirect R S T` after its first word.
 fn read_misdirect(n: u8, words: Words<'_>, version: Version) -> Option<Line>
     ensures { result ≡ misdirect_line version n (words_left words.entry) }
 {
@@ -150,7 +150,7 @@ fn read_misdirect(n: u8, words: Words<'_>, version: Version) -> Option<Line>
     read_misdirected(n, r, s, words.only()?, version)
 }
 
-/// What becomes of a disk, by the first word and those behind it.
+/// What becomes of a disk, by the first word and those after it.
 fn read_lost(n: u8, word: &[u8], words: Words<'_>, version: Version) -> Option<Line>
     ensures { result ≡ lost_words version n word.now (words_left words.entry) }
 {
@@ -169,7 +169,7 @@ fn read_lost(n: u8, word: &[u8], words: Words<'_>, version: Version) -> Option<L
     }
 }
 
-/// A line of this version that speaks of one replica of a group of `n`, by its first word and those behind it.
+/// A line of this version that speaks of one replica of a group of `n`, by its first word and those after it.
 pub fn read_member(n: u8, word: &[u8], words: Words<'_>, version: Version) -> Option<Line>
     ensures { result ≡ member_line version n word.now (words_left words.entry) }
 {

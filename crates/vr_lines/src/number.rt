@@ -36,7 +36,7 @@ pub fn read_number(digits: &[u8]) -> Option<u64>
     }
 }
 
-/// The same below a bound.
+/// A number below a bound, in digits without a leading zero.
 pub fn read_below(bound: u64, digits: &[u8]) -> Option<u64>
     ensures { result ≡ number_below bound digits.now }
 {

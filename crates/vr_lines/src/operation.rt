@@ -50,7 +50,7 @@ fn read_pair(
     }
 }
 
-/// KEY and VALUE behind `put`.
+/// KEY and VALUE after `put`.
 fn read_put(
     alloc: Global,
     words: Words<'_>,
@@ -64,7 +64,7 @@ fn read_put(
     }
 }
 
-/// KEY behind `get` and `del`.
+/// KEY after `get` and `del`.
 fn read_key(alloc: Global, words: Words<'_>) -> Result<Option<Key>, AllocError>
     ensures { IfOk result (λ key. key ≡ key_word (words_left words.entry)) }
 {

@@ -33,14 +33,14 @@ impl From<AllocError> for LineFault {
     }
 }
 
-/// `deliver X` behind its first word.
+/// `deliver X` after its first word.
 fn read_deliver(words: Words<'_>) -> Option<Line>
     ensures { result ≡ deliver_line (words_left words.entry) }
 {
     Some(Line::Deliver(read_number(words.only()?)?))
 }
 
-/// A line of this version by its first word and those behind it: before there is a group, the one that makes it.
+/// A line of this version by its first word and those after it: before there is a group, the one that makes it.
 fn read_behind(
     alloc: Global,
     n: u8,

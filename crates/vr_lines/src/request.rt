@@ -70,7 +70,7 @@ fn request_for(asked: Asked, operation: Operation, version: Version) -> Option<L
     }
 }
 
-/// The first three words, and those behind them.
+/// The first three words, and those after them.
 fn read_front<'a>(n: u8, words: Words<'a>) -> Option<(Asked, Words<'a>)>
     ensures { (version : ℕ) → request_line version n (words_left words.entry) ≡ option_and_then (λ p. behind_asked version p.0 (words_left p.1)) result }
 {
@@ -80,7 +80,7 @@ fn read_front<'a>(n: u8, words: Words<'a>) -> Option<(Asked, Words<'a>)>
     Some((read_asked(n, r, c, q)?, words))
 }
 
-/// `request R C Q OP` of this version behind its first word.
+/// `request R C Q OP` of this version after its first word.
 pub fn read_request(
     alloc: Global,
     n: u8,

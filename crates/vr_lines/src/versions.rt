@@ -9,7 +9,7 @@ use vr_disk::{SECTORS, prepare_place};
 /// The most bytes that a line of any version has, without its end.
 pub const LONGEST: usize = 3111;
 
-/// The same of version 1.
+/// The most bytes that a line of version 1 has, without its end.
 const LONGEST_OF_VERSION_1: usize = 1135;
 
 /// The most bytes that a line of this version has, without its end: those of

@@ -10,7 +10,7 @@ pub struct Words<'a> {
     rest: Option<&'a [u8]>,
 }
 
-/// The bytes before the first space, and those behind it, where there is one.
+/// The bytes before the first space, and those after it, where there is one.
 #[tactic(auto, unfolding(crate::specs::Words::words_of))]
 fn cut(line: &[u8]) -> (&[u8], Option<&[u8]>)
     ensures { words_of line.now ≡ result.0.now ∷ option_map_or (λ rest. words_of rest.now) result.1 [] }
@@ -31,7 +31,7 @@ impl<'a> Words<'a> {
         Words { rest: Some(line) }
     }
 
-    /// The first word, and those behind it.
+    /// The first word, and those after it.
     pub fn first(self) -> Option<(&'a [u8], Words<'a>)>
         ensures { words_left self.entry ≡ option_map_or (λ p. p.0.now ∷ words_left p.1) result [] }
     {

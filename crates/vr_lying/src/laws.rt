@@ -14,15 +14,15 @@ pub fn runs_tell()
     ensures cut { CutsTell }
 {}
 
-/// So a member that acts on such a disk leaves what the definitions say: where all calls of its step go well, and where one doesn't,
+/// A member that acts on such a disk leaves what the definitions say: where all calls of its step go well, and where one doesn't,
 /// which is the fuse's.
 pub fn members_act()
     ensures go { ActsGo }
     ensures halt { ActsHalt }
 {}
 
-/// And so does one whose file is migrated: where all calls go well, and where the fuse cuts one. The file is of the version of the value that
-/// it opens as then.
+/// A member whose file is migrated leaves what the definitions say: where all calls go well, and where the fuse cuts one. The file is of the
+/// version of the value that it opens as then.
 pub fn members_migrate()
     ensures go { MigrationsGo }
     ensures halt { MigrationsHalt }

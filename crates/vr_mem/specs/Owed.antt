@@ -1,4 +1,4 @@
--- Sectors whose name is owed. What is kept of one stands for another content: the name of a text, with the text behind it.
+-- Sectors whose name is owed. What is kept of one stands for another content: the name of a text, with the text after it.
 use Rattle.std.specs.Prelude.{ℕ, ◌%◌, ◌<◌, ◌≡◌, ◌==◌, ◌&&◌, Bool, true, false, nat_lt, if◌then◌else◌, List, map, Some, slice_index_or}
 use Rattle.std.specs.List.{All}
 use Rattle.std.specs.Option.{option_map}

@@ -263,7 +263,7 @@ impl CellDisk {
         Some(number)
     }
 
-    // A write that goes through of the name of the text of this number, and the text behind it as far as it fits.
+    // A write that goes through of the name of the text of this number, and the text after it as far as it fits.
     fn owe(&mut self, i: u32, number: TextNumber, text: &[u8])
         requires front { begins_copy i ≡ true }
         requires within { i < SECTORS }
@@ -279,7 +279,7 @@ impl CellDisk {
         self.face.write(i, Mark::Owed, &full);
     }
 
-    /// A write that goes through of the name of a text, and the text behind it as far as it fits. Where a copy of the superblock
+    /// A write that goes through of the name of a text, and the text after it as far as it fits. Where a copy of the superblock
     /// begins, the name may be made only when the sector is read.
     pub fn put_named(&mut self, i: u32, room: Room, text: &[u8])
         requires i { i < SECTORS }
@@ -297,7 +297,7 @@ impl CellDisk {
         }
     }
 
-    // Whether a sector surely reads as the name of this text, and the text behind it as far as it fits.
+    // Whether a sector surely reads as the name of this text, and the text after it as far as it fits.
     fn begins(&self, i: u32, text: &[u8]) -> bool
         requires { i < SECTORS }
         ensures { result ≡ true → reads (disk_of self.now).face i ≡ Some (front text.now) }

@@ -22,7 +22,7 @@ pub enum TextNumber {
 }
 
 /// Three texts. A sector that is owed is full of a byte that stands for one of them. What it is meant to hold is the name of
-/// that text, with the text behind it. All memory is taken at the start.
+/// that text, with the text after it. All memory is taken at the start.
 #[derive(Drop)]
 pub struct Texts {
     one: Vec<u8>,
@@ -198,7 +198,7 @@ impl Texts {
         }
     }
 
-    /// Whether bytes with their mark surely stand for the name of this text, and the text behind it as far as it fits.
+    /// Whether bytes with their mark surely stand for the name of this text, and the text after it as far as it fits.
     pub fn begins(&self, mark: Mark, from: &[u8], text: &[u8]) -> bool
         requires { length from.now ≡ 512 }
         ensures { result ≡ true → meant self.now (marked mark from.now) ≡ front text.now }

@@ -58,7 +58,7 @@ chain_behind hash x (y ∷ ys) c = (and_parts (same_sum y.parent (name_by hash x
 sum_is : (a b : Sum) → same_sum a b ≡ true → a ≡ b
 sum_is a b e = let bytes = (bytes_eq-Decides a.0 b.0).0 e in λ i. record { 0 = bytes i }
 
--- in a chain, the one behind has the name of the one before as its parent
+-- in a chain, the one after has the name of the one before as its parent
 pub linked : (hs : List Header) (i : ℕ) (a b : Header) → is_chain name_of hs ≡ true → slice_get hs i ≡ Some a → slice_get hs (i + 1) ≡ Some b → b.parent ≡ header_name a
 unfolding is_chain_from
 linked [] i a b c e k = absurd cc

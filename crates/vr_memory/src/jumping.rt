@@ -52,7 +52,7 @@ fn jumped_by(sync: &SyncView, commit: u64, log_view: u32, op: u64, part: Part) -
     }
 }
 
-// The same name, which is of bytes.
+// The name as it is, which is of bytes.
 fn valued(name: Sum) -> Sum
     ensures same { result ≡ name }
     ensures values { IsNameBytes result.0 }

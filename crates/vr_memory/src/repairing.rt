@@ -60,7 +60,7 @@ fn first_absent(parts: &Window<Part>, from: usize) -> Option<Header>
     None
 }
 
-// Which replica of `n` stands so many behind another one.
+// Which replica of `n` stands so many after another one.
 fn place_after(index: u8, turn: u8, n: u8) -> u8
     requires { 0 < n }
     ensures { result ≡ (index + 1 + turn) % n }

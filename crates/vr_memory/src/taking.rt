@@ -50,7 +50,7 @@ fn header_in(headers: &[Header], at: usize) -> Header
     valued(headers[at])
 }
 
-// The header behind a place, if any.
+// The header after a place, if any.
 fn next_in(headers: &[Header], at: usize) -> Option<Header>
     requires { at < length headers.now }
     ensures { slice_get headers.now (at + 1) ≡ result }
@@ -58,7 +58,7 @@ fn next_in(headers: &[Header], at: usize) -> Option<Header>
     headers.get(at + 1).copied()
 }
 
-// Whether the header behind this place, if any, has the name of the one there as its parent.
+// Whether the header after this place, if any, has the name of the one there as its parent.
 #[tactic(auto, using(crate::proofs::Taken::links))]
 fn follows(names: &Names, headers: &[Header], at: usize) -> bool
     requires { at < length headers.now }
@@ -86,7 +86,7 @@ pub(crate) fn is_chain(names: &Names, headers: &[Header]) -> bool
     true
 }
 
-// Keeps the name of the header at this place of a chain, which the one behind it, if any, has as its parent.
+// Keeps the name of the header at this place of a chain, which the one after it, if any, has as its parent.
 fn keep_name_at(names: &mut Names, headers: &[Header], at: usize)
     requires chain { is_chain name_of headers.now ≡ true }
     requires within { at < length headers.now }

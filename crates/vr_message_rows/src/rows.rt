@@ -32,7 +32,7 @@ fn named(alloc: Global, words: &str) -> Result<Piece, AllocError> {
     })
 }
 
-/// The bytes of these words, one behind the other.
+/// The bytes of these words, one after the other.
 fn spelled(alloc: Global, pieces: &[Piece], words: &str) -> Result<Vec<u8>, AllocError> {
     let mut bytes = Vec::new(alloc);
     for word in words.split(' ') {

@@ -142,7 +142,7 @@ IsChoice q ss TooFew = length ss < q.view_change
 IsChoice q ss (WaitsAt k) = Waits q ss k
 IsChoice q ss (Ends headers) = EndsWith q ss headers
 
--- The same as a function.
+-- The choice as a function.
 
 -- the ops above low up to high, in order
 abbrev pub ops : ℕ → ℕ → List ℕ

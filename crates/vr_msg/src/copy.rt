@@ -8,7 +8,7 @@ use crate::{
 use std::alloc::{AllocError, Global};
 
 impl Request {
-    /// The same request.
+    /// A copy of the request.
     pub fn try_clone(&self, alloc: Global) -> Result<Request, AllocError>
         ensures { IfOk result (λ copy. copy ≡ self.now) }
     {
@@ -25,7 +25,7 @@ impl Request {
 }
 
 impl ReplyKind {
-    /// The same kind, with the same outcome.
+    /// A copy of the kind, with its outcome.
     pub fn try_clone(&self, alloc: Global) -> Result<ReplyKind, AllocError>
         ensures { IfOk result (λ copy. copy ≡ self.now) }
     {
@@ -44,7 +44,7 @@ impl ReplyKind {
 }
 
 impl Reply {
-    /// The same reply.
+    /// A copy of the reply.
     pub fn try_clone(&self, alloc: Global) -> Result<Reply, AllocError>
         ensures { IfOk result (λ copy. copy ≡ self.now) }
     {
@@ -63,7 +63,7 @@ impl Reply {
 }
 
 impl DvcBody {
-    /// The same Parts.
+    /// A copy of the Parts.
     pub fn try_clone(&self, alloc: Global) -> Result<DvcBody, AllocError>
         ensures { IfOk result (λ copy. copy ≡ self.now) }
     {
@@ -75,7 +75,7 @@ impl DvcBody {
 }
 
 impl SvBody {
-    /// The same headers.
+    /// A copy of the headers.
     pub fn try_clone(&self, alloc: Global) -> Result<SvBody, AllocError>
         ensures { IfOk result (λ copy. copy ≡ self.now) }
     {
@@ -87,7 +87,7 @@ impl SvBody {
 }
 
 impl Statement {
-    /// The same statement.
+    /// A copy of the statement.
     pub fn try_clone(&self, alloc: Global) -> Result<Statement, AllocError>
         ensures { IfOk result (λ copy. copy ≡ self.now) }
     {
@@ -200,7 +200,7 @@ fn copy_frame(alloc: Global, frame: &Frame) -> Result<Frame, AllocError>
 }
 
 impl Message {
-    /// The same message.
+    /// A copy of the message.
     pub fn try_clone(&self, alloc: Global) -> Result<Message, AllocError>
         ensures { IfOk result (λ copy. copy ≡ self.now) }
     {

@@ -70,7 +70,7 @@ s3 = sent_2 Strict ++ acked q1 first 0 ∷ []
 abbrev s5 : List Sent
 s5 = s3 ++ prepares second (p3 Strict)
 
--- what the change of view sends and what follows it, behind what was sent before
+-- what the change of view sends and what follows it, after what was sent before
 
 abbrev pub told : List Sent → List Sent
 told sent = sent ++ tells_to v1 0 ∷ tells_to v1 2 ∷ []

@@ -67,7 +67,7 @@ turned_148 f rests n =
     ap (λ (g : Face). reads g 148) (cut_is f)
     ∙ (ap (λ (ws : List Waiting). reads (cut 2 26 (record { cells = f.cells; waiting = ws }) three) 148) rests ∙ first_turned f.cells n)
 
--- ---- after each call that went through, the prepare reads as the entry's: behind its first sector all is zeros
+-- ---- after each call that went through, the prepare reads as the entry's: after its first sector all is zeros
 
 abbrev pub zeros_behind : List ℕ
 zeros_behind = zero_sector ++ (zero_sector ++ (zero_sector ++ []))

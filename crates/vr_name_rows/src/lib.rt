@@ -10,7 +10,7 @@ pub fn plain_path_meets_all()
     ensures { PlainPathMeetsAll }
 {}
 
-/// The same on careful files.
+/// A register and a put, in a group of three on careful files.
 pub fn careful_path_meets_all()
     ensures { CarefulPathMeetsAll }
 {}

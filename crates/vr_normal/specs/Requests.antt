@@ -1,4 +1,4 @@
--- Requests at a primary that isn't behind, and what is replied to those that aren't fresh.
+-- Requests at a primary that doesn't lag, and what is replied to those that aren't fresh.
 use Rattle.std.specs.Prelude.{◌≡◌, ◌-◌, ⊤, true, not, ◌||◌, nat_le, List, [], ◌∷◌}
 use Rattle.vr_msg.specs.declared.output.Output.{Output}
 use Rattle.vr_msg.specs.declared.reply.ReplyKind.TheVariants as reply

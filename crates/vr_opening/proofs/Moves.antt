@@ -23,7 +23,7 @@ use Rattle.vr_opening.proofs.Recovers.{lost_alone, lost_copies, opens_of, runs_o
 pub saved_good : (v : SuperValue) (f : Fields) (hs : List Header) → IsGood v → f ≡ (migrated v).fields → hs ≡ v.headers → IsGood (record { fields = f; headers = hs })
 saved_good v f hs h e k = rw (e, k) (migrated_good v h)
 
--- ---- the calls behind the mending
+-- ---- the calls after the mending
 
 pub moved_then : (old new : SuperValue) (a b c : Option Disk) (ok : Bool) → RunsFrom slot_calls a b true → RunsFrom (write_calls old new) b c ok → RunsFrom (moving_calls old new) a c ok
 moved_then old new a b c ok h k = RunsFrom_then slot_calls (write_calls old new) a b c ok h k

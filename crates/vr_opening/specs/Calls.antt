@@ -7,7 +7,7 @@ use Rattle.vr_disk.specs.Regions.{header_place, prepare_place, prepare_sectors}
 use Rattle.vr_rings.specs.Slots.{sector_of}
 use Rattle.vr_journal.specs.Formatting.{reserved_header, zero_sector}
 
--- the sector behind the prepares of a file of this version
+-- the sector after the prepares of a file of this version
 abbrev pub prepares_end : ℕ → ℕ
 prepares_end v = prepare_place v 0 + SLOTS * prepare_sectors v
 

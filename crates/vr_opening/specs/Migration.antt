@@ -11,7 +11,7 @@ use Rattle.vr_opening.specs.Recovering.{IsOther, LosesValue, StopsMending, confi
 use Rattle.vr_opening.specs.declared.reopen.Refusal.{Refusal}
 use Rattle.vr_opening.specs.declared.reopen.Refusal.TheVariants.{Lost, OtherMember, Halted}
 
--- the calls behind the mending: the prepares at their new places, and then this value in place of the old one
+-- the calls after the mending: the prepares at their new places, and then this value in place of the old one
 abbrev pub moving_calls : SuperValue → SuperValue → Face → List Call
 moving_calls v new f = slot_calls f ++ write_calls v new (after_all f (slot_calls f))
 

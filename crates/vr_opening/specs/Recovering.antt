@@ -24,7 +24,7 @@ use Rattle.vr_opening.specs.declared.reopen.Refusal.{Refusal}
 use Rattle.vr_opening.specs.declared.reopen.Refusal.TheVariants.{Lost, OtherMember, Halted}
 use Rattle.vr_journal.specs.Does.{Does}
 
--- an opening, behind the mending of the superblock
+-- an opening, after the mending of the superblock
 abbrev pub after_mend : SuperValue → Word Face
 after_mend v = recover_parts v ⨾ resuming
 

@@ -46,7 +46,7 @@ pending = text (
     ∷ codes "deliver 16"
     ∷ [])
 
--- the world that its first line makes, and what the lines behind are
+-- the world that its first line makes, and what the lines after are
 abbrev pub first_of : Schedule → World Lying
 first_of s = fresh_world hazards s.kind s.n
 

@@ -21,7 +21,7 @@ pub record IsOldest {A : Type 0} (others : List (Sender A)) (count : ℕ) (place
 abbrev pub IsSenderPlace : {A : Type 0} → (A → A → Bool) → List (Sender A) → A → ℕ → Type 0
 IsSenderPlace same others a place = MatchOption (position (at_address same a) others) (IsOldest others (length others) place) (λ own. place ≡ own)
 
--- the address of a port: the peers', and behind them those of the others
+-- the address of a port: the peers', and after them those of the others
 abbrev pub address_at : {A : Type 0} → List A → List (Sender A) → ℕ → Option A
 address_at peers others port = if nat_lt port (length peers) then slice_get peers port else option_map_or (λ s. s.address) (slice_get others (port - length peers)) None
 

@@ -20,7 +20,7 @@ pub struct Sender<A> {
     pub heard: u64,
 }
 
-/// Addresses by their ports: the peers, and behind them the senders beside them that were heard last.
+/// Addresses by their ports: the peers, and after them the senders beside them that were heard last.
 #[derive(Drop)]
 pub struct Ports<A> {
     pub peers: Vec<A>,

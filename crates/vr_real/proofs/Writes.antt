@@ -14,7 +14,7 @@ appended_after (Some x) None c bytes k w = absurd k
 appended_after (Some x) (Some y) None bytes k w = absurd w
 appended_after (Some x) (Some y) (Some z) bytes k w = rw (← k) w
 
--- and what a write appends behind it is all that is appended
+-- and what a write appends after it is all that is appended
 pub written_after : {E : Type 0} (a b c : Option (List ℕ)) (r : Result ℕ E) (bytes : List ℕ) → Keeps a b → WriteAppends b c r bytes → WriteAppends a c r bytes
 written_after a b c (Ok n) bytes k w = appended_after a b c (take n bytes) k w
 written_after a b c (Err f) bytes k w = Keeps-trans a b c k w

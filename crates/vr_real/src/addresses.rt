@@ -6,7 +6,7 @@ use std::io;
 use std::io::ErrorKind;
 use std::net::{Net, SocketAddr, ToSocketAddrs};
 
-/// The first address that a text names behind this prefix.
+/// The first address that a text names after this prefix.
 pub fn address_of<R: Net>(net: &R, prefix: &str, text: &str) -> io::Result<SocketAddr> {
     let found = match text.strip_prefix(prefix) {
         Some(rest) => rest.to_socket_addrs(net)?.next(),

@@ -6,7 +6,7 @@ use std::marker::Model;
 use vr_disk::Sector;
 
 /// So many sectors from the first one on are kept where they are known: those of the superblock, of all headers and of all prepares,
-/// and the grid's first blocks. The blocks behind them are seldom read.
+/// and the grid's first blocks. The blocks after them are seldom read.
 pub const KEPT: usize = 1936;
 
 /// Each of the first sectors as it was read or written last, `None` where it isn't known.

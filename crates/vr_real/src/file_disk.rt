@@ -67,7 +67,7 @@ impl<R: Drop> Drop for FileDisk<R> {
     }
 }
 
-/// Writes zeros to each sector that lies wholly behind this length, so that no later write has to find room for it.
+/// Writes zeros to each sector that lies wholly after this length, so that no later write has to find room for it.
 fn fill(file: &File, len: u64) -> io::Result<()> {
     let zeros = [0u8; SECTOR_SIZE];
     for i in 0..SECTORS {
@@ -118,7 +118,7 @@ fn open_locked<R: Files<File = File>>(files: &R, name: &str) -> io::Result<File>
     Ok(file)
 }
 
-/// Gives a file zeros behind what it has, up to the whole length, and says whether it was too short. It gets that length last, so a
+/// Gives a file zeros after what it has, up to the whole length, and says whether it was too short. It gets that length last, so a
 /// file of that length has no holes that were made here.
 fn lengthen(file: &File) -> io::Result<bool> {
     let len = file.metadata()?.len();

@@ -49,7 +49,7 @@ impl Kept {
     }
 
     /// Has a sector written together with those that it is the next to. Those that it isn't the next to are written first. After
-    /// an `Ok` it waits, alone or behind them.
+    /// an `Ok` it waits, alone or after them.
     pub fn write(&mut self, file: &File, i: u32, from: &Sector) -> io::Result<()>
         ensures waits { OnOk result ((self.new.run ≡ (i, from.now.bytes)) ⊎ ((i ≡ self.old.run.0 + length self.old.run.1 / 512) × (self.new.run ≡ (self.old.run.0, self.old.run.1 ++ from.now.bytes)))) }
         ensures known { OnOk result (self.new.copies ≡ slice_set self.old.copies i (Some from.now)) }

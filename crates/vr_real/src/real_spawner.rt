@@ -36,7 +36,7 @@ impl<R: Processes> RealSpawner<R> {
         }
     }
 
-    /// Starts the program with these words behind its name.
+    /// Starts the program with these words after its name.
     fn spawn(&self, words: &Vec<String>) -> io::Result<Child<R::Started>> {
         let Some(program) = &self.program else {
             return Err(io::Error::from(ErrorKind::NotFound));

@@ -43,7 +43,7 @@ pub struct TcpStreams<R> {
     listener: Option<TcpListener>,
     peers: Vec<SocketAddr>,
     slots: Vec<Slot>,
-    /// Who has the places behind the peers' slots.
+    /// Who has the places after the peers' slots.
     places: Places,
     /// Where the next search begins.
     next: usize,
@@ -256,7 +256,7 @@ impl<R: Drop> TcpStreams<R> {
         }
     }
 
-    /// The place of a port behind those of the peers.
+    /// The place of a port after those of the peers.
     fn place(&self, port: u32) -> Option<usize> {
         (port as usize).checked_sub(self.peers.len())
     }

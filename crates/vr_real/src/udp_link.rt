@@ -21,7 +21,7 @@ const HEADER: usize = 128;
 const SIZE_AT: usize = 104;
 
 /// Datagrams over UDP. It tells nothing. A receive waits at most ten milliseconds; the ports of the peers are those of
-/// their addresses, and the 64 other senders that were heard last have ports behind them, of which a new one takes that of
+/// their addresses, and the 64 other senders that were heard last have ports after them, of which a new one takes that of
 /// the one that was heard longest ago. A sender that isn't heard, since what it sent can't be a message, has the port of nobody.
 pub struct UdpLink<R> {
     alloc: Global,

@@ -172,7 +172,7 @@ entries_taken g r f ready whole face rest rule =
 
 -- ---- the step of a give_block
 
--- an effect, and what comes behind it
+-- an effect, and what comes after it
 does_first : (s : Setting Face) (e : Replica → Effect) (v w : Word Face) (r : Replica) (f : Face) → (rest : List Effect) × ((((does e ⨾ v) ⨾ w) s r f).script ≡ e r ∷ rest)
 unfolding ◌⨾◌ does
 does_first s e v w r f =

@@ -36,7 +36,7 @@ BlocksAreRepaired = (name : Name) (block : List ℕ) (r : Replica) (f : Face) �
 
 -- ---- the whole step of a message
 
--- an entry that comes and is taken: at the end of the step, whatever was applied behind it, its slot reads as it
+-- an entry that comes and is taken: at the end of the step, whatever was applied after it, its slot reads as it
 abbrev pub TakenEntriesRead : Type 0
 TakenEntriesRead =
     (g : GivePrepare) (r : Replica) (f : Face) → IsReady r → IsWhole g.entry → IsFace f → f.waiting ≡ [] → first_of (give_prepare_table g r) ≡ EntryTaken

@@ -30,7 +30,7 @@ asks_at version n number text l files e =
     let cases : (b : Bool) → cond b (parse version n text) None ≡ Some l → parse version n text ≡ Some l = elim [ true ↦ λ h. h | false ↦ λ h. absurd (cc) ] in
     parsed_asks version n text l files (cases (ltb number limit) e)
 
--- ---- the lines behind the first
+-- ---- the lines after the first
 
 accepted_of : (version n number : ℕ) (texts : List (List ℕ)) → AreLinesOf version n (accepted version n number texts).lines
 unfolding accepted AreLinesOf

@@ -66,7 +66,7 @@ pub and_then_extends : (t later : Played) (o : Option ℕ) → Extends t.outputs
 and_then_extends t later (Some k) = extends_refl t.outputs
 and_then_extends t later None = record { more = later.outputs; is = refl }
 
--- a line that is too long, whatever comes behind it
+-- a line that is too long, whatever comes after it
 none_by : (a : Bool) (o : Option Line) → o ≡ None → cond a o None ≡ None
 none_by true o e = e
 none_by false o e = refl
@@ -83,7 +83,7 @@ line_at_fits version n number text l e =
     let cases : (b : Bool) → cond b (parse version n text) None ≡ Some l → parse version n text ≡ Some l = elim [ true ↦ λ h. h | false ↦ λ h. absurd (cc) ] in
     parsed_fits version n text l (cases (ltb number limit) e)
 
--- what a schedule says of lines behind its first
+-- what a schedule says of lines after its first
 record Follow (p : Played) (w : Scene) (a : Accepted) : Type 0 where
   refused : p.refused ≡ a.refused
   outputs : p.outputs ≡ numbered (length w.world.sent) (happen hazards w.world (happenings a.lines)).outputs

@@ -32,7 +32,7 @@ sound_at_first s live number bytes = record {
   few = rw number (omega arith);
 }
 
--- ---- what lines come to, and with more lines behind them: after a refusal nothing more
+-- ---- what lines come to, and with more lines after them: after a refusal nothing more
 
 pub record Follows (t u : Played) : Type 0 where
   pub same : (k : ℕ) → t.refused ≡ Some k → u ≡ t
@@ -44,7 +44,7 @@ follows_refl t = record { same = λ k e. refl; grows = extends_refl t.outputs }
 follows_and_then : (t later : Played) → Follows t (and_then t.refused t later)
 follows_and_then t later = record { same = λ k e. and_then_refused t later k t.refused e; grows = and_then_extends t later t.refused }
 
--- with more lines behind the same ones
+-- with more lines after the same ones
 follows_behind : (a : List Numbered) (t u : Played) → Follows t u → Follows (behind a t) (behind a u)
 follows_behind a t u f = record {
   same = λ k e. ap (behind a) (f.same k e);
@@ -64,7 +64,7 @@ pub follows_none : (w : Scene) (number : ℕ) (texts : List (List ℕ)) → Foll
 unfolding plays
 follows_none w number texts = record { same = λ k e. absurd (cc); grows = record { more = (plays w number texts).outputs; is = refl } }
 
--- what has not ended and is too long, and whatever comes behind it
+-- what has not ended and is too long, and whatever comes after it
 pub follows_long : (w : Scene) (number : ℕ) (p : List ℕ) (texts : List (List ℕ)) → longest_line < length p → Begins p texts → Follows (plays w number (p ∷ [])) (plays w number texts)
 follows_long w number p texts long b =
     let longer : longest_line < length (p ++ b.rest) = grind (arith, length-append p b.rest) in
@@ -78,7 +78,7 @@ is_long bytes h = rw (lt-ltb longest_line (length bytes) h) refl
 pub not_long : (bytes : List ℕ) → length bytes ≤ longest_line → if_too_long bytes ≡ []
 not_long bytes h = grind (arith, nat_tests)
 
--- ---- a stop behind other lines, and before others
+-- ---- a stop after other lines, and before others
 
 pub front_then : (a b c : Option (List ℕ)) (xs ys all more : List ℕ) → Appends a b xs → AppendsFront b c ys → all ≡ (xs ++ ys) ++ more → AppendsFront a c all
 front_then a b c xs ys all more h k e = (
@@ -255,7 +255,7 @@ pub heard_short : (bytes : List ℕ) → length (cut bytes).last ≤ longest_lin
 unfolding heard
 heard_short bytes h = sym (append-nil (whole_lines bytes)) ∙ ap (λ x. whole_lines bytes ++ x) (sym (not_long (cut bytes).last h))
 
--- a piece of the source behind what stood
+-- a piece of the source after what stood
 pub record Filled (s joined : Replay) (piece : List ℕ) : Type 0 where
   pub group : joined.group ≡ s.group
   pub number : joined.number ≡ s.number
@@ -279,7 +279,7 @@ filled_heard s joined s' piece a b f h =
       text = rw (← same) h.text;
     }
 
--- nothing came behind what stood
+-- nothing came after what stood
 pub filled_none : (s joined : Replay) → IsReplay s → Filled s joined [] → IsReplay joined
 filled_none s joined sound f =
     let bytes : joined.lines.bytes ≡ s.lines.bytes = f.behind ∙ append-nil s.lines.bytes in

@@ -43,7 +43,7 @@ refused_same : (texts : List (List ℕ)) → 0 < length texts → (schedule text
 refused_same [] some = absurd (omega arith)
 refused_same (text ∷ texts) some = sym (plays_show (text ∷ texts)).refused
 
--- what has not ended, and whatever comes behind it
+-- what has not ended, and whatever comes after it
 follows_part : (w : Scene) (number : ℕ) (p rest : List ℕ) → whole_lines p ≡ [] → Follows (plays w number (if_too_long p)) (plays w number (lines_of (p ++ rest)))
 follows_part w number p rest part =
     let cases : (b : Bool) → ltb longest_line (length p) ≡ b → Follows (plays w number (cond b (p ∷ []) [])) (plays w number (lines_of (p ++ rest))) =
@@ -83,7 +83,7 @@ lines_extended : (c : Cut) (ys : List ℕ) → (extended c ys).lines ≡ c.lines
 unfolding extended
 lines_extended c ys = refl
 
--- further lines behind those that were played
+-- further lines after those that were played
 plays_on : (lo l to t : Option (List ℕ)) (s : Replay) (m : Midst lo l to t s) (texts : List (List ℕ)) → plays no_scene 0 (whole_lines m.read ++ texts) ≡ behind m.outputs (plays (scene_of s.group) s.number texts)
 plays_on lo l to t s m texts =
     plays_append no_scene 0 (whole_lines m.read) texts

@@ -49,7 +49,7 @@ judged w number (Some line) =
     let c = comes w line in
     record { scene = c.scene; number = number + 1; refused = None; outputs = c.outputs }
 
--- one line, behind so many others
+-- one line, after so many others
 unfoldable pub taken : Scene → ℕ → List ℕ → Played
 taken w number text = judged w number (line_at w.version w.world.n number text)
 

@@ -28,7 +28,7 @@ pub record IsDone (left_old left_new taken_old taken_new : Option (List ℕ)) : 
   pub accepted : IfSome left_old (λ bytes. refused_in bytes ≡ None)
   pub text : IfSome left_old (λ bytes. Appends taken_old taken_new (text_for bytes))
 
--- Line k is the first that is refused, and the sink grew by the text of those before it. Nothing was read behind the piece in
+-- Line k is the first that is refused, and the sink grew by the text of those before it. Nothing was read after the piece in
 -- which the line is refused: at its end, as soon as it is too long, or at the end of the source. With what stood of a line before
 -- it, that is no more than the longest line with its end.
 pub record IsRefused (k : ℕ) (left_old left_new taken_old taken_new : Option (List ℕ)) : Type 0 where

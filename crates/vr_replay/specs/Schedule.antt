@@ -1,4 +1,4 @@
--- A schedule: the group that its first line makes, the lines behind, the first line that is refused, and what the lines before
+-- A schedule: the group that its first line makes, the lines after, the first line that is refused, and what the lines before
 -- it come to.
 use Rattle.std.specs.Prelude.{ℕ, ◌+◌, nat_lt, List, [], ◌∷◌, Option, Some, None, if◌then◌else◌}
 use Rattle.std.specs.Option.{option_map_or}
@@ -21,14 +21,14 @@ pub record Accepted : Type 0 where
 pub record Schedule : Type 0 where
   pub kind : Kind  -- what the files of the group are made as
   pub n : ℕ  -- the size of the group, 0 where none is made
-  pub lines : List Line  -- those behind the first and before the first that is refused
+  pub lines : List Line  -- those after the first and before the first that is refused
   pub refused : Option ℕ  -- the number of the first line that is refused
 
 -- at most so many lines
 abbrev pub limit : ℕ
 limit = 1000000
 
--- the line of a version behind so many others, in a group of n replicas, which is 0 before the first line
+-- the line of a version after so many others, in a group of n replicas, which is 0 before the first line
 abbrev pub line_at : ℕ → ℕ → ℕ → List ℕ → Option Line
 line_at version n number text = if nat_lt number limit then parse version n text else None
 
@@ -38,7 +38,7 @@ refuses number = record { lines = []; refused = Some number }
 abbrev pub with_line : Line → Accepted → Accepted
 with_line line a = record { lines = line ∷ a.lines; refused = a.refused }
 
--- further lines of a group of n and of its version, behind so many others
+-- further lines of a group of n and of its version, after so many others
 unfoldable pub accepted : ℕ → ℕ → ℕ → List (List ℕ) → Accepted
 accepted version n number [] = record { lines = []; refused = None }
 accepted version n number (text ∷ texts) =
@@ -48,7 +48,7 @@ accepted version n number (text ∷ texts) =
 abbrev pub no_group : Option ℕ → Schedule
 no_group refused = record { kind = strict; n = 0; lines = []; refused = refused }
 
--- a group, and the lines behind
+-- a group, and the lines after
 abbrev pub of_group : Kind → ℕ → Accepted → Schedule
 of_group kind n a = record { kind = kind; n = n; lines = a.lines; refused = a.refused }
 

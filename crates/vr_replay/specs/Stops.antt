@@ -17,7 +17,7 @@ status_of (stop.Refused k) = Refused k
 status_of stop.WriteFault = WriteFault
 status_of stop.NoMemory = NoMemory
 
--- a line behind so many others is refused
+-- a line after so many others is refused
 abbrev pub JudgeCause : Option Line → ℕ → Stop → Type 0
 JudgeCause line number (stop.Refused k) = (line ≡ None) × (k ≡ number + 1)
 JudgeCause line number stop.WriteFault = ⊥
@@ -30,7 +30,7 @@ Stopped before now old new t (stop.Refused k) = (now ≡ before) × (t.refused �
 Stopped before now old new t stop.WriteFault = (now ≡ one_more before) × AppendsFront old new (text_of t.outputs)
 Stopped before now old new t stop.NoMemory = (now ≡ before) × AppendsFront old new (text_of t.outputs)
 
--- The same of a text that grew by what the lines come to: no write is made.
+-- Why a replay into a text stopped, and how the text grew by what the lines come to: no write is made.
 abbrev pub HasStopped : List ℕ → List ℕ → Played → Stop → Type 0
 HasStopped old new t (stop.Refused k) = (t.refused ≡ Some k) × (new ≡ old ++ text_of t.outputs)
 HasStopped old new t stop.WriteFault = ⊥

@@ -28,7 +28,7 @@ pub struct Replay {
     pub lines: Lines,
 }
 
-/// What happens at a line; the text of its outputs goes behind what stands there. The first line makes a group.
+/// What happens at a line; the text of its outputs goes after what stands there. The first line makes a group.
 #[tactic(auto, using(std::proofs::lemmas::Grind::common_steps, vr_group::proofs::Numbering::numbered_none, vr_group::proofs::Numbering::text_none), unfolding(crate::specs::Playing::comes))]
 fn play(alloc: Global, group: &mut World, line: &Line, to: &mut ByteList) -> Result<(), NoMemory>
     requires live { group.old.live ≡ true }
@@ -46,7 +46,7 @@ fn play(alloc: Global, group: &mut World, line: &Line, to: &mut ByteList) -> Res
     Ok(())
 }
 
-/// The line of a version that these bytes spell, behind so many others.
+/// The line of a version that these bytes spell, after so many others.
 fn judge(alloc: Global, n: u8, number: u32, text: &[u8], version: Version) -> Result<Line, Stop>
     requires { number ≤ 1000000 }
     ensures ok { IfOk result (λ line. line_at version n number text.now ≡ Some line) }
@@ -79,7 +79,7 @@ impl Replay {
     ghost use Rattle.vr_replay.specs.Playing.{IsReplay, HearsAll, taken, hears_lines, no_scene, scene_of, ends};
     ghost use Rattle.vr_replay.specs.Stops.{HasStopped, Stopped};
 
-    /// Takes the line that was given; the text of its outputs goes behind what stands there.
+    /// Takes the line that was given; the text of its outputs goes after what stands there.
     #[tactic(auto, using(std::proofs::lemmas::Grind::common_steps, crate::proofs::Taken::taken_some, crate::proofs::Taken::taken_none, vr_group::proofs::Numbering::text_none))]
     fn take_line(&mut self, alloc: Global, to: &mut ByteList) -> Result<(), Stop>
         requires live { self.old.group.live ≡ true }
@@ -110,7 +110,7 @@ impl Replay {
         Ok(())
     }
 
-    /// Takes the lines that have ended; the text of their outputs goes behind what stands there.
+    /// Takes the lines that have ended; the text of their outputs goes after what stands there.
     fn hear_lines(&mut self, alloc: Global, to: &mut ByteList) -> Result<(), Stop>
         requires live { self.old.group.live ≡ true }
         requires few { self.old.number ≤ 1000000 }

@@ -33,7 +33,7 @@ fn entry_on(op: u64, parent: Sum) -> Entry
     Entry::of_request(&request, request.name(), Operation::Register, 0, op, parent)
 }
 
-// The entry behind so many others.
+// The entry after so many others.
 fn entry_after(count: u32) -> Entry
     ensures header { IsEntryHeader result.header }
     ensures version { result.header.version ≡ 1 }
@@ -59,7 +59,7 @@ pub fn register(client: u64) -> Event {
     }))
 }
 
-/// The prepare of the entry behind so many others, which are committed, from the primary of view 0.
+/// The prepare of the entry after so many others, which are committed, from the primary of view 0.
 pub fn prepare(count: u32) -> Event {
     Event::Deliver(Message::prepare(Prepare {
         version: version(),
@@ -80,7 +80,7 @@ pub fn change(replica: u8, view: u8) -> Event {
     }))
 }
 
-/// The start_view of a view with the entry behind so many others, the last of its log.
+/// The start_view of a view with the entry after so many others, the last of its log.
 pub fn start_view(alloc: Global, view: u8, count: u32, commit: u32) -> Result<Event, NoMemory> {
     let mut headers = Seq::new(alloc);
     headers.push(entry_after(count).header())?;

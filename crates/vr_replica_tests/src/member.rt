@@ -24,7 +24,7 @@ struct Member {
     sent: u64,
 }
 
-// The lines of what was put out, behind what stands, and how many messages were sent then.
+// The lines of what was put out, after what stands, and how many messages were sent then.
 fn tell(outputs: &[Output], sent: u64, text: &mut ByteList) -> Result<u64, NoMemory> {
     let mut number = sent;
     for output in outputs {

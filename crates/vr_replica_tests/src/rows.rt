@@ -95,7 +95,7 @@ fn rows(rt: HostRuntime) -> Result<(), Fail> {
             &[Format, Damage(0), Damage(20), Damage(40)],
             "done\ndone\nkept out\n",
         ),
-        // superblock-new: a save is cut behind two copies of the new value.
+        // superblock-new: a save is cut after two copies of the new value.
         (
             1,
             &[Format, Fuse(42, 1_743_392_200), Ticks, Start(1)],
@@ -131,7 +131,7 @@ fn rows(rt: HostRuntime) -> Result<(), Fail> {
              send 5 2 0 get_block 64\n",
         ),
         // block-repair: a block of the address and of another name changes nothing. The block itself ends the asking, and the state is
-        // loaded: the op behind the checkpoint can be applied.
+        // loaded: the op after the checkpoint can be applied.
         (
             1,
             &[

@@ -1,4 +1,4 @@
--- A front's sectors, and zeros behind them, written one after the other.
+-- A front's sectors, and zeros after them, written one after the other.
 use Rattle.std.proofs.Common.{ℕ, zero, suc, ◌*◌, ◌+◌, ◌-◌, ◌<◌, ◌≤◌, ◌≡◌, arith, refl, sym, ap, ◌∙◌, List, [], ◌∷◌, ◌++◌, length, take, drop, length-drop}
 use Rattle.std.specs.Prelude.{min, replicate}
 use Rattle.std.proofs.lemmas.List.{drop-append-le, length-replicate, replicate-append-replicate, take-append-le}
@@ -17,7 +17,7 @@ writes_none : (i : ℕ) (b : List ℕ) → writes i 0 b ≡ []
 unfolding writes
 writes_none i b = refl
 
--- what stands behind so many sectors doesn't matter to them
+-- what stands after so many sectors doesn't matter to them
 writes_front : (n i : ℕ) (a c : List ℕ) → 512 * n ≤ length a → writes i n (a ++ c) ≡ writes i n a
 writes_front zero i a c l = writes_none i (a ++ c) ∙ sym (writes_none i a)
 writes_front (suc n) i a c l =

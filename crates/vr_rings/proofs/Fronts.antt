@@ -1,4 +1,4 @@
--- The front of a prepare, behind which zeros stand.
+-- The front of a prepare, after which zeros stand.
 use Rattle.std.proofs.Common.{ℕ, Bool, ◌*◌, ◌+◌, ◌-◌, ◌≤◌, ◌≡◌, arith, refl, sym, ap, ◌∙◌, true, false, cond, ◌&&◌, ◌==◌, List, ◌++◌, length, take, drop, Option, Some, None, length-append}
 use Rattle.std.specs.Prelude.{IfSome, min, replicate}
 use Rattle.std.specs.Option.{option_map}
@@ -25,7 +25,7 @@ length_in_front b l =
     let z : length zs ≡ 4096 - length b = length-replicate {A = ℕ} (4096 - length b) 0 in
     omega (arith, a, z, l)
 
--- nothing stands behind all of them
+-- nothing stands after all of them
 pub front_all : (b : List ℕ) → length b ≡ 4096 → in_front b ≡ b
 unfolding in_front
 front_all b n = ap (λ k. b ++ replicate (4096 - k) 0) n ∙ append-nil b
@@ -93,7 +93,7 @@ put_in_front b new t d =
 
 -- ---- the sectors of a front
 
--- behind the bytes of a front zeros stand
+-- after the bytes of a front zeros stand
 pub past_front : (n : ℕ) (b : List ℕ) → length b ≤ n → drop n (in_front b) ≡ replicate (4096 - n) 0
 unfolding in_front
 past_front n b l =
@@ -112,7 +112,7 @@ front_prepare n e bytes w l m q =
 
 -- ---- a buffer that was filled
 
--- a front, and zeros behind it
+-- a front, and zeros after it
 pub front_set : (b new : List ℕ) → length b ≤ 4096 → new ≡ b ++ replicate (4096 - length b) 0 → take 4096 new ≡ in_front b
 unfolding in_front
 front_set b new l e =

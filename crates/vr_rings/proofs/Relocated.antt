@@ -86,7 +86,7 @@ runs_same : (cs ds : Face → List Call) (a b : Option Disk) (ok : Bool) → ((f
 runs_same cs ds None b ok e r = r
 runs_same cs ds (Some d) b ok e r = subst (λ cs. Runs cs (Some d) b ok) (e d.face) r
 
--- calls that stopped, and others that would have come behind them
+-- calls that stopped, and others that would have come after them
 runs_stopped : (cs rest ds : Face → List Call) (a b : Option Disk) → ((f : Face) → cs f ++ rest f ≡ ds f) → RunsFrom cs a b false → RunsFrom ds a b false
 runs_stopped cs rest ds None b e r = r
 runs_stopped cs rest ds (Some d) b e r = subst (λ cs. Runs cs (Some d) b false) (e d.face) (Runs_stopped (cs d.face) (rest d.face) (Some d) b r)

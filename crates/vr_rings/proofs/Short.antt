@@ -18,7 +18,7 @@ use Rattle.vr_header.specs.Made.{entry_of}
 use Rattle.vr_rings.specs.Readings.{Begins, IsNothing}
 use Rattle.vr_rings.specs.Slots.{in_front, padded, prepare_reading, size_at, whole_in, whole_of}
 
--- ---- the first sector, and those behind it
+-- ---- the first sector, and those after it
 
 reading_parts : (ver slot : ℕ) (f : Face) → prepare_reading ver f slot ≡ option_map (padded ver) (behind (reads f (prepare_place ver slot)) (together (prepare_place ver slot + 1) (prepare_sectors ver - 1) f))
 reading_parts ver slot f =
@@ -39,7 +39,7 @@ rest_by ver slot f first r b e =
     reading_parts ver slot f
     ∙ (ap (λ o. option_map (padded ver) (behind o (together (prepare_place ver slot + 1) (prepare_sectors ver - 1) f))) b ∙ ap (λ o. option_map (padded ver) (behind (Some first) o)) e)
 
--- zeros stand behind it
+-- zeros stand after it
 pub rest_zeros : (ver slot : ℕ) (f : Face) (first : List ℕ) → length first ≡ 512 → Begins ver f slot first → has (replicate (512 * (prepare_sectors ver - 1)) 0) (together (prepare_place ver slot + 1) (prepare_sectors ver - 1) f) ≡ true
     → prepare_reading ver f slot ≡ Some (in_front first)
 unfolding in_front
@@ -51,7 +51,7 @@ rest_zeros ver slot f first n b h =
     let read = rest_by ver slot f first (Some (replicate some 0)) b (has_is (replicate some 0) (together (prepare_place ver slot + 1) (prepare_sectors ver - 1) f) h) in
     read ∙ ap Some (append_assoc first (replicate some 0) (replicate more 0) ∙ ap (λ x. first ++ x) (replicate-append-replicate some more 0 ∙ ap (λ n. replicate {A = ℕ} n 0) all))
 
--- ---- something else stands behind it
+-- ---- something else stands after it
 
 and_right : (p q : Bool) → (p && (false && q)) ≡ false
 and_right true q = refl

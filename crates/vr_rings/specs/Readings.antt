@@ -76,7 +76,8 @@ pub record Fetches {D : Type 0} (d : of_disk.Ghosts D) (version slot : ℕ) (dis
   pub blank : IfSome (d.told disk) (λ t. (result ≡ Err Blank) ↔ (is_blank version t.face slot ≡ true))
   pub bytes : IfSome (d.told disk) (λ t. IfOk result (λ h. prepare_reading version t.face slot ≡ Some all))
 
--- The same, and the buffer begins with the entry, which was checked, whatever the disk gave. Else the buffer is as it was.
+-- The header of the whole entry that the slot's prepare reads as, and the buffer begins with that entry, which was checked, whatever the disk
+-- gave. Else the buffer is as it was.
 pub record ReadsWhole {D : Type 0} (d : of_disk.Ghosts D) (version slot : ℕ) (disk disk' : D) (to to' : List ℕ) (result : Result Header NotWhole) : Type 0 where
   pub told : d.told disk' ≡ d.told disk
   pub faults : d.faults disk' ≡ d.faults disk

@@ -114,7 +114,7 @@ fn entry_in<D: SectorDisk>(disk: &mut D, bytes: &[u8]) -> Option<Header>
 }
 
 // The header of the entry that so many of these bytes of a prepare are, `None` where they aren't a whole entry or where
-// anything but zeros stands behind them.
+// anything but zeros stands after them.
 fn whole_by<D: SectorDisk>(disk: &mut D, bytes: &[u8], size: usize) -> Option<Header>
     requires size { size ≤ length bytes.now }
     requires given { size ≡ min (size_at bytes.now) PREPARE_SIZE }
@@ -131,7 +131,7 @@ fn whole_by<D: SectorDisk>(disk: &mut D, bytes: &[u8], size: usize) -> Option<He
     }
 }
 
-// The header of the entry that these bytes are whose header tells that it goes on behind them, where zeros stand.
+// The header of the entry that these bytes are whose header tells that it goes on after them, where zeros stand.
 fn whole_beyond<D: SectorDisk>(disk: &mut D, bytes: &[u8], size: usize) -> Option<Header>
     requires given { size ≡ min (size_at bytes.now) PREPARE_SIZE }
     requires least { 128 ≤ length bytes.now }

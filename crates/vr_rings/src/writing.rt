@@ -18,7 +18,7 @@ use vr_disk::{
 };
 use vr_header::{Entry, HEADER_SIZE, Header, NAMED_AT};
 
-// Writes these bytes, so many sectors of them, and zeros behind them to so many sectors from one on.
+// Writes these bytes, so many sectors of them, and zeros after them to so many sectors from one on.
 fn write_front<D: SectorDisk>(
     disk: &mut D,
     at: u32,

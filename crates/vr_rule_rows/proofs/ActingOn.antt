@@ -1,4 +1,4 @@
--- The same for the messages of view changes and repair, and for ticks.
+-- For each rule of messages, an event at which exactly that rule applies: those of view changes and repair, and for ticks.
 use Rattle.vr_base.specs.Kinds.{strict}
 use Rattle.std.proofs.Common.{ℕ, ◌-◌, ◌^◌, ◌≡◌, List, [], ◌∷◌, ◌++◌, map, replicate, refl, true, Some}
 use Rattle.vr_base.specs.declared.sum.Sum.{Sum}

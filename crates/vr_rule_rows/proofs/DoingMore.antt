@@ -1,4 +1,4 @@
--- The same for a checkpoint of the view that is taken over, and for visits of the disk.
+-- What rules do where their words are easily read otherwise: for a checkpoint of the view that is taken over, and for visits of the disk.
 use Rattle.std.proofs.Common.{ℕ, ◌≡◌, List, [], ◌∷◌, ◌++◌, length, map, replicate, codes, refl, true}
 use Rattle.vr_header.specs.declared.part.Part.{Part}
 use Rattle.vr_header.specs.declared.part.Part.TheVariants.{Here, Lost, Wanted, Unknown, Nothing}

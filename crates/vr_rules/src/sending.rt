@@ -1,4 +1,4 @@
-// What every step and every opening puts out and saves. Each function is a law: its contract is the statement, and it does nothing.
+//! What every step and every opening puts out and saves. Each function is a law: its contract is the statement, and it does nothing.
 
 ghost use Rattle.vr_rules.specs.Laws.{NothingIsDone, OnlyHearingIsDone, OpeningsArePresent, OpeningsSaveWell, SectorsFit, StepsArePresent, StepsSaveWell, WaitsOnlyLose};
 
@@ -24,7 +24,7 @@ pub fn steps_are_present<F>()
     ensures { StepsArePresent F }
 {}
 
-/// So are those of an opening, from any value that makes a good copy.
+/// Messages and lines of an opening name its replica and are of its view, from any value that makes a good copy.
 pub fn openings_are_present<F>()
     ensures { OpeningsArePresent F }
 {}
@@ -35,7 +35,8 @@ pub fn steps_save_well<F>()
     ensures { StepsSaveWell F }
 {}
 
-/// So does each opening, from any value that makes a good copy, whatever headers read.
+/// Each value that an opening saves makes a good copy, and what it leaves can be saved again: from any value that makes a good copy, whatever
+/// headers read.
 pub fn openings_save_well<F>()
     ensures { OpeningsSaveWell F }
 {}

@@ -1,5 +1,5 @@
-//! Rows, and what is told of them. A row begins at a line `== WHAT`, and each line behind it is one of its schedule. A line is told when it
-//! is read, with what it puts out under it, two spaces in, but for one behind `- `; at the end of a row comes how it ended, where a line was
+//! Rows, and what is told of them. A row begins at a line `== WHAT`, and each line after it is one of its schedule. A line is told when it
+//! is read, with what it puts out under it, two spaces in, but for one after `- `; at the end of a row comes how it ended, where a line was
 //! refused.
 
 use crate::{TellingSink, TellingSource};

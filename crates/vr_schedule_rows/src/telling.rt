@@ -6,7 +6,7 @@ use std::io;
 use std::io::Write;
 use vr_edge::{ReadFailed, Sink, Source, WriteFailed};
 
-/// Gives one line a read, and tells it then, but for one behind `- `.
+/// Gives one line a read, and tells it then, but for one after `- `.
 #[derive(Drop)]
 pub struct TellingSource<'a> {
     pub rt: &'a HostRuntime,

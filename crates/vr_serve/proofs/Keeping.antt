@@ -30,7 +30,7 @@ keeps_none m d k l o t runs = record {
   attached = refl;
 }
 
--- more was done behind an Ok
+-- more was done after an Ok
 pub keeps_then : {M D K L S T : Type 0} (m : of_member.Ghosts M) (d : of_disk.Ghosts D) (k : of_sink.Ghosts K) (l : of_link.Ghosts L) (a b c : Objects M D K L)
     (s : S) (result : Result T Stop) → Keeps m d k l a b (Ok s) → Keeps m d k l b c result → Keeps m d k l a c result
 keeps_then m d k l a b c s result p q = record {

@@ -89,7 +89,7 @@ turns_more does version cluster count tick last after left left' left'' got got'
       (events_of (last_of tick s.turns) turn) s.passed (rw (sym s.ticked) passed));
 }
 
--- an early end in the turn behind these
+-- an early end in the turn after these
 pub turns_cut : {S : Type 0} (does : Doing S) (halts : Halting S) (version cluster count limit tick last : ℕ) (left left' left'' : Option (List ℕ))
     (got got' got'' : Option (List Arrival)) (a b : At S) (end : End) → HaveTurns does version cluster count tick last a b left left' got got' → count < limit
     → IsTurnCut does halts version cluster last b left' left'' got' got'' end
@@ -106,7 +106,7 @@ turns_cut does halts version cluster count limit tick last left left' left'' got
       (cut_after does halts a b (happened tick s.turns) (whole_in c.last) (next_in last c.last) end s.passed c.cut);
 }
 
--- where a run stands behind the first outputs
+-- where a run stands after the first outputs
 begins_at : {S : Type 0} (member : S) (disk : Option Disk) (number : ℕ) (clients : List Client) (first : List Output) (t : Option (List ℕ)) (u : Option (List (Option Datagram)))
     → number ≡ numbers_after 0 first → clients ≡ [] → at member disk number clients t u ≡ begun_at member disk first t u
 begins_at member disk number clients first t u same none = rw (same, none) refl

@@ -32,7 +32,7 @@ heard come clients = heard_with come.port come.event clients
 abbrev pub port_of : ℕ → List Client → Option ℕ
 port_of id clients = option_map (λ c. c.port) (find (λ c. c.id == id) clients)
 
--- the number of the next message behind an output
+-- the number of the next message after an output
 abbrev pub number_after : ℕ → Output → ℕ
 number_after m (Send s) = one_more m
 number_after m _ = m

@@ -78,7 +78,7 @@ pub record Passed {S : Type 0} (does : Doing S) (a b : At S) (comes : List Come)
 abbrev pub SendsFront : List Datagram → Option (List (Option Datagram)) → Option (List (Option Datagram)) → Type 0
 SendsFront ds old new = (front : List Datagram) × (rest : List Datagram) × (front ++ rest ≡ ds) × Sends front old new
 
--- of a text and the datagrams behind it a front was put out: no datagram before the whole text
+-- of a text and the datagrams after it a front was put out: no datagram before the whole text
 abbrev pub PutsFront : List ℕ → List Datagram → Option (List ℕ) → Option (List ℕ) → Option (List (Option Datagram))
     → Option (List (Option Datagram)) → Type 0
 PutsFront text ds t t' u u' = (AppendsFront t t' text × (u' ≡ u)) ⊎ (Appends t t' text × SendsFront ds u u')
@@ -109,7 +109,7 @@ pub record EndsInStep {S : Type 0} (halts : Halting S) (a : At S) (come : Come) 
   pub taken : end.taken ≡ a.taken
   pub sent : end.sent ≡ a.sent
 
--- behind a step that was done: the disk is as that left it, and a front was put out
+-- after a step that was done: the disk is as that left it, and a front was put out
 pub record EndsBehindStep {S : Type 0} (does : Doing S) (a : At S) (come : Come) (end : End) : Type 0 where
   pub outputs : List Output
   pub after : S
@@ -122,7 +122,7 @@ abbrev pub Begun : {S : Type 0} → Doing S → Halting S → At S → List Come
 Begun does halts a [] end = EndsBetween a end
 Begun does halts a (c ∷ cs) end = (cs ≡ []) × (EndsInStep halts a c end ⊎ EndsBehindStep does a c end)
 
--- an early end behind the events that happened wholly: of those that come next one was begun, or none, and the rest didn't happen
+-- an early end after the events that happened wholly: of those that come next one was begun, or none, and the rest didn't happen
 pub record Cut {S : Type 0} (does : Doing S) (halts : Halting S) (a : At S) (whole next : List Come) (end : End) : Type 0 where
   pub begun : List Come
   pub rest : List Come
@@ -136,7 +136,7 @@ pub record PutsFirst (first : List Output) (t t' : Option (List ℕ)) (u u' : Op
   pub taken : Appends t t' (text_from 0 first)
   pub sent : Sends (datagrams_for [] first) u u'
 
--- where a run stands behind them
+-- where a run stands after them
 abbrev pub begun_at : {S : Type 0} → S → Option Disk → List Output → Option (List ℕ) → Option (List (Option Datagram)) → At S
 begun_at member disk first taken sent = at member disk (numbers_after 0 first) [] taken sent
 
@@ -176,7 +176,7 @@ pub record HaveTurns {S : Type 0} (does : Doing S) (version cluster count tick a
   pub brought : AreTurns version cluster turns
   pub passed : Passed does a b (happened tick turns)
 
--- fewer than so many turns happened wholly from a on, and the one behind them was cut off
+-- fewer than so many turns happened wholly from a on, and the one after them was cut off
 pub record AreTurnsCut {S : Type 0} (does : Doing S) (halts : Halting S) (version cluster count tick : ℕ) (a : At S) (left left' : Option (List ℕ))
     (got got' : Option (List Arrival)) (end : End) : Type 0 where
   pub turns : List Turn

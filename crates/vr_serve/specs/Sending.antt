@@ -31,7 +31,7 @@ pub record SendsInOrder {L T E : Type 0} (l : of_link.Ghosts L) (ds : List Datag
   pub front : OnErr result (SendsFront ds (l.sent link) (l.sent link'))
   pub kept : OnlySends l link link'
 
--- the text of these outputs was taken whole, and their datagrams were sent behind it, or at an error a front of that
+-- the text of these outputs was taken whole, and their datagrams were sent after it, or at an error a front of that
 pub record PutsOut {K L : Type 0} (k : of_sink.Ghosts K) (l : of_link.Ghosts L) (post post' : Post) (sink sink' : K) (link link' : L) (outputs : List Output)
     (result : Result (Unit {0}) Stop) : Type 0 where
   pub taken : OnOk result (Appends (k.taken sink) (k.taken sink') (text_from post.number outputs))

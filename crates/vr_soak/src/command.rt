@@ -19,7 +19,7 @@ fn text_for(alloc: Global, seed: u64, count: u32) -> Result<ByteList, NoMemory>
     Ok(summary.text(alloc)?)
 }
 
-/// Runs the schedule that a seed makes, of so many lines behind the one that makes the group, and writes the summary of what it comes to.
+/// Runs the schedule that a seed makes, of so many lines after the one that makes the group, and writes the summary of what it comes to.
 #[tactic(auto, using(crate::proofs::Headline::headline))]
 pub fn soak<K: Sink>(alloc: Global, seed: u64, count: u32, sink: &mut K) -> Status
     // The whole summary, a front of it where a write failed, or nothing; no other answer is given.

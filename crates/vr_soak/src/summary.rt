@@ -30,7 +30,7 @@ impl fmt::Display for Faults {
 /// What a schedule comes to.
 #[derive(Clone, Copy, Debug, PartialEq, Eq)]
 pub struct Summary {
-    /// How many lines it has behind the one that makes the group.
+    /// How many lines it has after the one that makes the group.
     pub events: u32,
     pub messages: u64,
     /// How many operations were applied, by all replicas.

@@ -49,7 +49,7 @@ pub trait Spawner {
     /// How often a start or a stop has failed.
     ghost faults: { Self → ℕ };
 
-    /// Starts a program with these words behind its name, and returns its number: they are counted from 0.
+    /// Starts a program with these words after its name, and returns its number: they are counted from 0.
     fn start(&mut self, words: &Vec<String>) -> Result<u32, SpawnFailed>
         ensures cause { HasCause (faults self.old) (faults self.new) result }
         ensures number { IsNumbered (started self.old) (started self.new) result }

@@ -86,7 +86,7 @@ oldest_found (e ∷ es) some =
     let s = settles (e ∷ []) es (e.0, e.1.op) alone in
     record { client = s.client.0; op = s.client.1; found = s.found; is = s.at.is }
 
--- a key is below each that stands behind it
+-- a key is below each that stands after it
 pub below_member : (key : ℕ) (before : Map) (e : ℕ × Session) (after : Map) → below_all nat_cmp key (before ++ (e ∷ after)) ≡ true → key < e.0
 below_member key [] e after h = ltb-true key e.0 (sym (is_lt_nat_cmp key e.0) ∙ (and_parts (is_lt (nat_cmp key e.0)) (below_all nat_cmp key after) h).0)
 below_member key (x ∷ xs) e after h = below_member key xs e after (and_parts (is_lt (nat_cmp key x.0)) (below_all nat_cmp key (xs ++ (e ∷ after))) h).1

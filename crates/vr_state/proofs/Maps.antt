@@ -59,7 +59,7 @@ module _ {K V : Type 0} (order : K → K → Ordering) where
         let parts = and_parts (is_lt (order x.0 y.0)) (below_all order x.0 (ys ++ e ∷ [])) g in
         and_from _ _ (ap is_lt (total.trans k x.0 y.0 (less _ h) (less _ parts.0))) (below_more k x e ys h parts.1)
 
-    -- behind a map an entry stands in order exactly where it stands above the last
+    -- after a map an entry stands in order exactly where it stands above the last
     pub IsMap-push : (es : List (K × V)) (e : K × V) → IsMap order es → is_sorted order (es ++ e ∷ []) ≡ rises es e
     IsMap-push [] e h = refl
     IsMap-push (d ∷ []) e h = elim (is_lt (order d.0 e.0)) as (λ b. ((b && true) && true) ≡ b) [ true ↦ refl | false ↦ refl ]

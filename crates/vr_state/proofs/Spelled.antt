@@ -62,7 +62,7 @@ session_reads e rest fits =
       outcome_reads e.1.outcome rest fits.outcome,
     ) refl
 
--- a value behind its length, as it stands behind the kind
+-- a value after its length, as it stands after the kind
 value_is : (bytes behind rest : List ℕ) (n : ℕ) (value piece after : List ℕ) (o : Outcome) → bytes ≡ bytes16 n ++ behind → behind ≡ piece ++ after → length piece ≡ n → piece ≡ value → is_text (value_limit 2) piece ≡ true
     → outcome.Value value ≡ o → after ≡ rest → OutcomeFits o × (5 ∷ bytes ≡ outcome_bytes o ++ rest)
 unfolding outcome_bytes

@@ -77,7 +77,7 @@ pub record IsStored (log : List Whole) (m c : ℕ) (s : Session) : Type 0 where
 stored_more : (log : List Whole) (m c : ℕ) (s : Session) → IsStored log m c s → IsStored log (suc m) c s
 stored_more log m c s h = let p = h.op in record { op = (p.0, omega (arith, p.1)); answer = h.answer }
 
--- what the entry behind m others gives
+-- what the entry after m others gives
 pub answer_next : (log : List Whole) (m : ℕ) (e : Whole) → slice_get log m ≡ Some e
     → answer_at log (m + 1) ≡ Some (record { client = e.header.client; request = e.header.request; answer = check (state_after (take m log)) e; outcome = fresh_outcome (state_after (take m log)) e (check (state_after (take m log)) e) })
 unfolding answer_at
@@ -106,7 +106,7 @@ stored_by log m e answer.Old c s numbers at is ih h = stored_more log m c s (ih 
 stored_by log m e answer.Gap c s numbers at is ih h = stored_more log m c s (ih c s h)
 stored_by log m e answer.Evicted c s numbers at is ih h = stored_more log m c s (ih c s h)
 
--- the state behind one entry more
+-- the state after one entry more
 pub state_next : (log : List Whole) (m : ℕ) (e : Whole) → slice_get log m ≡ Some e → state_after (take (suc m) log) ≡ (applied (state_after (take m log)) e).state
 state_next log m e at = ap state_after (take_next log m e at) ∙ state_after_more (take m log) e
 

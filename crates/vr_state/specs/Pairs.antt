@@ -23,13 +23,13 @@ pair_text pair = length pair.0 ∷ (bytes16 (length pair.1) ++ (pair.0 ++ pair.1
 abbrev pub pair_bytes : ℕ → ℕ
 pair_bytes v = 3 + 64 + value_limit v
 
--- the pieces of a pair that the bytes begin with, and the bytes behind them
+-- the pieces of a pair that the bytes begin with, and the bytes after them
 unfoldable pub pieces_from : List ℕ → Option ((List ℕ × List ℕ) × List ℕ)
 pieces_from bytes =
     option_and_then (λ a. option_and_then (λ b. option_and_then (λ key. option_and_then (λ value. Some ((key.0, value.0), value.1))
     (piece_from b.0 key.1)) (piece_from a.0 b.1)) (number_from w16 a.1)) (byte_from bytes)
 
--- the pair that the bytes begin with, and the bytes behind it
+-- the pair that the bytes begin with, and the bytes after it
 unfoldable pub pair_from : List ℕ → Option ((List ℕ × List ℕ) × List ℕ)
 pair_from bytes =
     option_and_then (λ p. if is_text 64 p.0.0 then (if is_text (value_limit 2) p.0.1 then Some p else None) else None) (pieces_from bytes)

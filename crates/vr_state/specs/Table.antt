@@ -10,7 +10,7 @@ use Rattle.vr_state.specs.Finite.{is_sorted, IsMap}
 use Rattle.vr_base.specs.Bytes.{bytes16}
 use Rattle.vr_state.specs.Front.{number_from}
 
--- the count that the bytes begin with, and the bytes behind it
+-- the count that the bytes begin with, and the bytes after it
 unfoldable pub count_from : ℕ → List ℕ → Result (ℕ × List ℕ) StateFault
 count_from limit bytes =
     option_map_or (λ r. if nat_lt limit r.0 then Err TooMany else Ok (r.0, r.1)) (number_from w16 bytes) (Err Torn)
@@ -21,7 +21,7 @@ table_text text es = bytes16 (length es) ++ flat_map text es
 
 -- of entries whose keys have this order; `read` gives the entry that bytes begin with
 module _ {K V : Type 0} (order : K → K → Ordering) (read : List ℕ → Option ((K × V) × List ℕ)) where
-  -- so many more entries are read behind those that are done
+  -- so many more entries are read after those that are done
   unfoldable pub read_on : ℕ → List (K × V) → List ℕ → Result (List (K × V)) StateFault
   read_on zero done [] = Ok done
   read_on zero done (b ∷ rest) = Err Torn

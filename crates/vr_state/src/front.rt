@@ -7,7 +7,7 @@ ghost use Rattle.vr_state.specs.Table.{count_from};
 
 use crate::StateFault;
 
-/// The first `length` bytes and those behind them, `None` exactly where there are fewer.
+/// The first `length` bytes and those after them, `None` exactly where there are fewer.
 #[tactic(auto, unfolding(crate::specs::Front::piece_from))]
 pub fn split_piece(bytes: &[u8], length: usize) -> Option<(&[u8], &[u8])>
     ensures { option_map (λ p. (p.0.now, p.1.now)) result ≡ piece_from length bytes.now }
@@ -18,7 +18,7 @@ pub fn split_piece(bytes: &[u8], length: usize) -> Option<(&[u8], &[u8])>
     Some((&bytes[..length], &bytes[length..]))
 }
 
-/// The first byte and those behind it, `None` exactly where there are none.
+/// The first byte and those after it, `None` exactly where there are none.
 #[tactic(auto, unfolding(crate::specs::Front::byte_from))]
 pub fn split_byte(bytes: &[u8]) -> Option<(u8, &[u8])>
     ensures { option_map (λ p. (p.0, p.1.now)) result ≡ byte_from bytes.now }
@@ -29,7 +29,7 @@ pub fn split_byte(bytes: &[u8]) -> Option<(u8, &[u8])>
     }
 }
 
-/// The number of the first 2 bytes and the bytes behind it, `None` exactly where there are fewer.
+/// The number of the first 2 bytes and the bytes after it, `None` exactly where there are fewer.
 #[tactic(auto, unfolding(crate::specs::Front::number_from))]
 pub fn split_u16(bytes: &[u8]) -> Option<(u16, &[u8])>
     ensures { option_map (λ p. (p.0, p.1.now)) result ≡ number_from w16 bytes.now }
@@ -42,7 +42,7 @@ pub fn split_u16(bytes: &[u8]) -> Option<(u16, &[u8])>
     Some((u16::from_be_bytes(field), &bytes[2..]))
 }
 
-/// The number of the first 4 bytes and the bytes behind it, `None` exactly where there are fewer.
+/// The number of the first 4 bytes and the bytes after it, `None` exactly where there are fewer.
 #[tactic(auto, unfolding(crate::specs::Front::number_from))]
 pub fn split_u32(bytes: &[u8]) -> Option<(u32, &[u8])>
     ensures { option_map (λ p. (p.0, p.1.now)) result ≡ number_from w32 bytes.now }
@@ -55,7 +55,7 @@ pub fn split_u32(bytes: &[u8]) -> Option<(u32, &[u8])>
     Some((u32::from_be_bytes(field), &bytes[4..]))
 }
 
-/// The number of the first 8 bytes and the bytes behind it, `None` exactly where there are fewer.
+/// The number of the first 8 bytes and the bytes after it, `None` exactly where there are fewer.
 #[tactic(auto, unfolding(crate::specs::Front::number_from))]
 pub fn split_u64(bytes: &[u8]) -> Option<(u64, &[u8])>
     ensures { option_map (λ p. (p.0, p.1.now)) result ≡ number_from w64 bytes.now }
@@ -68,7 +68,7 @@ pub fn split_u64(bytes: &[u8]) -> Option<(u64, &[u8])>
     Some((u64::from_be_bytes(field), &bytes[8..]))
 }
 
-/// The count that the bytes begin with and the bytes behind it; `Torn` where there is none, `TooMany` where it is
+/// The count that the bytes begin with and the bytes after it; `Torn` where there is none, `TooMany` where it is
 /// above the limit.
 #[tactic(auto, unfolding(crate::specs::Table::count_from))]
 pub fn split_count(bytes: &[u8], limit: u16) -> Result<(u16, &[u8]), StateFault>

@@ -19,7 +19,7 @@ pub fn read_pairs(alloc: Global, bytes: &[u8]) -> Result<Seq<Pair>, StateFault>
     read_all(alloc, count, rest)
 }
 
-/// So many pairs, and nothing behind them.
+/// So many pairs, and nothing after them.
 fn read_all(alloc: Global, count: u16, bytes: &[u8]) -> Result<Seq<Pair>, StateFault>
     ensures pairs { IfOk result (λ pairs. read_on byte_order pair_from count [] bytes.now ≡ Ok pairs) }
     ensures fault { IfErr result (IsOrNoMemory (read_on byte_order pair_from count [] bytes.now)) }
@@ -35,7 +35,7 @@ fn read_all(alloc: Global, count: u16, bytes: &[u8]) -> Result<Seq<Pair>, StateF
     Err(StateFault::Torn)
 }
 
-/// Reads one pair more, and gives the bytes behind it.
+/// Reads one pair more, and gives the bytes after it.
 #[tactic(auto, unfolding(crate::specs::Table::read_on))]
 fn read_next<'a>(
     alloc: Global,

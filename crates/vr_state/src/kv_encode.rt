@@ -22,7 +22,7 @@ pub fn encode_pairs(alloc: Global, pairs: &[Pair]) -> Result<ByteList, NoMemory>
     Ok(text)
 }
 
-/// How many bytes the texts of these pairs have, one behind the other.
+/// How many bytes the texts of these pairs have, one after the other.
 #[tactic(auto, using(std::proofs::lemmas::Grind::common_steps, crate::proofs::KvTexts::pairs_bound, crate::proofs::KvTexts::pairs_length_more, crate::proofs::KvTexts::pairs_length_all))]
 fn texts_length(pairs: &[Pair]) -> usize
     requires { IsKv pairs.now }

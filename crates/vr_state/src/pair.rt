@@ -18,7 +18,7 @@ pub type Pair = (Key, Value);
 pub struct RawPair<'a> {
     pub key: &'a [u8],
     pub value: &'a [u8],
-    /// The bytes behind them.
+    /// The bytes after them.
     pub rest: &'a [u8],
 }
 
@@ -35,7 +35,7 @@ fn split_pair(bytes: &[u8]) -> Option<RawPair<'_>>
     Some(RawPair { key, value, rest })
 }
 
-/// The pair at the front and the bytes behind it, `None` exactly where the bytes don't begin with a pair.
+/// The pair at the front and the bytes after it, `None` exactly where the bytes don't begin with a pair.
 #[tactic(auto, unfolding(crate::specs::Pairs::pair_from))]
 pub fn read_pair(alloc: Global, bytes: &[u8]) -> Result<Option<(Pair, &[u8])>, NoMemory>
     ensures { IfOk result (λ r. option_map (λ p. (p.0, p.1.now)) r ≡ pair_from bytes.now) }

@@ -27,7 +27,7 @@ pub fn encode_table(alloc: Global, table: &SessionTable) -> Result<ByteList, NoM
     Ok(text)
 }
 
-/// How many bytes the texts of these sessions have, one behind the other.
+/// How many bytes the texts of these sessions have, one after the other.
 #[tactic(auto, using(std::proofs::lemmas::Grind::common_steps, crate::proofs::Spelled::texts_bound))]
 fn texts_length(table: &SessionTable) -> usize
     requires { IsSessions table.now.entries }
@@ -50,7 +50,7 @@ pub fn read_table(alloc: Global, bytes: &[u8]) -> Result<SessionTable, StateFaul
     read_all(alloc, count, rest)
 }
 
-/// So many sessions, and nothing behind them.
+/// So many sessions, and nothing after them.
 fn read_all(alloc: Global, count: u16, bytes: &[u8]) -> Result<SessionTable, StateFault>
     ensures table { IfOk result (λ table. read_on nat_cmp session_from count [] bytes.now ≡ Ok table.entries) }
     ensures fault { IfErr result (IsOrNoMemory (read_on nat_cmp session_from count [] bytes.now)) }
@@ -66,7 +66,7 @@ fn read_all(alloc: Global, count: u16, bytes: &[u8]) -> Result<SessionTable, Sta
     Err(StateFault::Torn)
 }
 
-/// Reads one session more, and gives the bytes behind it.
+/// Reads one session more, and gives the bytes after it.
 #[tactic(auto, unfolding(crate::specs::Table::read_on))]
 fn read_next<'a>(
     alloc: Global,

@@ -10,7 +10,7 @@ use std::alloc::Global;
 use vr_base::{ByteList, NoMemory};
 use vr_header::{LAST_OP, Outcome, Value};
 
-/// How many bytes the text of a session has, whoever its client is: client, request, op, and the outcome behind its kind.
+/// How many bytes the text of a session has, whoever its client is: client, request, op, and the outcome after its kind.
 #[tactic(auto, using(std::proofs::lemmas::Grind::common_steps, crate::proofs::Values::length_of_session))]
 pub fn session_length(session: &Session) -> usize
     ensures { (client : ℕ) → result ≡ length (session_text (client, session.now)) }
@@ -18,7 +18,7 @@ pub fn session_length(session: &Session) -> usize
     8 + 4 + 8 + 1 + value_length(&session.outcome)
 }
 
-/// How many bytes a value takes behind the kind of an outcome, with its length of two bytes; 0 where there is no value.
+/// How many bytes a value takes after the kind of an outcome, with its length of two bytes; 0 where there is no value.
 #[tactic(auto, using(std::proofs::lemmas::Grind::common_steps, crate::proofs::Values::length_of_value), unfolding(vr_header::specs::Bodies::outcome_bytes))]
 fn value_length(outcome: &Outcome) -> usize
     ensures value { 1 + result ≡ length (outcome_bytes outcome.now) }
@@ -66,7 +66,7 @@ fn write_value(text: &mut ByteList, value: &Value) -> Result<(), NoMemory>
     Ok(())
 }
 
-/// A client, a request and an op, and the bytes behind them.
+/// A client, a request and an op, and the bytes after them.
 #[derive(Clone, Copy)]
 struct Numbers<'a> {
     client: u64,
@@ -93,7 +93,7 @@ fn split_numbers(bytes: &[u8]) -> Option<Numbers<'_>>
     })
 }
 
-/// The session at the front with its client, and the bytes behind it; `None` exactly where the bytes don't begin with
+/// The session at the front with its client, and the bytes after it; `None` exactly where the bytes don't begin with
 /// one.
 #[tactic(auto, unfolding(crate::specs::SessionTexts::session_from))]
 pub fn read_session(

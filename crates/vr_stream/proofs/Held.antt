@@ -11,7 +11,7 @@ use Rattle.vr_stream.specs.declared.next.Next.TheVariants as next
 all_taken : (xs : List ℕ) (n : ℕ) → length xs ≡ n → take n xs ≡ xs
 all_taken xs n e = grind (arith, common_steps, e)
 
--- what stands behind a place, moved to the front
+-- what stands after a place, moved to the front
 pub shifted : (bytes : List ℕ) (count : ℕ) → count ≤ length bytes → take (length bytes - count) (copy_within bytes count (length bytes) 0) ≡ drop count bytes
 shifted bytes count h =
     let held = length bytes - count in
@@ -21,7 +21,7 @@ shifted bytes count h =
     ∙ take-paste bytes 0 (drop count bytes) held (omega arith) (omega (arith, room))
     ∙ all_taken (drop count bytes) held room
 
--- a message at the front, and what is left behind it
+-- a message at the front, and what is left after it
 pub whole_given : (bytes old to : List ℕ) (start size : ℕ) → old ≡ drop start bytes → to ≡ take size (drop start bytes) → IsWhole (drop start bytes) size
     → Gives old (drop (start + size) bytes) to next.Message
 whole_given bytes old to start size o t w =

@@ -132,7 +132,7 @@ pub no_messages : (bytes : List ℕ) → first_message bytes ≡ None → (messa
 unfolding messages rest_of
 no_messages bytes e = none_behind (length bytes) bytes e
 
--- a message at the front, and those behind it
+-- a message at the front, and those after it
 pub next_messages : (front rest bytes : List ℕ) → IsMessage front → front ++ rest ≡ bytes → (messages bytes ≡ front ∷ messages rest) × (rest_of bytes ≡ rest_of rest)
 unfolding messages rest_of
 next_messages front rest bytes x j =

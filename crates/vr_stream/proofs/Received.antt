@@ -232,7 +232,7 @@ heard_closes f (call.Closed port) mid hs g to (received.Datagram at) by = absurd
 heard_closes f (call.Closed port) mid hs g to received.Part by = absurd by
 heard_closes f (call.Closed port) mid hs g to received.Quiet by = absurd by
 
--- these calls, and more behind them
+-- these calls, and more after them
 abbrev pub with_more : Option (List StreamCall) → List StreamCall → Option (List StreamCall)
 with_more calls more = option_map (λ cs. cs ++ more) calls
 
@@ -240,7 +240,7 @@ grows_with : (calls : Option (List StreamCall)) (more : List StreamCall) → Gro
 grows_with None more = refl
 grows_with (Some cs) more = refl
 
--- by a poll and the closes behind it one arrival comes, whether the closes are told or not
+-- by a poll and the closes after it one arrival comes, whether the closes are told or not
 pub record AfterPoll (f g : Framing) (old last new : Option (List StreamCall)) (a : Arrival) : Type 0 where
   pub more : List StreamCall
   pub closes : AreCloses more

@@ -43,7 +43,7 @@ connection port c (h ∷ hs) = connection port (then_at port c h) hs
 abbrev pub first_framing : ℕ → Framing
 first_framing count = record { lines = replicate count fresh_line; ready = None }
 
--- the messages given of a connection, and behind them those that stand ready, are those of its bytes
+-- the messages given of a connection, and after them those that stand ready, are those of its bytes
 pub record IsCut (port : ℕ) (ready : Option ℕ) (line : Incoming) (c : Connection) : Type 0 where
   pub all : (messages : List (List ℕ)) (rest : List ℕ) → AreMessages messages rest line.deframer → AreMessages (c.given ++ messages) rest c.bytes
   pub still : (ready ≡ Some port → ⊥) → AreMessages c.given line.deframer c.bytes

@@ -43,7 +43,7 @@ first_with bytes (Err f) = None
 unfoldable pub first_message : List ℕ → Option (List ℕ)
 first_message bytes = first_with bytes (decoded bytes)
 
--- the messages that stand one after the other at the front of bytes, as many as there are up to a number, and what is left behind them
+-- the messages that stand one after the other at the front of bytes, as many as there are up to a number, and what is left after them
 unfoldable pub messages_in : ℕ → List ℕ → List (List ℕ)
 messages_in zero bytes = []
 messages_in (suc n) bytes = option_map_or (λ m. m ∷ messages_in n (drop (length m) bytes)) (first_message bytes) []

@@ -87,7 +87,7 @@ abbrev pub settled : Bool → Incoming → Incoming
 settled true line = record { deframer = rest_of line.deframer; over = line.over }
 settled false line = line
 
--- these are all arrivals: those that were given, and behind them those that stand ready
+-- these are all arrivals: those that were given, and after them those that stand ready
 abbrev pub Fits : Framing → List Arrival → Type 0
 Fits f all = given all (standing f) ++ standing f ≡ all
 
@@ -100,7 +100,7 @@ pub record Agrees (f : Framing) (h : Heard) : Type 0 where
 abbrev pub AgreesTold : Framing → Option (List StreamCall) → Type 0
 AgreesTold f calls = (cs : List StreamCall) → calls ≡ Some cs → Agrees f (heard (length f.lines) cs)
 
--- the link agrees with what its streams tell; by the calls behind the last poll nothing came
+-- the link agrees with what its streams tell; by the calls after the last poll nothing came
 pub record IsTold (f : Framing) (calls last : Option (List StreamCall)) : Type 0 where
   pub agrees : AgreesTold f calls
   pub behind : (cs : List StreamCall) → calls ≡ Some cs → arrivals_told (length f.lines) last ≡ arrivals_told (length f.lines) calls

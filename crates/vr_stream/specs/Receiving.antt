@@ -44,7 +44,7 @@ abbrev pub PollsBy : {E : Type 0} → Framing → StreamCall → Option (List St
 PollsBy f c polled g new to (Ok result) = IsHeard f c polled g new to result
 PollsBy f c polled g new to (Err e) = (c ≡ call.Failed) × (g ≡ f) × (new ≡ polled)
 
--- one poll, behind what stood ready; `last` is what the streams tell right after it
+-- one poll, after what stood ready; `last` is what the streams tell right after it
 pub record Polls {E : Type 0} (f : Framing) (old : Option (List StreamCall)) (g : Framing) (new last : Option (List StreamCall)) (to : List ℕ) (result : Result Received E)
     : Type 0 where
   pub mid : Framing

@@ -76,7 +76,7 @@ impl Deframer {
         self.start = 0;
     }
 
-    /// Takes a piece behind what has come, of which less than a message is left: `next` answered `More`. It takes no memory.
+    /// Takes a piece after what has come, of which less than a message is left: `next` answered `More`. It takes no memory.
     pub fn push(&mut self, piece: &[u8])
         requires short { length self.old < 20480 }
         requires piece { length piece.now ≤ STREAM_ROOM }

@@ -38,7 +38,7 @@ impl<T: Streams> StreamLink<T> {
         })
     }
 
-    /// The same over streams of which nothing was asked: it tells its receives.
+    /// A link over streams of which nothing was asked: it tells its receives.
     #[tactic(auto, using(crate::proofs::Told::made_told))]
     pub fn over_new(alloc: Global, peers: u8, streams: T) -> Result<StreamLink<T>, AllocError>
     where

@@ -16,7 +16,7 @@ few v g = count_fits v.fields (length v.headers) g.fields
 drop_more : (m n k : ℕ) (b : List ℕ) → m + n ≡ k → drop n (drop m b) ≡ drop k b
 drop_more m n k b e = drop-drop n m b ∙ ap (λ t. drop t b) e
 
--- behind the numbers and the headers a copy has zeros alone
+-- after the numbers and the headers a copy has zeros alone
 pub zeros_behind : (v : SuperValue) (r : ℕ) → IsGood v → 128 + 128 * length v.headers ≤ 512 * r → r ≤ 20 → drop (512 * r) (copy_bytes v) ≡ replicate (512 * (20 - r)) 0
 unfolding zeros
 zeros_behind v r g l m =
@@ -47,7 +47,7 @@ pub filled_stopped : (at count filled : ℕ) (b : List ℕ) (one two : Option Di
 filled_stopped at count filled b one two l z h =
     rw (writes_parts at count filled b l z) (Runs_stopped (writes at filled b) (writes (at + filled) (count - filled) (replicate (512 * (count - filled)) 0)) one two h)
 
--- behind the first sector
+-- after the first sector
 pub zeros_rest : (filled : ℕ) (b rest : List ℕ) → 1 ≤ filled → filled ≤ 20 → rest ≡ drop 512 b → drop (512 * filled) b ≡ replicate (512 * (20 - filled)) 0 → drop (512 * (filled - 1)) rest ≡ replicate (512 * (19 - (filled - 1))) 0
 zeros_rest filled b rest l m e z =
     let n : 20 - filled ≡ 19 - (filled - 1) = omega arith in

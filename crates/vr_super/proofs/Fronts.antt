@@ -81,7 +81,7 @@ has_parts k t f h l =
     ∙ (ap (λ (j : ℕ). has (piece 0 512 b) (reads f j) && has (drop 512 b) (together (i + 1) 19 f)) z
     ∙ (ap (λ (p : List ℕ). has p (reads f i) && has (drop 512 b) (together (i + 1) 19 f)) (first_of t) ∙ ap (λ (r : List ℕ). has (front t) (reads f i) && has r (together (i + 1) 19 f)) (others_of t))))
 
--- the first sector has the name and the text behind it, and so the others decide
+-- the first sector has the name and the text after it, and so the others decide
 pub front_same : (k : ℕ) (t rest : List ℕ) (d : Option Disk) (p q : Bool) → IfSome d (λ d. IsFace d.face) → k < 4 → rest ≡ drop 496 t
     → IfSome d (λ d. p ≡ has (front t) (reads d.face (20 * k))) → IfSome d (λ d. q ≡ has rest (together (20 * k + 1) 19 d.face)) → IfSome d (λ d. (p && q) ≡ has (copy_of t) (copy_reading d.face k))
 front_same k t rest None p q h l e v w = tt

@@ -1,4 +1,4 @@
--- What sectors one behind the other read as, before and after calls.
+-- What sectors one after the other read as, before and after calls.
 use Rattle.std.proofs.Common.{ℕ, ◌+◌, ◌*◌, ◌≤◌, ◌<◌, ◌≡◌, ◌≢◌, ◌⊎◌, inl, inr, arith, refl, ap, Option, List, [], ◌∷◌, drop, Some}
 use Rattle.std.specs.List.{AllByRecursion}
 use Rattle.std.proofs.lemmas.Bool.{cases_lt}

@@ -34,7 +34,7 @@ header_stands v i h g e =
 
 -- ---- names that stand in front of what they name
 
--- a header's name, and behind it what it names
+-- a header's name, and after it what it names
 name_first : (h : Header) → take 16 (header_bytes h) ≡ name_of (named_bytes h)
 unfolding header_bytes
 name_first h = take_at (name_of (named_bytes h)) (named_bytes h) 16 (length-name_of (named_bytes h))

@@ -1,4 +1,4 @@
--- Writes one after another, and headers one behind the other.
+-- Writes one after another, and headers one after the other.
 use Rattle.std.proofs.Common.{◌≡◌, ℕ, ◌+◌, ◌-◌, ◌*◌, ◌<◌, arith, take, length-append, List, ◌++◌, length, drop, get_or, refl, ◌∙◌, ap, append_assoc, add-one, drop-cons}
 use Rattle.std.proofs.lemmas.List.{drop_at, take_all}
 use Rattle.vr_header.specs.declared.header.Header.{Header}
@@ -12,7 +12,7 @@ regrouped : (z a b c d e f g h i j k l : List ℕ)
     ≡ z ++ (a ++ (b ++ (c ++ (d ++ (e ++ (f ++ (g ++ (h ++ (i ++ (j ++ (k ++ l)))))))))))
 regrouped z a b c d e f g h i j k l = simp append_assoc
 
--- twelve writes behind the first bytes
+-- twelve writes after the first bytes
 pub behind : (n : ℕ) (z a b c d e f g h i j k l : List ℕ) → length z ≡ n
     → drop n ((((((((((((z ++ a) ++ b) ++ c) ++ d) ++ e) ++ f) ++ g) ++ h) ++ i) ++ j) ++ k) ++ l)
     ≡ a ++ (b ++ (c ++ (d ++ (e ++ (f ++ (g ++ (h ++ (i ++ (j ++ (k ++ l))))))))))

@@ -75,7 +75,7 @@ MendLaw = (v : SuperValue) (f : Face) → IsFace f → f.waiting ≡ [] → open
 abbrev pub WriteLaw : Type 0
 WriteLaw = (old new : SuperValue) (f : Face) → IsFace f → f.waiting ≡ [] → opens f ≡ Some old → IsGood new → WriteLeads old new f
 
--- this is the text of a value that makes a good copy: the bytes behind the name
+-- this is the text of a value that makes a good copy: the bytes after the name
 pub record IsSpelled (v : SuperValue) (text : List ℕ) : Type 0 where
   pub good : IsGood v
   pub spelled : text ≡ named_bytes v

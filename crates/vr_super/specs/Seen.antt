@@ -13,7 +13,7 @@ pub record IsHonest (r : Reading) : Type 0 where
   pub good : r.good ≡ true → is_some (value_of r.bytes) ≡ true
   pub judged : r.whole ≡ true → r.good ≡ is_some (value_of r.bytes)
 
--- a copy was read in its place, behind those before it
+-- a copy was read in its place, after those before it
 pub record IsRead (copy : ℕ) (t : Option Disk) (old new : List Reading) : Type 0 where
   pub reading : Reading
   pub others : List Reading

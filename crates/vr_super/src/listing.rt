@@ -9,7 +9,7 @@ use std::alloc::Global;
 use vr_base::{NoMemory, Seq};
 use vr_header::{HEADER_SIZE, HeaderList, decoded_header};
 
-/// So many headers, one behind the other, of a copy that has them.
+/// So many headers, one after the other, of a copy that has them.
 pub fn read_list(alloc: Global, bytes: &[u8], count: usize) -> Result<HeaderList, NoMemory>
     requires size { 128 * count ≤ length bytes.now }
     requires spelled { (i : ℕ) → i < count → fault_of (drop (128 * i) bytes.now) ≡ None }

@@ -1,4 +1,4 @@
-//! Where the parts of a copy stand, and how many bytes some of them have. Its text is what stands behind the name.
+//! Where the parts of a copy stand, and how many bytes some of them have. Its text is what stands after the name.
 use vr_disk::COPY_SIZE;
 use vr_header::NAMED_AT;
 
@@ -40,7 +40,7 @@ pub const RESERVED_AT: usize = 94;
 
 pub const RESERVED: usize = 34;
 
-/// The headers, and zeros behind them.
+/// The headers, and zeros after them.
 pub const LIST_AT: usize = 128;
 
 /// Where the headers stand in the text.

@@ -59,7 +59,7 @@ fn is_good_beside<D: SectorDisk>(disk: &mut D, bytes: &[u8; COPY_SIZE], earlier:
     }
 }
 
-// Reads a copy behind these.
+// Reads a copy after these.
 fn read_beside<D: SectorDisk>(disk: &mut D, copy: u32, earlier: &[Reading], to: &mut Reading)
     requires copy { copy < 4 }
     requires honest { AllByRecursion IsHonest earlier.now }

@@ -184,7 +184,7 @@ pub fn recover<D: SectorDisk>(alloc: Global, disk: &mut D) -> Result<Super, Supe
     // A stop at any of its calls leaves a disk that opens as the same value.
     ensures stop { IfSome (D.told disk.old) (λ d. d.face.waiting ≡ [] → (v : SuperValue) → opens d.face ≡ Some v → MendKeeps v d.face) }
 
-    // So does the disk as the call leaves it, whatever it answers; after an `Ok` all four copies have the value.
+    // The disk as the call leaves it opens as that value too, whatever it answers; after an `Ok` all four copies have the value.
     ensures left { IfSome (D.told disk.old) (λ d. d.face.waiting ≡ [] → (v : SuperValue) → opens d.face ≡ Some v → IfSome (D.told disk.new) (λ e. Mended v (is_ok result) e.face)) }
 {
     match find(alloc, disk) {

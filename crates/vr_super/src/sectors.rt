@@ -1,4 +1,4 @@
-//! Sectors one behind the other of which the last are zeros.
+//! Sectors one after the other of which the last are zeros.
 ghost use Rattle.std.specs.Prelude.{◌≡◌, ◌≤◌, ◌+◌, ◌-◌, ◌*◌, ◌++◌, ◌∷◌, [], drop, length, replicate, IfSome, is_ok};
 ghost use Rattle.vr_base.specs.Causes.{HasCause};
 ghost use Rattle.vr_disk.specs.DiskState.{Runs, Sync};
@@ -9,7 +9,7 @@ use vr_disk::{
     write_zeros,
 };
 
-// Writes these bytes to so many sectors: those that are filled, and zeros behind them.
+// Writes these bytes to so many sectors: those that are filled, and zeros after them.
 #[tactic(auto, using(crate::proofs::Behind::filled_then, crate::proofs::Behind::filled_stopped))]
 fn write_filled<D: SectorDisk>(
     disk: &mut D,

@@ -20,7 +20,7 @@ use vr_header::{HEADER_SIZE, Header, HeaderList, NAMED_AT, Names, spelled};
 pub struct Super {
     fields: Fields,
     headers: HeaderList,
-    // What a copy has behind its name.
+    // What a copy has after its name.
     text: Vec<u8>,
 }
 
@@ -188,7 +188,7 @@ impl Super {
         1 + self.headers.len() as u32 / 4
     }
 
-    // What a copy has behind its name.
+    // What a copy has after its name.
     pub(crate) fn text(&self) -> &[u8]
         ensures text { result.now ≡ named_bytes self.now }
         ensures copy { copy_of result.now ≡ copy_bytes self.now }

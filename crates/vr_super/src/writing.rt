@@ -145,7 +145,7 @@ pub fn write<D: SectorDisk>(disk: &mut D, old: &Super, new: &Super) -> Result<()
     // A stop at any of these calls leaves a disk that opens as the old value or as the new one.
     ensures stop { IfSome (D.told disk.old) (λ d. d.face.waiting ≡ [] → opens d.face ≡ Some old.now → WriteLeads old.now new.now d.face) }
 
-    // So does the disk as the call leaves it, which after an `Ok` opens as the new value.
+    // The disk as the call leaves it opens as one of the two as well; after an `Ok` as the new value.
     ensures left { IfSome (D.told disk.old) (λ d. d.face.waiting ≡ [] → opens d.face ≡ Some old.now → IfSome (D.told disk.new) (λ e. Written old.now new.now (is_ok result) e.face)) }
 {
     match write_value(disk, old, new) {

@@ -1,4 +1,4 @@
-//! Checkpoints of others: a replica that is behind its window is given the checkpoint of its view's primary, and takes it over.
+//! Checkpoints of others: a replica that lags by more than its window is given the checkpoint of its view's primary, and takes it over.
 //!
 //! Each rule has one clause on replica, disk and outputs: that what it does is the word of the definitions.
 #![tactic(auto)]

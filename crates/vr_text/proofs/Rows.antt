@@ -79,7 +79,7 @@ repair_messages : (sends 8 2 0 (GetPrepare (record { version = 1; cluster = 0; r
 unfolding sent_text get_prepare_text give_prepare_text numbered viewed digits
 repair_messages = (refl, refl, refl, refl)
 
--- the letters of a statement begin behind its commit number, wherever its Parts begin
+-- the letters of a statement begin after its commit number, wherever its Parts begin
 statements : (states 0 1 1 (Here some_header ∷ []) ≡ codes "send 10 2 1 do_view_change view 1 log 0 commit 0 head 1 parts h\n")
     × (states 0 0 1 [] ≡ codes "send 10 2 1 do_view_change view 1 log 0 commit 0 head 0 parts -\n")
     × (states 1 1 1 (Here some_header ∷ []) ≡ codes "send 10 2 1 do_view_change view 1 log 0 commit 1 head 1 parts -\n")

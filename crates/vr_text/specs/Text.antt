@@ -29,7 +29,7 @@ use Rattle.vr_msg.specs.declared.reply.ReplyKind.{ReplyKind}
 use Rattle.vr_msg.specs.declared.reply.ReplyKind.TheVariants as reply
 use Rattle.vr_msg.specs.declared.statement.Statement.{Statement}
 
--- words with a number behind them
+-- words with a number after them
 unfoldable pub numbered : List ℕ → ℕ → List ℕ
 numbered words n = words ++ decimal n
 
@@ -58,7 +58,7 @@ letter (Wanted h) = 119
 letter Unknown = 117
 letter Nothing = 110
 
--- the letters of a Part and of those behind it: none where all are Nothing
+-- the letters of a Part and of those after it: none where all are Nothing
 abbrev pub before_letters : Part → List ℕ → List ℕ
 before_letters Nothing [] = []
 before_letters part letters = letter part ∷ letters

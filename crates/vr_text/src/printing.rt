@@ -126,7 +126,7 @@ fn put_output(to: &mut ByteList, m: u64, output: &Output) -> Result<(), AllocErr
 }
 
 /// Adds the line of an output at the end of a text; `m` is the number of the message that it is, if it is
-/// one. An `Err` may have added some of it, behind what stood there. The bytes before the line's end are from 32 to 126.
+/// one. An `Err` may have added some of it, after what stood there. The bytes before the line's end are from 32 to 126.
 #[tactic(auto, using(std::proofs::lemmas::Grind::common_steps, crate::proofs::Fronts::front_then, crate::proofs::Plain::output_plain))]
 pub fn write_text(m: u64, output: &Output, to: &mut ByteList) -> Result<(), AllocError>
     ensures text { OnOk result (to.new ≡ to.old ++ line_text m output.now) }

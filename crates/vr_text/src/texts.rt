@@ -29,7 +29,7 @@ pub fn put(to: &mut ByteList, words: &str) -> Result<(), AllocError>
     put_bytes(to, words.as_bytes())
 }
 
-/// Words with a number behind them.
+/// Words with a number after them.
 #[inline(always)]
 #[tactic(auto, using(std::proofs::lemmas::Grind::common_steps, crate::proofs::Fronts::front_then), unfolding(crate::specs::Text::numbered))]
 pub fn put_number(to: &mut ByteList, words: &str, n: u64) -> Result<(), AllocError>

@@ -52,7 +52,7 @@ fails_earlier t (Ask q) p p' b mid n s l w c x =
     (ends_later t.client (number_of q) (operation_of q) p.client p'.client (of_client b) (of_client mid) (of_client n) s l w x.0, x.1)
 fails_earlier t (Stop r) p p' b mid n s l w c x = (breaks_earlier (Stops r) _ _ p.members p'.members p.client.taken p'.client.taken b.counts mid.counts n.counts s w c x.0, x.1)
 
--- ---- and to the end: behind a step that failed the spawner may fail again
+-- ---- and to the end: after a step that failed the spawner may fail again
 
 cant_later : (calls : List SpawnCall) (m m' : Members) (b n k : ℕ) (s : Status) → n ≤ k → CantCall calls m m' b n s → CantCall calls m m' b k s
 cant_later calls m m' b n k s h (inl x) = inl x

@@ -59,7 +59,7 @@ unstopped member id m m' before now is called running e = inr (record {
   running = running;
 })
 
--- ---- and the line behind it
+-- ---- and the line after it
 
 pub told : (Changes : Members → Members → Type 0) (line : List ℕ) (m m' : Members) (t t' : Option (List ℕ)) (r : Result (Unit {0}) Status)
     → Changes m m' → OnOk r (Appends t t' line) → OnOk r (IsTold Changes line m m' t t')

@@ -4,7 +4,7 @@ use Rattle.std.specs.Global.{Global}
 use Rattle.std.specs.Prelude.{String, string_bytes}
 use Rattle.vr_edge.proofs.Copying.{copied_more}
 
--- a word more is put behind these
+-- a word more is put after these
 pub put_more : (before old new : List (List ℕ)) (text : List ℕ) (words : List (String Global)) (i : ℕ) (d : String Global) → i < length words
     → old ≡ before ++ map string_bytes (take i words) → text ≡ string_bytes (get_or words i d) → new ≡ old ++ text ∷ []
     → new ≡ before ++ map string_bytes (take (i + 1) words)

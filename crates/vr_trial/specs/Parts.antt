@@ -175,7 +175,7 @@ pub record EndsCourse {K L P : Type 0} (k : of_sink.Ghosts K) (l : of_link.Ghost
   pub write : k.faults sink' ≡ writes_after status (k.faults sink)
 
 -- A whole trial. A fault has its cause in the object that was handed in, and a write or a call of the link that failed is told: no other answer leaves one.
--- The spawner's count at each end stands in `ends`, since behind a step that ended the trial stops may fail.
+-- The spawner's count at each end stands in `ends`, since after a step that ended the trial stops may fail.
 pub record Tried {K L P : Type 0} (k : of_sink.Ghosts K) (l : of_link.Ghosts L) (p : of_spawner.Ghosts P) (t : Trial) (sink sink' : K) (net net' : L) (spawner spawner' : P) (status : Status) : Type 0 where
   pub ends : TrialEnds t (outside_of k l p sink net spawner) (outside_of k l p sink' net' spawner') (faults_of k l p sink net spawner) (faults_of k l p sink' net' spawner') status
   pub write : k.faults sink' ≡ writes_after status (k.faults sink)

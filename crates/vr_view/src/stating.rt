@@ -54,7 +54,7 @@ pub fn decide_do_view_change(replica: &Replica, message: &DoViewChange) -> State
     }
 }
 
-// The same Part. The header that it knows, if any, has the values of the program.
+// A copy of a Part. The header that it knows, if any, has the values of the program.
 #[tactic(auto, using(crate::proofs::Copies::valued))]
 fn copy_part(part: &Part) -> Part
     ensures same { result ≡ part.now }
@@ -69,7 +69,7 @@ fn copy_part(part: &Part) -> Part
     }
 }
 
-// The same Parts, in order. The headers that they know have the values of the program. An `Err` is want
+// A copy of Parts, in order. The headers that they know have the values of the program. An `Err` is want
 // of memory.
 #[tactic(auto, using(crate::proofs::Copies::copies))]
 fn copy_parts(alloc: Global, parts: &[Part]) -> Result<Seq<Part>, AllocError>
@@ -83,7 +83,7 @@ fn copy_parts(alloc: Global, parts: &[Part]) -> Result<Seq<Part>, AllocError>
     Ok(copy)
 }
 
-// The same statement. The headers that its Parts know have the values of the program. An `Err` is want
+// A copy of a statement. The headers that its Parts know have the values of the program. An `Err` is want
 // of memory.
 fn copy_statement(alloc: Global, statement: &Statement) -> Result<Statement, AllocError>
     ensures same { IfOk result (λ copy. copy ≡ statement.now) }

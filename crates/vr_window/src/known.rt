@@ -11,7 +11,7 @@ use std::alloc::{AllocError, Global};
 use vr_base::Seq;
 use vr_header::{Header, HeaderList, Part};
 
-/// The same header, which has the values of the program.
+/// The header as it is, which has the values of the program.
 pub fn valued(header: Header) -> Header
     ensures same { result ≡ header }
     ensures values { IsHeader result }

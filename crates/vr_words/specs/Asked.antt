@@ -83,7 +83,7 @@ says (command.Client w) = Client (client_says w)
 says (command.Trial w) = Trial (trial_says w)
 says (command.Migrate w) = Migrate (migrate_says w)
 
--- the texts behind references
+-- the texts after references
 abbrev pub texts_now : List (Bor Text) → List Text
 texts_now texts = map (λ text. text.now) texts
 

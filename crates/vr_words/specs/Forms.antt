@@ -55,7 +55,7 @@ wanting a (id ∷ ids) = wanting (taking a (wanted id)) ids
 unfoldable pub plain : Text → App
 plain name = on_top (λ s. record s { disable_help_flag = true; disable_version_flag = true }) (new_app name)
 
--- a command with these required arguments, and with addresses behind them
+-- a command with these required arguments, and with addresses after them
 unfoldable pub peered : Text → List Text → App
 peered name ids = taking (wanting (plain name) ids) addresses
 

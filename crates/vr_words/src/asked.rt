@@ -110,7 +110,7 @@ fn fresh_of(fresh: bool, careful: bool, v2: bool) -> Option<Option<Kind>>
     if careful || v2 { None } else { Some(None) }
 }
 
-/// The same by the words.
+/// Of which kind a file is made anew, if it is, by the words.
 #[tactic(auto, unfolding(crate::specs::Asked::fresh_at))]
 fn fresh_at(matches: &ArgMatches<'_>) -> Option<Option<Kind>>
     ensures { result ≡ fresh_at (rows_of (found_of matches.now)) }
@@ -329,7 +329,7 @@ fn migrate_texts<'a>(matches: &ArgMatches<'a>) -> Option<MigrateTexts<'a>>
     mover_at(matches, n)
 }
 
-/// The same with texts of one's own.
+/// What the words ask of `node`, with texts of its own.
 pub fn node_at(alloc: Global, matches: &ArgMatches<'_>) -> Result<Option<NodeWords>, AllocError>
     ensures { IfOk result (λ words. option_map node_says words ≡ node_at (rows_of (found_of matches.now))) }
 {
@@ -346,7 +346,7 @@ pub fn node_at(alloc: Global, matches: &ArgMatches<'_>) -> Result<Option<NodeWor
     }))
 }
 
-/// The same with texts of one's own.
+/// What the words ask of `client`, with texts of its own.
 pub fn client_at(alloc: Global, matches: &ArgMatches<'_>) -> Result<Option<ClientWords>, AllocError>
     ensures { IfOk result (λ words. option_map client_says words ≡ client_at (rows_of (found_of matches.now))) }
 {
@@ -362,7 +362,7 @@ pub fn client_at(alloc: Global, matches: &ArgMatches<'_>) -> Result<Option<Clien
     }))
 }
 
-/// The same with texts of one's own.
+/// What the words ask of `trial`, with texts of its own.
 pub fn trial_at(alloc: Global, matches: &ArgMatches<'_>) -> Result<Option<TrialWords>, AllocError>
     ensures { IfOk result (λ words. option_map trial_says words ≡ trial_at (rows_of (found_of matches.now))) }
 {
@@ -377,7 +377,7 @@ pub fn trial_at(alloc: Global, matches: &ArgMatches<'_>) -> Result<Option<TrialW
     }))
 }
 
-/// The same with texts of one's own.
+/// What the words ask of `migrate`, with texts of its own.
 pub fn migrate_at(
     alloc: Global,
     matches: &ArgMatches<'_>,

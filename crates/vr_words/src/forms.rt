@@ -89,7 +89,7 @@ fn with_wanted<'a>(
     Ok(command)
 }
 
-/// A command with these required arguments, and with addresses behind them.
+/// A command with these required arguments, and with addresses after them.
 #[tactic(auto, unfolding(crate::specs::Forms::peered))]
 fn peered<'a>(alloc: Global, name: &'a str, ids: &[&'a str]) -> Result<Command<'a>, AllocError>
     ensures form { IfOk result (λ c. form_of c ≡ peered name.entry.now (texts_now ids.now)) }

@@ -1,4 +1,4 @@
--- The sessions' fault is the first of their text, and the machine's that of the keys', behind a text of sessions.
+-- The sessions' fault is the first of their text, and the machine's that of the keys', after a text of sessions.
 use Rattle.std.proofs.Common.{inl, inr, sym, ◌∙◌}
 use Rattle.std.proofs.lemmas.Result.{err_from_is_err_and}
 use Rattle.vr_state.proofs.Numbers.{texts_have_numbers}
