@@ -69,6 +69,6 @@ def read_tree() -> Tree:
     return Tree(rows, {crate: named for crate, named in laws.items() if named}, read_commands(), guards)
 
 
-def paths_script(*words: str) -> str:
-    """What bench/paths tells; it ends with 1 where an entry is idle, which is none of this script's business."""
-    return subprocess.run([str(TOP / "bench" / "paths"), *words], capture_output=True, text=True, check=False).stdout
+def addresses_script(*words: str) -> str:
+    """What bench/addresses tells; it ends with 1 where a citation isn't true, which is none of this script's business."""
+    return subprocess.run([str(TOP / "bench" / "addresses"), *words], capture_output=True, text=True, check=False).stdout

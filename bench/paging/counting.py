@@ -5,9 +5,9 @@ import re
 import textwrap
 from typing import Dict, Iterator, List, Match, Pattern, Sequence, Tuple
 
-from . import Pages, Tree, found, paths_script, read
+from . import Pages, Tree, found, addresses_script, read
 
-BEGIN, END = "<!-- bench/paths --above -->\n", "<!-- end -->"
+BEGIN, END = "<!-- bench/addresses --above -->\n", "<!-- end -->"
 WORDS_A_MINUTE = 200
 Numbers = Dict[str, str]
 
@@ -18,7 +18,7 @@ TOLD = (
     "{hand_tests} others, of {hand_crates} crates, are tried by hand",
     "The gate tries {gate_tests} of them, of {gate_crates} crates; the other {hand_tests}, of {hand_crates} crates,",
     "The tree has {crates} crates",
-    "There are {paths} paths now, and the longest chain has {chain} crates",
+    "the longest chain has {chain} crates",
     "A message (`GetSync`) has a case in {message_files} files of code, of {message_crates} crates, tests aside",
     "a rule (`mend_found`) stands in {rule_files} files, definitions and laws among them, of {rule_crates} crates",
     "`law_1_machine` to `{last_law}`",
@@ -47,7 +47,7 @@ def is_rung(crate: str) -> bool:
 
 def count(tree: Tree) -> Numbers:
     """What is counted, by the names that `TOLD` has for it, as a page writes it."""
-    told = paths_script()
+    told = addresses_script()
     numbers = {"crates": len(tree.crates), "laws": sum(map(len, tree.laws.values()))}
     numbers["ladder_laws"] = sum(len(laws) for crate, laws in tree.laws.items() if is_rung(crate))
     numbers.update(zip(("gate_tests", "gate_crates"), mutation_tests("crates/*/must-fail/*.edit")))
@@ -55,8 +55,7 @@ def count(tree: Tree) -> Numbers:
     program = sorted(tree.crates - set(tree.rows.get("rows and tests", ())))
     numbers.update(zip(("message_files", "message_crates"), files_with(r"\bGetSync\b", ("rt",), program)))
     numbers.update(zip(("rule_files", "rule_crates"), files_with(r"\bmend_found\b", ("rt", "antt"), sorted(tree.crates))))
-    for name, line in (("paths", r"^paths below vr_app: (\d+)"), ("chain", r"^longest chain: (\d+)")):
-        numbers[name] = int(re.findall(line, told, re.M)[0])
+    numbers["chain"] = int(re.findall(r"^longest chain: (\d+)", told, re.M)[0])
     last = max(filter(is_rung, tree.crates), key=lambda crate: (int(crate.split("_")[1]), crate))
     return {**{name: f"{number:,}" for name, number in numbers.items()}, "last_law": last}
 
@@ -115,7 +114,7 @@ def bad_minutes(pages: Pages, index: str) -> Iterator[str]:
 def above() -> str:
     """How many crates stand above each, as lines of a page."""
     lines: List[str] = []
-    for line in paths_script("--above").splitlines():
+    for line in addresses_script("--above").splitlines():
         if not line.startswith("- *rows and tests*"):
             kept = re.sub(r"` (\d)", "`\0\\1", line)
             lines += textwrap.wrap(kept, 180, subsequent_indent="  ", break_on_hyphens=False)
@@ -133,4 +132,4 @@ def with_above(text: str, block: str) -> str:
 def bad_above(pages: Pages, block: str) -> Iterator[str]:
     for path, text in pages.items():
         if BEGIN in text and text.split(BEGIN)[1].split(END)[0].split() != block.split():
-            yield f"{path}: how many crates stand above each isn't what bench/paths --above tells"
+            yield f"{path}: how many crates stand above each isn't what bench/addresses --above tells"
