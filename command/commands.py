@@ -48,6 +48,8 @@ COMMANDS: Tuple[Command, ...] = (
             (("0", "it is built"), ("1", "the sources are refused"), WORDS), "command/build"),
     Command("test", BUILDING, "proves and tests everything (rt ci), then runs the checks outside the proofs; the last line counts both", "nozhgiva test --quick",
             (("0", "all passed"), ("1", "something failed, or nothing was tried"), WORDS), "command/test"),
+    Command("map", BUILDING, "prints the crates row by row, each with its lines and a sentence; with words only those that have them", "nozhgiva map checkpoint",
+            (("0", "printed, or nothing to mend"), ("1", "no crate has the words, or --check finds something"), WORDS), "bench/map"),
     Command("run", PLAYING, "prints each line of a schedule with what it gives, indented under it; where a line is refused it says why", "nozhgiva run examples/put-get.txt",
             (("0", "each line was taken"), ("1", "it can't be built"), WORDS, ("3", "a line is refused: it says why")), "examples/run", "[--whole] [EXAMPLE]",
             (("--whole", "print comments and empty lines too, where they stand"), ("EXAMPLE", "a file, or the name of one in examples/; without it the lines come from standard input"))),

@@ -8,6 +8,8 @@ import sys
 from pathlib import Path
 from typing import Dict, List, NamedTuple, Set
 
+import mapping
+
 TOP = Path(os.path.realpath(__file__)).parent.parent.parent
 Pages = Dict[str, str]
 
@@ -19,7 +21,7 @@ LAW = re.compile(r"^pub fn (\w+)(?:<[^>]*>)?\(\)\n(?:    ensures .*\n)+\{\}", re
 class Tree(NamedTuple):
     """What pages are held against."""
 
-    rows: Dict[str, List[str]]  # the crates of crates.txt, by its lines of comment
+    rows: Dict[str, List[str]]  # the crates of crates.txt, by its rows
     laws: Dict[str, List[str]]  # the laws of each crate that has any
     commands: Dict[str, bool]  # those of ./nozhgiva, and whether each is the program's own
     guards: List[str]  # the mutation tests of the abstract machine
@@ -43,17 +45,6 @@ def read_pages() -> Pages:
     return {path: read(path) for place in PLACES for path in found(place)}
 
 
-def read_rows() -> Dict[str, List[str]]:
-    rows: Dict[str, List[str]] = {}
-    row: List[str] = []
-    for line in read("crates.txt").splitlines():
-        if line.startswith("#"):
-            row = rows.setdefault(line.strip("# "), [])
-        elif line.strip():
-            row.append(line.split(":")[0].split()[0])
-    return rows
-
-
 def read_commands() -> Dict[str, bool]:
     sys.path.insert(0, str(TOP))
     from command.commands import COMMANDS
@@ -61,7 +52,7 @@ def read_commands() -> Dict[str, bool]:
 
 
 def read_tree() -> Tree:
-    rows = read_rows()
+    rows = {row.name: [crate.name for crate in row.crates] for row in mapping.read()}
     laws: Dict[str, List[str]] = {}
     for crate in (name for row in rows.values() for name in row):
         laws[crate] = [law for path in found(f"crates/{crate}/src/*.rt") for law in LAW.findall(read(path))]

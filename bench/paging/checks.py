@@ -5,7 +5,7 @@ import re
 from typing import Dict, Iterator, List, Set, Tuple
 
 from . import TOP, Pages, Tree, texts
-from .counting import is_rung
+from .counting import is_law
 
 FIRST_PAGES = ("README.md", "CHANGELOG.md", "CONTRIBUTING.md", "SECURITY.md", "docs/WHY-BELIEVE.md")
 LONGEST_CELL, LONGEST_SENTENCE, LONGEST_FIRST = 200, 45, 30
@@ -66,7 +66,7 @@ def bad_roads(pages: Pages) -> Iterator[str]:
 
 def bad_names(pages: Pages, tree: Tree) -> Iterator[str]:
     for path, text in pages.items():
-        for name in sorted(set(re.findall(r"\b(?:vr|law)_\w+", text)) - tree.crates):
+        for name in sorted(set(re.findall(r"\b(?:vr|law|cmd|rows|tests)_\w+", text)) - tree.crates):
             yield f"{path}: no crate {name}"
 
 
@@ -83,7 +83,7 @@ def left_out(pages: Pages, tree: Tree) -> Iterator[str]:
     wanted: List[Tuple[str, str, str, str]] = []
     for crate in sorted(tree.crates):
         wanted += [(MAP, pages[MAP], "the crate", crate), ("docs/promises", promises(pages), "the crate", crate)]
-        place, text = (LADDER, pages[LADDER]) if is_rung(crate) else ("docs/promises", promises(pages))
+        place, text = (LADDER, pages[LADDER]) if is_law(crate) else ("docs/promises", promises(pages))
         wanted += [(place, text, "the law", law) for law in tree.laws.get(crate, ())]
     wanted += [(GUARDS, pages[GUARDS], "the mutation test", guard) for guard in tree.guards]
     wanted += [(PROGRAM, pages[PROGRAM], "the command", name) for name, own in tree.commands.items() if own]

@@ -5,9 +5,12 @@ import re
 import textwrap
 from typing import Dict, Iterator, List, Match, Pattern, Sequence, Tuple
 
-from . import Pages, Tree, found, addresses_script, read
+import mapping
+
+from . import Pages, Tree, addresses_script, found, read
 
 BEGIN, END = "<!-- bench/addresses --above -->\n", "<!-- end -->"
+LAYERS, CRATES = "<!-- crates.txt: rows -->\n", "<!-- crates.txt: crates -->\n"
 WORDS_A_MINUTE = 200
 Numbers = Dict[str, str]
 
@@ -41,8 +44,13 @@ def mutation_tests(place: str) -> Tuple[int, int]:
     return len(tests), len({path.split("/")[1] for path in tests})
 
 
-def is_rung(crate: str) -> bool:
+def is_law(crate: str) -> bool:
     return crate.startswith("law_")
+
+
+def is_rung(crate: str) -> bool:
+    """Whether it is a crate of the ladder, whose rungs have numbers."""
+    return re.match(r"law_\d+_", crate) is not None
 
 
 def count(tree: Tree) -> Numbers:
@@ -121,15 +129,23 @@ def above() -> str:
     return "".join(line.replace("\0", " ") + "\n" for line in lines) + "- *rows and tests*: none stands on any of them\n"
 
 
-def with_above(text: str, block: str) -> str:
-    """A page with this block where it has one."""
-    if BEGIN not in text:
-        return text
-    head, rest = text.split(BEGIN, 1)
-    return head + BEGIN + block + END + rest.split(END, 1)[1]
+def blocks() -> Dict[str, str]:
+    """What is written into pages by what it is made of: each block by the line that it stands behind."""
+    rows = mapping.read()
+    return {BEGIN: above(), LAYERS: mapping.layers(rows), CRATES: mapping.tables(rows)}
 
 
-def bad_above(pages: Pages, block: str) -> Iterator[str]:
+def with_blocks(text: str, made: Dict[str, str]) -> str:
+    """A page with these blocks where it has them."""
+    for begin, block in made.items():
+        if begin in text:
+            head, rest = text.split(begin, 1)
+            text = head + begin + block + END + rest.split(END, 1)[1]
+    return text
+
+
+def bad_blocks(pages: Pages, made: Dict[str, str]) -> Iterator[str]:
     for path, text in pages.items():
-        if BEGIN in text and text.split(BEGIN)[1].split(END)[0].split() != block.split():
-            yield f"{path}: how many crates stand above each isn't what bench/addresses --above tells"
+        for begin, block in made.items():
+            if begin in text and text.split(begin)[1].split(END)[0].split() != block.split():
+                yield f"{path}: what stands behind {begin.strip()} isn't what bench/pages --write makes of crates.txt"

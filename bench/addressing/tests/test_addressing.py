@@ -13,7 +13,7 @@ BENCH = Path(__file__).resolve().parent.parent.parent
 
 # Three crates, each on the ones before. Rooms stand in `vr_low`.
 CRATES = {
-    "crates.txt": "# base\nvr_low: hex\nvr_mid: vr_low # the middle\n# rows\nvr_top: vr_low vr_mid\n",
+    "crates.txt": "## base: the first\n# low\nvr_low: hex\nvr_mid: vr_low # the middle\n\n## rows: the last\nvr_top: vr_low vr_mid\n",
     "crates/vr_low/src/lib.rt": "//! Rooms.\nuse hex::encode;\npub struct Room;\n",
     "crates/vr_low/specs/Lib.antt": "pub mod Rooms\n",
     "crates/vr_low/specs/Rooms.antt": "-- rooms\nunfoldable pub ◌⨾◌ : A\npub room : A\n",
@@ -113,7 +113,8 @@ class Script(unittest.TestCase):
     def run_in(self, folder: str, *words: str) -> "subprocess.CompletedProcess[str]":
         bench = Path(folder) / "bench"
         if not bench.is_dir():
-            shutil.copytree(BENCH / "addressing", bench / "addressing")
+            for package in ("addressing", "mapping"):
+                shutil.copytree(BENCH / package, bench / package)
             shutil.copy(BENCH / "addresses", bench)
         return subprocess.run([str(bench / "addresses"), *words], capture_output=True, text=True, check=False)
 

@@ -238,11 +238,15 @@ class Numbers(Case):
         self.assertIn("| [A](A.md#b) | 5 | a 5 |\n| [B](../B.md) | 1 |", pages["docs/README.md"])
         self.check(counting.bad_minutes(pages, "docs/README.md"))
 
-    def test_what_stands_above_each(self) -> None:
-        page = {"docs/DEVELOPING.md": f"a\n{counting.BEGIN}- old\n{counting.END}b\n"}
-        self.check(counting.bad_above(page, "- new\n"), "docs/DEVELOPING.md: how many crates stand above")
-        self.check(counting.bad_above({"docs/DEVELOPING.md": counting.with_above(page["docs/DEVELOPING.md"], "- new\n")}, "- new\n"))
-        self.check(counting.bad_above({"docs/DEVELOPING.md": "a\n"}, "- new\n"))
+    def test_blocks_that_are_made_of_crates_txt(self) -> None:
+        for begin in (counting.BEGIN, counting.LAYERS, counting.CRATES):
+            page, made = {"docs/DEVELOPING.md": f"a\n{begin}- old\n{counting.END}b\n"}, {begin: "- new\n"}
+            self.check(counting.bad_blocks(page, made), f"docs/DEVELOPING.md: what stands behind {begin.strip()} isn't")
+            self.check(counting.bad_blocks({"docs/DEVELOPING.md": counting.with_blocks(page["docs/DEVELOPING.md"], made)}, made))
+            self.check(counting.bad_blocks({"docs/DEVELOPING.md": "a\n"}, made))
+
+    def test_laws_without_a_number_are_no_rungs(self) -> None:
+        self.assertEqual([counting.is_rung(name) for name in ("law_1_machine", "law_12_last", "law_repair", "vr_law")], [True, True, False, False])
 
 
 class Words(Case):
