@@ -12,6 +12,7 @@ from . import Pages, Tree, addresses_script, found, read
 BEGIN, END = "<!-- bench/addresses --above -->\n", "<!-- end -->"
 LAYERS, CRATES = "<!-- crates.txt: rows -->\n", "<!-- crates.txt: crates -->\n"
 WORDS_A_MINUTE = 200
+MOST_TESTS, MOST_CRATES = 20, 4  # of mutation tests in the gate: a crate's first one costs a second check of it
 Numbers = Dict[str, str]
 
 # What pages say that is counted. Each word in braces stands for a number, or a name, of `count`. A sentence is looked for in every page, wherever its lines end,
@@ -42,6 +43,13 @@ def mutation_tests(place: str) -> Tuple[int, int]:
     """How many mutation tests stand there, in folders of their crates' names, and of how many crates."""
     tests = found(place)
     return len(tests), len({path.split("/")[1] for path in tests})
+
+
+def bad_gate(numbers: Numbers) -> Iterator[str]:
+    """More mutation tests, or more crates with any, than the gate may have."""
+    for name, most in (("gate_tests", MOST_TESTS), ("gate_crates", MOST_CRATES)):
+        if int(numbers[name]) > most:
+            yield f"crates/*/must-fail: {name} is {numbers[name]}, and {most} at most: move some into wrong-bodies/"
 
 
 def is_law(crate: str) -> bool:
