@@ -7,7 +7,7 @@ use crate::TextStock;
 use vr_base::{ByteList, Seq};
 
 /// One attach of a link, or of streams.
-#[derive(Debug, Drop, PartialEq, Eq)]
+#[derive(Drop, PartialEq, Eq)]
 pub struct Attach {
     /// The own address that it was given.
     pub own: ByteList,

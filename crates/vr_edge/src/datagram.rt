@@ -2,7 +2,7 @@
 use vr_base::ByteList;
 
 /// One datagram, on its way to a port or from it.
-#[derive(Debug, Drop, PartialEq, Eq)]
+#[derive(Drop, PartialEq, Eq)]
 pub struct Datagram {
     pub port: u32,
     pub bytes: ByteList,

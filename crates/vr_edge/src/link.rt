@@ -19,7 +19,7 @@ pub const RECEIVE_ROOM: usize = 20481;
 pub struct LinkFailed;
 
 /// What a receive gave.
-#[derive(Clone, Copy, Debug, PartialEq, Eq)]
+#[derive(Clone, Copy, PartialEq, Eq)]
 pub enum Received {
     /// A datagram from the sender with this port.
     Datagram(u32),

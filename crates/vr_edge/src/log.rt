@@ -5,7 +5,7 @@ use crate::StreamCall;
 use std::alloc::{AllocError, Global};
 
 /// Entries, in room that is made at first. Past it they are told as long as there is memory for them.
-#[derive(Debug, Drop)]
+#[derive(Drop)]
 pub struct Log<T> {
     entries: Vec<T>,
     /// How many entries have room.

@@ -5,7 +5,7 @@ use crate::Clock;
 use vr_base::Seq;
 
 /// A clock that gives the numbers of a list, then its last number again and again, and 0 where the list is empty.
-#[derive(Debug, Drop)]
+#[derive(Drop)]
 pub struct MemClock {
     numbers: Seq<u64>,
     at: usize,

@@ -19,7 +19,7 @@ use std::alloc::{AllocError, Global};
 
 /// A link in memory. A datagram that waits at a receive which fails is lost. It tells its attaches and its sends in the room that
 /// it was made with.
-#[derive(Debug, Drop)]
+#[derive(Drop)]
 pub struct MemLink {
     script: LinkScript,
     attached: Log<Attach>,

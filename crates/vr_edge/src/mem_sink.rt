@@ -9,7 +9,7 @@ use crate::{Sink, WriteFailed};
 use std::alloc::{AllocError, Global};
 
 /// A sink in memory, which takes as much as it has room for, but for the calls that fail.
-#[derive(Debug, Drop)]
+#[derive(Drop)]
 pub struct MemSink {
     bytes: Vec<u8>,
     room: usize,

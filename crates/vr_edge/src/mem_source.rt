@@ -11,7 +11,7 @@ use crate::{ReadFailed, Source};
 use std::alloc::Global;
 
 /// A source in memory, which gives as much as it has and the buffer takes, or that in pieces of growing size, but for the calls that fail.
-#[derive(Debug, Drop)]
+#[derive(Drop)]
 pub struct MemSource {
     bytes: Vec<u8>,
     at: usize,

@@ -6,7 +6,7 @@ ghost use Rattle.vr_edge.specs.Marks.{are_within};
 use std::alloc::{AllocError, Global};
 
 /// Where the bytes of a datagram stand.
-#[derive(Clone, Copy, Debug, PartialEq, Eq)]
+#[derive(Clone, Copy, PartialEq, Eq)]
 pub struct Mark {
     pub port: u32,
     pub start: usize,
@@ -14,7 +14,7 @@ pub struct Mark {
 }
 
 /// How much a link in memory may be given to send.
-#[derive(Clone, Copy, Debug, PartialEq, Eq)]
+#[derive(Clone, Copy, PartialEq, Eq)]
 pub struct LinkRoom {
     /// How many sends.
     pub datagrams: usize,
@@ -23,7 +23,7 @@ pub struct LinkRoom {
 }
 
 /// One mark for each send, `None` where it failed; and how many sends came when no room was left.
-#[derive(Debug, Drop)]
+#[derive(Drop)]
 pub struct Outbox {
     room: LinkRoom,
     bytes: Vec<u8>,

@@ -9,7 +9,7 @@ use crate::{Datagram, LinkFailed, Received};
 use std::alloc::Global;
 
 /// What comes over a link in memory and what fails on it, by the numbers of the calls of each kind, from 0.
-#[derive(Debug, Drop)]
+#[derive(Drop)]
 pub struct LinkScript {
     /// The datagram that waits at each receive, `None` where none does. None waits past the list.
     pub arrivals: Vec<Option<Datagram>>,

@@ -8,7 +8,7 @@ use std::alloc::{AllocError, Global};
 use vr_base::{ByteList, Seq};
 
 /// Empty lists, each with room for `most` items.
-#[derive(Debug, Drop)]
+#[derive(Drop)]
 pub struct Stock<T> {
     spare: Vec<Vec<T>>,
     most: usize,
@@ -45,7 +45,7 @@ impl<T: Drop> Stock<T> {
 }
 
 /// How much there is room for.
-#[derive(Clone, Copy, Debug, PartialEq, Eq)]
+#[derive(Clone, Copy, PartialEq, Eq)]
 pub struct LogRoom {
     /// How many entries.
     pub entries: usize,
@@ -56,7 +56,7 @@ pub struct LogRoom {
 }
 
 /// Room for texts, and for lists of them.
-#[derive(Debug, Drop)]
+#[derive(Drop)]
 pub struct TextStock {
     texts: Stock<u8>,
     lists: Stock<ByteList>,

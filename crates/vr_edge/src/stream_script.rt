@@ -6,7 +6,7 @@ use crate::{Piece, StreamFailed};
 use std::alloc::Global;
 
 /// What a poll finds.
-#[derive(Debug, Drop, PartialEq, Eq)]
+#[derive(Drop, PartialEq, Eq)]
 pub enum Coming {
     Nothing,
     Fault,
@@ -17,7 +17,7 @@ pub enum Coming {
 }
 
 /// What comes over streams in memory and what fails on them, by the numbers of the calls of each kind, from 0.
-#[derive(Debug, Drop)]
+#[derive(Drop)]
 pub struct StreamScript {
     /// What each poll finds, nothing past the list. What comes at a port up to its next end is one connection.
     pub comes: Vec<Coming>,

@@ -21,7 +21,7 @@ pub const STREAM_ROOM: usize = 4096;
 pub struct StreamFailed;
 
 /// What a poll gave.
-#[derive(Clone, Copy, Debug, PartialEq, Eq)]
+#[derive(Clone, Copy, PartialEq, Eq)]
 pub enum Polled {
     /// So many bytes, the second number, of the stream at a port, the first one.
     Bytes(u32, u32),
@@ -32,14 +32,14 @@ pub enum Polled {
 }
 
 /// Bytes of the stream at a port.
-#[derive(Debug, Drop, PartialEq, Eq)]
+#[derive(Drop, PartialEq, Eq)]
 pub struct Piece {
     pub port: u32,
     pub bytes: ByteList,
 }
 
 /// Bytes that were given to a stream, and how many it took of them, `None` where the write failed.
-#[derive(Debug, Drop, PartialEq, Eq)]
+#[derive(Drop, PartialEq, Eq)]
 pub struct Write {
     pub port: u32,
     pub bytes: ByteList,
@@ -47,7 +47,7 @@ pub struct Write {
 }
 
 /// What a poll gave, or a close.
-#[derive(Debug, Drop, PartialEq, Eq)]
+#[derive(Drop, PartialEq, Eq)]
 pub enum StreamCall {
     /// A poll failed.
     Failed,
