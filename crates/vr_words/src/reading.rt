@@ -2,7 +2,7 @@
 ghost use Rattle.std.specs.Prelude.{◌≡◌, ◌≢◌, IfOk, None, Some, map, option_and_then, string_bytes};
 ghost use Rattle.std.specs.Option.{option_map};
 ghost use Rattle.clap.specs.Words.{FailsBy, found_of, kind_of, rows_of, subcommand_rows_of};
-ghost use Rattle.vr_words.specs.Asked.{asked, asked_at, entered_by, faults_in, says};
+ghost use Rattle.vr_words.specs.Asked.{Client, Migrate, Node, Trial, asked, asked_at, client_at, entered_by, faults_in, migrate_at, node_at, says, trial_at};
 
 use crate::asked::{client_at, migrate_at, node_at, soak_at, trial_at};
 use crate::forms::command;
@@ -17,6 +17,34 @@ fn matches_of<'a>(alloc: Global, words: &'a [String]) -> Result<ArgMatches<'a>, 
     ensures entered { IfOk result (λ m. subcommand_rows_of m ≡ entered_by (map string_bytes words.now)) }
 {
     command(alloc)?.try_get_matches_from(words)
+}
+
+/// The command `node` with these values, where they are in range.
+fn node_command(alloc: Global, matches: &ArgMatches<'_>) -> Result<Option<Command>, AllocError>
+    ensures { IfOk result (λ c. option_map says c ≡ option_map Node (node_at (rows_of (found_of matches.now)))) }
+{
+    Ok(node_at(alloc, matches)?.map(Command::Node))
+}
+
+/// The command `client` with these values, where they are in range.
+fn client_command(alloc: Global, matches: &ArgMatches<'_>) -> Result<Option<Command>, AllocError>
+    ensures { IfOk result (λ c. option_map says c ≡ option_map Client (client_at (rows_of (found_of matches.now)))) }
+{
+    Ok(client_at(alloc, matches)?.map(Command::Client))
+}
+
+/// The command `trial` with these values, where they are in range.
+fn trial_command(alloc: Global, matches: &ArgMatches<'_>) -> Result<Option<Command>, AllocError>
+    ensures { IfOk result (λ c. option_map says c ≡ option_map Trial (trial_at (rows_of (found_of matches.now)))) }
+{
+    Ok(trial_at(alloc, matches)?.map(Command::Trial))
+}
+
+/// The command `migrate` with these values, where they are in range.
+fn migrate_command(alloc: Global, matches: &ArgMatches<'_>) -> Result<Option<Command>, AllocError>
+    ensures { IfOk result (λ c. option_map says c ≡ option_map Migrate (migrate_at (rows_of (found_of matches.now)))) }
+{
+    Ok(migrate_at(alloc, matches)?.map(Command::Migrate))
 }
 
 /// The command of this name with these values, where they are in range.
@@ -35,16 +63,16 @@ fn command_at(
         return Ok(soak_at(matches).map(Command::Soak));
     }
     if name == "node" {
-        return Ok(node_at(alloc, matches)?.map(Command::Node));
+        return node_command(alloc, matches);
     }
     if name == "client" {
-        return Ok(client_at(alloc, matches)?.map(Command::Client));
+        return client_command(alloc, matches);
     }
     if name == "trial" {
-        return Ok(trial_at(alloc, matches)?.map(Command::Trial));
+        return trial_command(alloc, matches);
     }
     if name == "migrate" {
-        return Ok(migrate_at(alloc, matches)?.map(Command::Migrate));
+        return migrate_command(alloc, matches);
     }
     Ok(None)
 }
