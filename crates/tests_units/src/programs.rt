@@ -65,7 +65,9 @@ mod tests {
         let _ = fs::remove_file(&rt, NAME);
         let shell = PathBuf::from_str(rt.alloc(), "/bin/sh")?;
         let mut spawner = RealSpawner::new(rt.alloc(), &rt, Some(shell));
-        assert!(rt; runs_until_stopped(&rt, &mut spawner)?);
+        let ran = runs_until_stopped(&rt, &mut spawner);
+        drop(spawner);
+        assert!(rt; ran?);
         fs::remove_file(&rt, NAME)?;
         Ok(())
     }

@@ -2,9 +2,14 @@
 use HeaderReading::{Bad, Fits, Other};
 use PrepareReading::{Blank, Not, OtherEntry};
 use Verdict::{Here, Lost, Nothing, Rewrite, Unknown, Wanted};
+use std::process::Abort;
 use std::test::Fail;
 use vr_base::Mode::{Careful, Strict};
 use vr_recover::{HeaderReading, PrepareReading, Verdict, verdict};
+
+fn is(rt: &impl Abort, what: &str, found: Verdict, wanted: Verdict) {
+    assert_eq!(rt; found, wanted, "{what}");
+}
 
 // Whether the superblock names the op's header; what a strict file makes of the slot, and a careful one.
 #[test]
@@ -23,8 +28,8 @@ fn slots(rt: HostRuntime) -> Result<(), Fail> {
         ("another, named", Other, OtherEntry, true, Wanted, Wanted),
         ("a new slot", Other, Blank, false, Nothing, Nothing),
     ] {
-        assert_eq!(rt; verdict(Strict, header, prepare, named), strict, "{what}");
-        assert_eq!(rt; verdict(Careful, header, prepare, named), careful, "{what}");
+        is(&rt, what, verdict(Strict, header, prepare, named), strict);
+        is(&rt, what, verdict(Careful, header, prepare, named), careful);
     }
     Ok(())
 }

@@ -27,6 +27,16 @@ mod tests {
         Ok(streams.attach(own, &peers).is_ok())
     }
 
+    /// Whether streams are attached at this address, with a peer that isn't there.
+    fn is_attached_at<T: Streams>(
+        alloc: Global,
+        streams: &mut T,
+        address: &str,
+    ) -> Result<bool, AllocError> {
+        let own = format!(in alloc; "tcp:{address}")?;
+        is_attached(alloc, streams, own.as_str(), "tcp:127.0.0.1:47117")
+    }
+
     /// The port at which bytes come next, of so many polls at most.
     fn next_port<T: Streams>(streams: &mut T, polls: u32) -> Option<u32> {
         let mut room = [0; STREAM_ROOM];
@@ -79,21 +89,34 @@ mod tests {
         is_heard(rt, streams, address)
     }
 
+    /// The same of streams that are attached at this address; none where they can't be.
+    fn is_heard_at<T: Streams>(
+        rt: &HostRuntime,
+        streams: &mut T,
+        address: &str,
+        says: &[u8],
+    ) -> io::Result<Option<bool>> {
+        if !is_attached_at(rt.alloc(), streams, address)? {
+            return Ok(None);
+        }
+        Ok(Some(is_heard_after(rt, streams, address, says)?))
+    }
+
     #[test]
     fn who_said_nothing_gives_the_place_up(rt: HostRuntime) -> Result<(), Fail> {
-        let (own, address) = ("tcp:127.0.0.1:47118", "127.0.0.1:47118");
         let mut streams = TcpStreams::new(rt.alloc(), &rt)?;
-        assert!(rt; is_attached(rt.alloc(), &mut streams, own, "tcp:127.0.0.1:47117")?);
-        assert!(rt; is_heard_after(&rt, &mut streams, address, &[])?);
+        let heard = is_heard_at(&rt, &mut streams, "127.0.0.1:47118", &[]);
+        drop(streams);
+        assert_eq!(rt; heard?, Some(true));
         Ok(())
     }
 
     #[test]
     fn who_said_a_header_keeps_the_place(rt: HostRuntime) -> Result<(), Fail> {
-        let (own, address) = ("tcp:127.0.0.1:47119", "127.0.0.1:47119");
         let mut streams = TcpStreams::new(rt.alloc(), &rt)?;
-        assert!(rt; is_attached(rt.alloc(), &mut streams, own, "tcp:127.0.0.1:47117")?);
-        assert!(rt; !is_heard_after(&rt, &mut streams, address, &HEADER)?);
+        let heard = is_heard_at(&rt, &mut streams, "127.0.0.1:47119", &HEADER);
+        drop(streams);
+        assert_eq!(rt; heard?, Some(false));
         Ok(())
     }
 
@@ -119,12 +142,15 @@ mod tests {
         Ok(false)
     }
 
-    /// Whether a stream is read beside one that never runs dry.
+    /// Whether a stream is read beside one that never runs dry, at an address where the streams are attached.
     fn is_read_beside<T: Streams>(
         rt: &HostRuntime,
         streams: &mut T,
         address: &str,
     ) -> io::Result<bool> {
+        if !is_attached_at(rt.alloc(), streams, address)? {
+            return Ok(false);
+        }
         let mut first = endless(rt, address)?;
         if next_port(streams, 20) != Some(1) {
             return Ok(false);
@@ -135,10 +161,10 @@ mod tests {
 
     #[test]
     fn no_stream_is_read_while_others_wait_for_ever(rt: HostRuntime) -> Result<(), Fail> {
-        let (own, address) = ("tcp:127.0.0.1:47120", "127.0.0.1:47120");
         let mut streams = TcpStreams::new(rt.alloc(), &rt)?;
-        assert!(rt; is_attached(rt.alloc(), &mut streams, own, "tcp:127.0.0.1:47117")?);
-        assert!(rt; is_read_beside(&rt, &mut streams, address)?);
+        let read = is_read_beside(&rt, &mut streams, "127.0.0.1:47120");
+        drop(streams);
+        assert!(rt; read?);
         Ok(())
     }
 
@@ -173,12 +199,21 @@ mod tests {
         count_begun(rt, streams, &listener, 2500)
     }
 
+    /// The same of a peer's address where nobody listens at first; none where the streams aren't attached, or a write goes well there.
+    fn begun_again<T: Streams>(rt: &HostRuntime, streams: &mut T) -> io::Result<u32> {
+        let is_attached = is_attached(rt.alloc(), streams, "", "tcp:127.0.0.1:47121")?;
+        if !is_attached || streams.write(0, &HEADER).is_ok() {
+            return Ok(0);
+        }
+        begun_at(rt, streams, "127.0.0.1:47121")
+    }
+
     #[test]
     fn a_stream_is_begun_again_at_most_once_a_second(rt: HostRuntime) -> Result<(), Fail> {
         let mut streams = TcpStreams::new(rt.alloc(), &rt)?;
-        assert!(rt; is_attached(rt.alloc(), &mut streams, "", "tcp:127.0.0.1:47121")?);
-        assert!(rt; streams.write(0, &HEADER).is_err());
-        let begun = begun_at(&rt, &mut streams, "127.0.0.1:47121")?;
+        let begun = begun_again(&rt, &mut streams);
+        drop(streams);
+        let begun = begun?;
         assert!(rt; begun >= 1 && begun <= 2);
         Ok(())
     }
