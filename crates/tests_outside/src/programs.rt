@@ -10,11 +10,11 @@ mod tests {
     use vr_real::RealSpawner;
     use vr_spawn::{SpawnFailed, Spawner};
 
-    const NAME: &str = "tests_units.program";
+    const NAME: &str = "tests_outside.program";
 
     /// It writes its own number, and then runs for longer than the test.
     const SCRIPT: &str =
-        "echo $$ > tests_units.part; mv tests_units.part tests_units.program; exec sleep 600";
+        "echo $$ > tests_outside.part; mv tests_outside.part tests_outside.program; exec sleep 600";
 
     /// Starts the program with the words that have a shell do this; the number that it is given.
     fn start<S: Spawner>(
