@@ -34,19 +34,19 @@ use Rattle.vr_choose.specs.Laws.{NamesAgree}
 use Rattle.vr_header.specs.declared.header.Header.{Header}
 use Rattle.vr_header.specs.Names.{name_by}
 use Rattle.vr_msg.specs.Choice.{choice, named, stated_header, stated_part, top_commit, top_view}
-use Rattle.vr_msg.specs.Logs.{header_of}
+use Rattle.vr_header.specs.Parts.{header_of}
 use Rattle.vr_msg.specs.Normal.{same_sum}
 use Rattle.vr_msg.specs.declared.choice.Choice.TheVariants.{Ends}
 use Rattle.vr_msg.specs.declared.statement.Statement.{Statement}
 use Rattle.vr_world.proofs.FitGroups.{groups_fit}
-use Rattle.vr_world.proofs.Trying.{all_stated, chosen_log_is}
+use Rattle.vr_rules.proofs.Trying.{all_stated, chosen_log_is}
 use Rattle.vr_world.specs.Group.{Group, Member, Played}
 use Rattle.vr_world.specs.GroupFit.{IsFitGroup, IsFitPlayed, IsFitReplica}
 use Rattle.vr_world.specs.Lying.{Lying, lying}
-use Rattle.vr_world.specs.Own.{IsAt}
-use Rattle.vr_world.specs.Replica.{Replica, head, is_frozen, is_primary, is_started, part_at, run_start, statement_of}
-use Rattle.vr_world.specs.Sound.{IsSound}
-use Rattle.vr_world.specs.Words.{Log, begin_view, chosen_log, is_chain, is_chain_from, log_header, stated, try}
+use Rattle.vr_rules.specs.Own.{IsAt}
+use Rattle.vr_rules.specs.Replica.{Replica, head, is_frozen, is_primary, is_started, part_at, run_start, statement_of}
+use Rattle.vr_rules.specs.Sound.{IsSound}
+use Rattle.vr_rules.specs.Words.{Log, begin_view, chosen_log, is_chain, is_chain_from, log_header, stated, try}
 use Rattle.law_10_progress.proofs.Deciding.{before_first, stated_at, stated_first}
 use Rattle.law_10_progress.proofs.Trying.{whole_quorums_begin}
 use Rattle.law_10_progress.specs.Agreeing.{BeginsByWhole, EachHearer, HearsOneLog, InEachRun, MayHear}

@@ -11,18 +11,18 @@ use Rattle.vr_msg.specs.declared.event.Event.TheVariants as event
 use Rattle.vr_msg.specs.declared.output.Output.{Output}
 use Rattle.vr_msg.specs.declared.output.Sent.{Sent}
 use Rattle.vr_msg.specs.declared.request.RequestFields.{RequestFields}
+use Rattle.vr_rules.proofs.FitSteps.{whole_next}
+use Rattle.vr_rules.proofs.Reacting.{may_store_next}
+use Rattle.vr_rules.proofs.SendsScripts.{outputs_append}
+use Rattle.vr_rules.proofs.Storing.{MayStore}
+use Rattle.vr_rules.specs.Outputs.{others, prepare}
+use Rattle.vr_rules.specs.Replica.{Replica, is_frozen, is_spent, last_view, replication, version}
+use Rattle.vr_rules.specs.Rules.{make, next_entry, react}
+use Rattle.vr_rules.specs.Sound.{IsSound}
+use Rattle.vr_rules.specs.Steps.{Effect, Say, Setting, Step, Write, after_all, output_of, outputs}
+use Rattle.vr_rules.specs.Words.{has_quorum, stored, writes}
 use Rattle.vr_world.proofs.FitLies.{lies_fit}
-use Rattle.vr_world.proofs.FitSteps.{whole_next}
-use Rattle.vr_world.proofs.Reacting.{may_store_next}
-use Rattle.vr_world.proofs.SendsScripts.{outputs_append}
-use Rattle.vr_world.proofs.Storing.{MayStore}
 use Rattle.vr_world.specs.Lying.{hazards, lying}
-use Rattle.vr_world.specs.Outputs.{others, prepare}
-use Rattle.vr_world.specs.Replica.{Replica, is_frozen, is_spent, last_view, replication, version}
-use Rattle.vr_world.specs.Rules.{make, next_entry, react}
-use Rattle.vr_world.specs.Sound.{IsSound}
-use Rattle.vr_world.specs.Steps.{Effect, Say, Setting, Step, Write, after_all, output_of, outputs}
-use Rattle.vr_world.specs.Words.{has_quorum, stored, writes}
 use Rattle.vr_world.specs.World.{Asks, AsksInVersion, Happened, Happening, Hazards, Host, World, asks, at_member, happen, happens, in_version, nothing, with_member}
 use Rattle.law_10_progress.proofs.Lists.{All-each, but_at, but_length, got_map, got_other, got_right, got_set}
 use Rattle.law_10_progress.proofs.Making as making

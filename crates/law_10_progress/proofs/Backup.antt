@@ -11,12 +11,12 @@ use Rattle.vr_msg.specs.declared.frame.PrepareOk.{PrepareOk}
 use Rattle.vr_msg.specs.declared.output.Output.{Output}
 use Rattle.vr_msg.specs.declared.output.Sent.{Sent}
 use Rattle.vr_msg.specs.declared.request.RequestFields.{RequestFields}
-use Rattle.vr_world.specs.Outputs.{messages, prepare_ok, to_primary}
-use Rattle.vr_world.specs.Replica.{Replica, forgetting, is_frozen, version, with_part}
-use Rattle.vr_world.specs.Rules.{acknowledge, next_entry, react}
-use Rattle.vr_world.specs.Sound.{IsSound}
-use Rattle.vr_world.specs.Steps.{Say, Setting, Step, Word, ◌⨾◌, after_all, change, does, outputs, says}
-use Rattle.vr_world.specs.Words.{learn, rested, stored, write, writes}
+use Rattle.vr_rules.specs.Outputs.{messages, prepare_ok, to_primary}
+use Rattle.vr_rules.specs.Replica.{Replica, forgetting, is_frozen, version, with_part}
+use Rattle.vr_rules.specs.Rules.{acknowledge, next_entry, react}
+use Rattle.vr_rules.specs.Sound.{IsSound}
+use Rattle.vr_rules.specs.Steps.{Say, Setting, Step, Word, ◌⨾◌, after_all, change, does, outputs, says}
+use Rattle.vr_rules.specs.Words.{learn, rested, stored, write, writes}
 use Rattle.law_10_progress.proofs.Making.{sent_to}
 use Rattle.law_10_progress.proofs.Mute.{Mute, mute_learn, sends, sends_append, sends_said}
 use Rattle.law_10_progress.proofs.Ruling.{IsNextFor, prepare_taken}

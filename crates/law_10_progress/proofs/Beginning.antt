@@ -13,20 +13,20 @@ use Rattle.vr_base.specs.Versions.{by_version}
 use Rattle.vr_base.specs.declared.kind.Kind.{Kind}
 use Rattle.vr_base.specs.declared.table.Quorums.{Quorums}
 use Rattle.vr_choose.proofs.Columns.{column}
-use Rattle.vr_ckpt.specs.Asks.{is_fresh}
-use Rattle.vr_ckpt.specs.SessionAnswer.TheVariants as answer
-use Rattle.vr_ckpt.specs.Sessions.{checked}
+use Rattle.vr_state.specs.Asks.{is_fresh}
+use Rattle.vr_state.specs.declared.session.SessionAnswer.TheVariants as answer
+use Rattle.vr_state.specs.Sessions.{checked}
 use Rattle.vr_disk.proofs.Together.{length_after_all}
 use Rattle.vr_disk.specs.Regions.{sectors as sectors_count}
 use Rattle.vr_msg.specs.declared.frame.Frame.TheVariants as frame
 use Rattle.vr_msg.specs.declared.request.RequestFields.{RequestFields}
-use Rattle.vr_world.proofs.FitFresh.{fresh_fits}
-use Rattle.vr_world.specs.Deciding.{session_answer}
-use Rattle.vr_world.specs.Formatting.{format_calls}
-use Rattle.vr_world.specs.Laws.{IsMessage}
+use Rattle.vr_rules.proofs.FitFresh.{fresh_fits}
+use Rattle.vr_rules.specs.Deciding.{session_answer}
+use Rattle.vr_rules.specs.Formatting.{format_calls}
+use Rattle.vr_rules.specs.Laws.{IsMessage}
 use Rattle.vr_world.specs.Lying.{Lying, blank_lying, hazards, lying, zero_cell}
-use Rattle.vr_world.specs.Opening.{IsKind, blank, fresh}
-use Rattle.vr_world.specs.Replica.{Replica, ackers_at, head, part_at, replication, version}
+use Rattle.vr_rules.specs.Opening.{IsKind, blank, fresh}
+use Rattle.vr_rules.specs.Replica.{Replica, ackers_at, head, part_at, replication, version}
 use Rattle.vr_world.specs.World.{Happening, World, fresh_host, fresh_world, happen}
 use Rattle.law_10_progress.proofs.Answering.{requests_are_answered}
 use Rattle.law_10_progress.proofs.Lists.{All-each, got_map, row_at}

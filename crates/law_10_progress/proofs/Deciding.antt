@@ -19,11 +19,11 @@ use Rattle.vr_header.specs.declared.header.Header.{Header}
 use Rattle.vr_header.specs.declared.part.Part.{Part}
 use Rattle.vr_header.specs.declared.part.Part.TheVariants.{Here, Lost, Wanted, Unknown, Nothing}
 use Rattle.vr_msg.specs.Choice.{choice, denials, denies, denies_as_newest, denies_as_older, intact, intact_by, is_here, log_headers, named, row_end, stated_header, stated_part, top_commit, top_view}
-use Rattle.vr_msg.specs.Logs.{header_of}
+use Rattle.vr_header.specs.Parts.{header_of}
 use Rattle.vr_msg.specs.declared.statement.Statement.{Statement}
-use Rattle.vr_world.proofs.Stating.{given_at, run_of}
-use Rattle.vr_world.specs.Replica.{Replica, part_at, run_start, statement_of}
-use Rattle.vr_world.specs.Sound.{IsSound}
+use Rattle.vr_rules.proofs.Stating.{given_at, run_of}
+use Rattle.vr_rules.specs.Replica.{Replica, part_at, run_start, statement_of}
+use Rattle.vr_rules.specs.Sound.{IsSound}
 use Rattle.law_10_progress.specs.Deciding.{SureQuorumsDecide, statements}
 use Rattle.law_10_progress.specs.Whole.{IsMemberOf, IsSure, is_in_doubt, top_checkpoint}
 

@@ -12,22 +12,22 @@ use Rattle.vr_header.specs.declared.header.Header.{Header}
 use Rattle.vr_header.specs.declared.part.Part.TheVariants.{Here}
 use Rattle.vr_header.specs.Made.{Whole}
 use Rattle.vr_header.specs.Same.{same_header}
-use Rattle.vr_msg.specs.Logs.{has_header}
+use Rattle.vr_header.specs.Parts.{has_header}
 use Rattle.vr_msg.specs.declared.frame.Frame.{Frame}
 use Rattle.vr_msg.specs.declared.frame.PrepareOk.{PrepareOk}
 use Rattle.vr_msg.specs.declared.output.Output.{Output}
 use Rattle.vr_msg.specs.declared.output.Sent.{Sent}
 use Rattle.vr_msg.specs.declared.request.RequestFields.{RequestFields}
-use Rattle.vr_world.proofs.Heads.{forgetting_at, forgetting_checkpoint, forgetting_first, forgetting_head, gone, head_knows, head_reaches, with_part_at, with_part_spans}
-use Rattle.vr_world.proofs.Keeping.{spans_of}
-use Rattle.vr_world.proofs.Ruling.{keeps_acknowledged}
-use Rattle.vr_world.proofs.Storing.{MayStore, kept_stored, with_part_known}
-use Rattle.vr_world.specs.Outputs.{messages, others, prepare, send, send_to_all}
-use Rattle.vr_world.specs.Replica.{Replica, ackers_at, forgetting, head, knows, part_at, with_part}
-use Rattle.vr_world.specs.Rules.{acknowledged, make, next_entry}
-use Rattle.vr_world.specs.Sound.{IsSound}
-use Rattle.vr_world.specs.Steps.{Effect, Say, Setting, Step, Write, ◌⨾◌, after_all, change, does, outputs, says}
-use Rattle.vr_world.specs.Words.{advance, entry_of, stored, write, writes}
+use Rattle.vr_rules.proofs.Heads.{forgetting_at, forgetting_checkpoint, forgetting_first, forgetting_head, gone, head_knows, head_reaches, with_part_at, with_part_spans}
+use Rattle.vr_rules.proofs.Keeping.{spans_of}
+use Rattle.vr_rules.proofs.Ruling.{keeps_acknowledged}
+use Rattle.vr_rules.proofs.Storing.{MayStore, kept_stored, with_part_known}
+use Rattle.vr_rules.specs.Outputs.{messages, others, prepare, send, send_to_all}
+use Rattle.vr_rules.specs.Replica.{Replica, ackers_at, forgetting, head, knows, part_at, with_part}
+use Rattle.vr_rules.specs.Rules.{acknowledged, make, next_entry}
+use Rattle.vr_rules.specs.Sound.{IsSound}
+use Rattle.vr_rules.specs.Steps.{Effect, Say, Setting, Step, Write, ◌⨾◌, after_all, change, does, outputs, says}
+use Rattle.vr_rules.specs.Words.{advance, entry_of, stored, write, writes}
 use Rattle.law_10_progress.proofs.Lists.{has_new, has_old, with_flags}
 use Rattle.law_10_progress.proofs.Mute.{sends, sends_said}
 use Rattle.law_10_progress.proofs.Standing as standing

@@ -7,11 +7,11 @@ use Rattle.vr_header.specs.declared.part.Part.TheVariants.{Here, Lost, Wanted, U
 use Rattle.vr_header.specs.Made.{Whole}
 use Rattle.vr_msg.specs.declared.output.Output.{Output}
 use Rattle.vr_msg.specs.declared.output.Sent.{Sent}
-use Rattle.vr_world.proofs.SendsScripts.{outputs_append, outputs_said}
-use Rattle.vr_world.specs.Outputs.{applied_reply, commit_line, message_of, messages}
-use Rattle.vr_world.specs.Replica.{Replica, leads, part_at}
-use Rattle.vr_world.specs.Steps.{Effect, Say, Setting, Word, ◌⨾◌, after_all, by, change, does, outputs, quiet, reading, says, times, when}
-use Rattle.vr_world.specs.Words.{applied, apply, apply_entry, apply_next, checkpoint_of, checkpoints, entry_of, is_checkpoint, is_loaded, learn, learned, lost, make_checkpoint, or_lost, save, saves, with_checkpoint, with_entry, with_entry_at, with_saved}
+use Rattle.vr_rules.proofs.SendsScripts.{outputs_append, outputs_said}
+use Rattle.vr_rules.specs.Outputs.{applied_reply, commit_line, message_of, messages}
+use Rattle.vr_rules.specs.Replica.{Replica, leads, part_at}
+use Rattle.vr_rules.specs.Steps.{Effect, Say, Setting, Word, ◌⨾◌, after_all, by, change, does, outputs, quiet, reading, says, times, when}
+use Rattle.vr_rules.specs.Words.{applied, apply, apply_entry, apply_next, checkpoint_of, checkpoints, entry_of, is_checkpoint, is_loaded, learn, learned, lost, make_checkpoint, or_lost, save, saves, with_checkpoint, with_entry, with_entry_at, with_saved}
 
 pub messages_append : (os ps : List Output) → messages (os ++ ps) ≡ messages os ++ messages ps
 unfolding messages

@@ -11,18 +11,18 @@ use Rattle.vr_header.specs.declared.header.Header.{Header}
 use Rattle.vr_header.specs.declared.part.Part.{Part}
 use Rattle.vr_header.specs.declared.part.Part.TheVariants.{Here, Nothing}
 use Rattle.vr_msg.specs.Choice.{choice, log_headers, named_by, row_end, stated_header}
-use Rattle.vr_msg.specs.Logs.{has_header, header_of}
+use Rattle.vr_header.specs.Parts.{has_header, header_of}
 use Rattle.vr_msg.specs.declared.choice.Choice.TheVariants.{Ends}
 use Rattle.vr_msg.specs.declared.statement.Statement.{Statement}
-use Rattle.vr_world.proofs.FitFresh.{fresh_fits}
-use Rattle.vr_world.proofs.Ruling.{kept_statement}
-use Rattle.vr_world.proofs.Stating.{own_statement}
-use Rattle.vr_world.proofs.Wording.{kept_entered}
-use Rattle.vr_world.specs.Opening.{IsKind, blank, fresh}
-use Rattle.vr_world.specs.Replica.{Replica, head, is_primary, is_started, knows, part_at, run, run_start, statement_of}
-use Rattle.vr_world.specs.Sound.{IsSound}
-use Rattle.vr_world.specs.Steps.{Setting}
-use Rattle.vr_world.specs.Words.{begin_view, chosen_log, entered, is_chain, stated, try}
+use Rattle.vr_rules.proofs.FitFresh.{fresh_fits}
+use Rattle.vr_rules.proofs.Ruling.{kept_statement}
+use Rattle.vr_rules.proofs.Stating.{own_statement}
+use Rattle.vr_rules.proofs.Wording.{kept_entered}
+use Rattle.vr_rules.specs.Opening.{IsKind, blank, fresh}
+use Rattle.vr_rules.specs.Replica.{Replica, head, is_primary, is_started, knows, part_at, run, run_start, statement_of}
+use Rattle.vr_rules.specs.Sound.{IsSound}
+use Rattle.vr_rules.specs.Steps.{Setting}
+use Rattle.vr_rules.specs.Words.{begin_view, chosen_log, entered, is_chain, stated, try}
 use Rattle.law_10_progress.proofs.Deciding.{before_first, stated_at, stated_first}
 use Rattle.law_10_progress.proofs.Trying.{whole_quorums_begin}
 use Rattle.law_10_progress.specs.Deciding.{ANewQuorumBegins, AreHeard, candidate, stater, statements}

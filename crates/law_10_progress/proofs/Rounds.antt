@@ -8,7 +8,7 @@ use Rattle.std.proofs.lemmas.Bool.{cases_Bool, eq-eqb, true≢false}
 use Rattle.std.proofs.lemmas.List.{append-nil, length-append}
 use Rattle.std.proofs.lemmas.List.Elements.{All-contains, All-head, All-tail, Contains-append_left, Contains-append_right}
 use Rattle.vr_header.specs.Made.{Whole}
-use Rattle.vr_msg.specs.Logs.{header_of}
+use Rattle.vr_header.specs.Parts.{header_of}
 use Rattle.vr_msg.specs.Normal.{primary}
 use Rattle.vr_msg.specs.declared.event.Event.{Event}
 use Rattle.vr_msg.specs.declared.event.Event.TheVariants as event
@@ -17,14 +17,14 @@ use Rattle.vr_msg.specs.declared.frame.PrepareOk.{PrepareOk}
 use Rattle.vr_msg.specs.declared.output.Output.{Output}
 use Rattle.vr_msg.specs.declared.output.Sent.{Sent}
 use Rattle.vr_msg.specs.declared.request.RequestFields.{RequestFields}
-use Rattle.vr_ckpt.specs.Asks.{is_fresh}
-use Rattle.vr_world.specs.Deciding.{session_answer}
-use Rattle.vr_world.specs.Outputs.{messages}
-use Rattle.vr_world.specs.Replica.{Replica, is_frozen, leads, part_at, replication, version}
-use Rattle.vr_world.specs.Rules.{acknowledged, next_entry, react}
-use Rattle.vr_world.specs.Sound.{IsSound}
-use Rattle.vr_world.specs.Steps.{Setting, Step, ◌⨾◌, after_all, change, outputs}
-use Rattle.vr_world.specs.Words.{advance, has_quorum, stored}
+use Rattle.vr_state.specs.Asks.{is_fresh}
+use Rattle.vr_rules.specs.Deciding.{session_answer}
+use Rattle.vr_rules.specs.Outputs.{messages}
+use Rattle.vr_rules.specs.Replica.{Replica, is_frozen, leads, part_at, replication, version}
+use Rattle.vr_rules.specs.Rules.{acknowledged, next_entry, react}
+use Rattle.vr_rules.specs.Sound.{IsSound}
+use Rattle.vr_rules.specs.Steps.{Setting, Step, ◌⨾◌, after_all, change, outputs}
+use Rattle.vr_rules.specs.Words.{advance, has_quorum, stored}
 use Rattle.vr_world.specs.World.{Acted, Arrives, Happened, Happening, Hazards, Host, World, at_member, handles, happen, happens, with_member, delivered, nothing}
 use Rattle.law_10_progress.proofs.Backup as backup
 use Rattle.law_10_progress.proofs.Lists.{All-each, contains_cases, contains_tail, got_left, got_other, got_right, got_set, got_within}

@@ -4,7 +4,7 @@ use Rattle.std.specs.Prelude.{is_some, nat_le, nat_lt, not}
 use Rattle.std.specs.Cmp.Derive.{both_true}
 use Rattle.std.specs.Option.{option_map_or}
 use Rattle.std.proofs.lemmas.Bool.{eq-eqb, le-leb, le-ltb, lt-leb, lt-ltb, ne_eqb, true≢false}
-use Rattle.vr_ckpt.specs.Asks.{is_fresh}
+use Rattle.vr_state.specs.Asks.{is_fresh}
 use Rattle.vr_header.specs.declared.header.Header.{Header}
 use Rattle.vr_header.specs.Names.{name_by}
 use Rattle.vr_header.specs.Same.{same_header}
@@ -15,16 +15,16 @@ use Rattle.vr_msg.specs.declared.frame.Frame.TheVariants as frame
 use Rattle.vr_msg.specs.declared.frame.Prepare.{Prepare}
 use Rattle.vr_msg.specs.declared.frame.PrepareOk.{PrepareOk}
 use Rattle.vr_msg.specs.declared.request.RequestFields.{RequestFields}
-use Rattle.vr_world.proofs.Heads.{head_from, head_stops}
-use Rattle.vr_world.proofs.Keeping.{spans_of}
-use Rattle.vr_world.proofs.Ruling.{by_rows}
-use Rattle.vr_world.specs.Deciding.{Hash, first_of, is_for, is_from, is_from_primary, is_in_flight, is_known, is_named, is_unknown, prepare_ok_table, prepare_table, request_table, session_answer}
-use Rattle.vr_world.specs.Replica.{Replica, head, head_header, header_at, is_frozen, leads, version, window_end}
-use Rattle.vr_world.specs.Rule.TheVariants.{Counted, Made, Next}
-use Rattle.vr_world.specs.Rules.{acknowledge, acknowledged, make, next_entry, obey_prepare, obey_prepare_ok, obey_request, on_event, on_prepare, on_prepare_ok, on_request, react}
-use Rattle.vr_world.specs.Sound.{IsSound}
-use Rattle.vr_world.specs.Steps.{Setting, ◌⨾◌, by, change, naming, when}
-use Rattle.vr_world.specs.Words.{advance, is_loaded, learn, rested, write}
+use Rattle.vr_rules.proofs.Heads.{head_from, head_stops}
+use Rattle.vr_rules.proofs.Keeping.{spans_of}
+use Rattle.vr_rules.proofs.Ruling.{by_rows}
+use Rattle.vr_rules.specs.Deciding.{Hash, first_of, is_for, is_from, is_from_primary, is_in_flight, is_known, is_named, is_unknown, prepare_ok_table, prepare_table, request_table, session_answer}
+use Rattle.vr_rules.specs.Replica.{Replica, head, head_header, header_at, is_frozen, leads, version, window_end}
+use Rattle.vr_rules.specs.declared.rule.Rule.TheVariants.{Counted, Made, Next}
+use Rattle.vr_rules.specs.Rules.{acknowledge, acknowledged, make, next_entry, obey_prepare, obey_prepare_ok, obey_request, on_event, on_prepare, on_prepare_ok, on_request, react}
+use Rattle.vr_rules.specs.Sound.{IsSound}
+use Rattle.vr_rules.specs.Steps.{Setting, ◌⨾◌, by, change, naming, when}
+use Rattle.vr_rules.specs.Words.{advance, is_loaded, learn, rested, write}
 use Rattle.law_10_progress.proofs.Lists.{same_sum_of}
 use Rattle.law_10_progress.specs.Answering.{IsNew, LeadsLevel}
 

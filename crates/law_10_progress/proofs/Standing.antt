@@ -7,10 +7,10 @@ use Rattle.std.proofs.lemmas.Bool.{eq-eqb, le-leb, lt-ltb}
 use Rattle.std.proofs.lemmas.List.Elements.{All-cons, All-weaker, Contains-append_left, Contains-append_right}
 use Rattle.vr_base.specs.Replicas.{has_replica, size, with_replica}
 use Rattle.vr_base.specs.declared.replicas.Replicas.{Replicas}
-use Rattle.vr_ckpt.specs.Asks.{is_fresh}
-use Rattle.vr_ckpt.specs.Folds as state
-use Rattle.vr_ckpt.specs.SessionAnswer.{SessionAnswer}
-use Rattle.vr_ckpt.specs.SessionAnswer.TheVariants as said
+use Rattle.vr_state.specs.Asks.{is_fresh}
+use Rattle.vr_state.specs.Folds as state
+use Rattle.vr_state.specs.declared.session.SessionAnswer.{SessionAnswer}
+use Rattle.vr_state.specs.declared.session.SessionAnswer.TheVariants as said
 use Rattle.vr_header.specs.declared.header.Header.{Header}
 use Rattle.vr_header.specs.declared.part.Part.{Part}
 use Rattle.vr_header.specs.declared.part.Part.TheVariants.{Here, Lost, Wanted, Unknown, Nothing}
@@ -21,15 +21,15 @@ use Rattle.vr_msg.specs.declared.output.Output.{Output}
 use Rattle.vr_msg.specs.declared.request.RequestFields.{RequestFields}
 use Rattle.vr_msg.specs.declared.reply.ReplyKind.{ReplyKind}
 use Rattle.vr_msg.specs.declared.reply.ReplyKind.TheVariants as reply
-use Rattle.vr_world.proofs.SendsScripts.{outputs_append, outputs_said}
-use Rattle.vr_world.specs.Deciding.{session_answer}
-use Rattle.vr_world.specs.Outputs.{applied_reply, asker_of, commit_line, kind_of, replies}
-use Rattle.vr_world.specs.Replica.{Replica, ackers_at, head, is_here, leads, part_at, replication}
-use Rattle.vr_world.specs.Rules.{next_entry}
-use Rattle.vr_world.specs.Sound.{IsSound}
-use Rattle.vr_world.specs.Steps.{Effect, Say, Setting, Step, Word, ◌⨾◌, after_all, by, change, outputs, quiet, reading, says, times, when}
-use Rattle.vr_world.specs.Words as words
-use Rattle.vr_world.specs.Words.{advance, advanced, apply, apply_entry, apply_next, entry_of, has_quorum, is_loaded, or_lost, votes, with_entry, with_entry_at}
+use Rattle.vr_rules.proofs.SendsScripts.{outputs_append, outputs_said}
+use Rattle.vr_rules.specs.Deciding.{session_answer}
+use Rattle.vr_rules.specs.Outputs.{applied_reply, asker_of, commit_line, kind_of, replies}
+use Rattle.vr_rules.specs.Replica.{Replica, ackers_at, head, is_here, leads, part_at, replication}
+use Rattle.vr_rules.specs.Rules.{next_entry}
+use Rattle.vr_rules.specs.Sound.{IsSound}
+use Rattle.vr_rules.specs.Steps.{Effect, Say, Setting, Step, Word, ◌⨾◌, after_all, by, change, outputs, quiet, reading, says, times, when}
+use Rattle.vr_rules.specs.Words as words
+use Rattle.vr_rules.specs.Words.{advance, advanced, apply, apply_entry, apply_next, entry_of, has_quorum, is_loaded, or_lost, votes, with_entry, with_entry_at}
 use Rattle.law_10_progress.proofs.Lists.{front_none, front_some, has_new, has_old, size_most}
 use Rattle.law_10_progress.specs.Answering.{AreDistinct, LeadsLevel, answer}
 

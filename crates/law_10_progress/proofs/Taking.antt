@@ -15,13 +15,13 @@ use Rattle.vr_msg.specs.Choice.{IsChoice, log_start, stated_part, top_commit}
 use Rattle.vr_msg.specs.Logs.{IsStatement}
 use Rattle.vr_msg.specs.declared.choice.Choice.TheVariants.{Ends}
 use Rattle.vr_msg.specs.declared.statement.Statement.{Statement}
-use Rattle.vr_world.proofs.Heads.{known_within}
-use Rattle.vr_world.proofs.Keeping.{spans_of}
-use Rattle.vr_world.proofs.Stating.{own_statement, run_of}
-use Rattle.vr_world.proofs.Trying.{log_end_is}
-use Rattle.vr_world.specs.Replica.{Replica, header_at, head, knows, part_at, run_start, statement_of, version, window_end}
-use Rattle.vr_world.specs.Sound.{IsSound}
-use Rattle.vr_world.specs.Words.{Log, chosen_log, fits, is_chain, is_newer, log_end, may_take}
+use Rattle.vr_rules.proofs.Heads.{known_within}
+use Rattle.vr_rules.proofs.Keeping.{spans_of}
+use Rattle.vr_rules.proofs.Stating.{own_statement, run_of}
+use Rattle.vr_rules.proofs.Trying.{log_end_is}
+use Rattle.vr_rules.specs.Replica.{Replica, header_at, head, knows, part_at, run_start, statement_of, version, window_end}
+use Rattle.vr_rules.specs.Sound.{IsSound}
+use Rattle.vr_rules.specs.Words.{Log, chosen_log, fits, is_chain, is_newer, log_end, may_take}
 use Rattle.law_10_progress.proofs.Deciding.{commit_most, sound_of, stated_at, stated_commit, stated_first}
 use Rattle.law_10_progress.proofs.Lists.{All-each}
 use Rattle.law_10_progress.specs.Deciding.{FurthestMembersTake, statements}

@@ -9,9 +9,9 @@ use Rattle.vr_base.specs.Groups.{quorums_of}
 use Rattle.vr_header.specs.declared.header.Header.{Header}
 use Rattle.vr_msg.specs.Choice.{choice}
 use Rattle.vr_msg.specs.declared.choice.Choice.TheVariants.{Ends, TooFew}
-use Rattle.vr_world.specs.Replica.{Replica, is_primary, is_started}
-use Rattle.vr_world.specs.Steps.{Setting, by, naming}
-use Rattle.vr_world.specs.Words.{begin_view, chosen_log, decided, may_take, stated, try, try_log}
+use Rattle.vr_rules.specs.Replica.{Replica, is_primary, is_started}
+use Rattle.vr_rules.specs.Steps.{Setting, by, naming}
+use Rattle.vr_rules.specs.Words.{begin_view, chosen_log, decided, may_take, stated, try, try_log}
 use Rattle.law_10_progress.proofs.Deciding.{sure_quorums_decide}
 use Rattle.law_10_progress.proofs.Lists.{All-each}
 use Rattle.law_10_progress.proofs.Taking.{furthest_members_take, top_most}

@@ -12,10 +12,10 @@ use Rattle.vr_header.specs.Made.{Whole}
 use Rattle.vr_rings.specs.Calls.{header_calls, prepare_calls}
 use Rattle.vr_rings.specs.Slots.{IsWhole, padded, prepare_bytes, whole_in, whole_of}
 use Rattle.vr_rings.proofs.Spelling.{padded_is, whole_again}
+use Rattle.vr_rules.specs.Sectors.{calls_by}
+use Rattle.vr_rules.specs.Steps.{Write}
+use Rattle.vr_rules.proofs.FitDisks.{front_reads, header_spares, same_entry, slot_below}
 use Rattle.vr_world.specs.Lying.{Lying, lying}
-use Rattle.vr_world.specs.Sectors.{calls_by}
-use Rattle.vr_world.specs.Steps.{Write}
-use Rattle.vr_world.proofs.FitDisks.{front_reads, header_spares, same_entry, slot_below}
 
 -- a file has room for the entries that it takes
 room : (v : ℕ) (e : Whole) → IsWhole e → e.header.version ≤ by_version v 1 2 → padded v (take (512 * prepare_sectors v) (prepare_bytes e)) ≡ prepare_bytes e

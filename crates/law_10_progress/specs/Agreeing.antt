@@ -14,10 +14,10 @@ use Rattle.vr_msg.specs.declared.statement.Statement.{Statement}
 use Rattle.vr_world.specs.Group.{Group, Member, Played, Run, fresh_group}
 use Rattle.vr_world.specs.GroupFit.{IsFitMove}
 use Rattle.vr_world.specs.Lying.{Lying, lying}
-use Rattle.vr_world.specs.Opening.{AreKinds}
-use Rattle.vr_world.specs.Replica.{Replica, is_frozen, is_primary, is_started}
-use Rattle.vr_world.specs.Sound.{IsSound}
-use Rattle.vr_world.specs.Words.{begin_view, chosen_log, is_chain, stated, try}
+use Rattle.vr_rules.specs.Opening.{AreKinds}
+use Rattle.vr_rules.specs.Replica.{Replica, is_frozen, is_primary, is_started}
+use Rattle.vr_rules.specs.Sound.{IsSound}
+use Rattle.vr_rules.specs.Words.{begin_view, chosen_log, is_chain, stated, try}
 use Rattle.law_10_progress.specs.Deciding.{AreHeard, statements}
 use Rattle.law_10_progress.specs.Whole.{Holder, IsWhole, replicas_of}
 

@@ -5,8 +5,8 @@ use Rattle.vr_base.specs.Groups.{least_members}
 use Rattle.vr_base.specs.Replicas.{no_replicas}
 use Rattle.vr_base.specs.Versions.{by_version}
 use Rattle.vr_base.specs.declared.kind.Kind.{Kind}
-use Rattle.vr_ckpt.specs.Asks.{is_fresh}
-use Rattle.vr_ckpt.specs.Folds.{outcome_of}
+use Rattle.vr_state.specs.Asks.{is_fresh}
+use Rattle.vr_state.specs.Folds.{outcome_of}
 use Rattle.vr_disk.specs.Regions.{sectors}
 use Rattle.vr_header.specs.Names.{name_by}
 use Rattle.vr_msg.specs.Normal.{last_op, primary}
@@ -15,13 +15,13 @@ use Rattle.vr_msg.specs.declared.output.Output.{Output}
 use Rattle.vr_msg.specs.declared.output.Output.TheVariants as output
 use Rattle.vr_msg.specs.declared.reply.ReplyKind.TheVariants as reply
 use Rattle.vr_msg.specs.declared.request.RequestFields.{RequestFields}
-use Rattle.vr_world.specs.Deciding.{session_answer}
-use Rattle.vr_world.specs.Laws.{IsMessage}
+use Rattle.vr_rules.specs.Deciding.{session_answer}
+use Rattle.vr_rules.specs.Laws.{IsMessage}
 use Rattle.vr_world.specs.Lying.{Lying, hazards, lying}
-use Rattle.vr_world.specs.Opening.{IsKind, fresh}
-use Rattle.vr_world.specs.Replica.{Replica, ackers_at, head, head_header, is_frozen, replication, version, window_end}
-use Rattle.vr_world.specs.Rules.{asker_by, next_entry}
-use Rattle.vr_world.specs.Sound.{IsSound}
+use Rattle.vr_rules.specs.Opening.{IsKind, fresh}
+use Rattle.vr_rules.specs.Replica.{Replica, ackers_at, head, head_header, is_frozen, replication, version, window_end}
+use Rattle.vr_rules.specs.Rules.{asker_by, next_entry}
+use Rattle.vr_rules.specs.Sound.{IsSound}
 use Rattle.vr_world.specs.World.{Arrives, Asks, AsksInVersion, Happening, World, fresh_world, happen}
 
 -- ---- the members

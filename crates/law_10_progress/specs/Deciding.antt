@@ -8,11 +8,11 @@ use Rattle.vr_header.specs.declared.header.Header.{Header}
 use Rattle.vr_msg.specs.declared.choice.Choice.TheVariants.{Ends}
 use Rattle.vr_msg.specs.declared.statement.Statement.{Statement}
 use Rattle.vr_msg.specs.Choice.{choice}
-use Rattle.vr_world.specs.Opening.{IsKind, fresh}
-use Rattle.vr_world.specs.Replica.{Replica, is_primary, is_started, statement_of}
-use Rattle.vr_world.specs.Rules.{with_statement}
-use Rattle.vr_world.specs.Steps.{Setting}
-use Rattle.vr_world.specs.Words.{begin_view, chosen_log, entered, is_chain, may_take, stated, try}
+use Rattle.vr_rules.specs.Opening.{IsKind, fresh}
+use Rattle.vr_rules.specs.Replica.{Replica, is_primary, is_started, statement_of}
+use Rattle.vr_rules.specs.Rules.{with_statement}
+use Rattle.vr_rules.specs.Steps.{Setting}
+use Rattle.vr_rules.specs.Words.{begin_view, chosen_log, entered, is_chain, may_take, stated, try}
 use Rattle.law_10_progress.specs.Whole.{Holder, IsMemberOf, IsSure, IsWhole, KnowsItsCheckpoint, replicas_of, top_checkpoint}
 
 -- what these replicas state of their logs, each as it is when it states it

@@ -5,10 +5,10 @@ use Rattle.vr_header.specs.declared.header.Header.{Header}
 use Rattle.vr_header.specs.declared.part.Part.{Part}
 use Rattle.vr_header.specs.declared.part.Part.TheVariants.{Here, Lost, Wanted, Unknown, Nothing}
 use Rattle.vr_header.specs.Made.{Whole}
-use Rattle.vr_world.specs.Replica.{Replica, knows, part_at, version}
-use Rattle.vr_world.specs.Sound.{IsSound}
-use Rattle.vr_world.specs.Steps.{Setting}
-use Rattle.vr_world.specs.Words.{blocks_of, entry_of}
+use Rattle.vr_rules.specs.Replica.{Replica, knows, part_at, version}
+use Rattle.vr_rules.specs.Sound.{IsSound}
+use Rattle.vr_rules.specs.Steps.{Setting}
+use Rattle.vr_rules.specs.Words.{blocks_of, entry_of}
 
 -- ---- of the replicas alone
 

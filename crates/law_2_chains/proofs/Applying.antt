@@ -3,7 +3,7 @@ use Rattle.std.proofs.Common.{ℕ, suc, ◌+◌, ◌-◌, ◌%◌, ◌≤◌, �
 use Rattle.std.specs.Prelude.{nat_lt, ◌&&◌}
 use Rattle.std.proofs.lemmas.Bool.{and_parts, cases_eq, ltb-true, eqb-true, eqb-false}
 use Rattle.std.proofs.lemmas.List.{nil_from_length}
-use Rattle.vr_world.proofs.Wording.{entry_numbered, read_is}
+use Rattle.vr_rules.proofs.Wording.{entry_numbered, read_is}
 use Rattle.vr_msg.specs.Numbers.{IsNumber}
 use Rattle.vr_header.specs.declared.header.Header.{Header}
 use Rattle.vr_header.specs.declared.part.Part.{Part}
@@ -11,17 +11,17 @@ use Rattle.vr_header.specs.declared.part.Part.TheVariants.{Here, Lost, Wanted, U
 use Rattle.vr_header.specs.Made.{Whole}
 use Rattle.vr_ckpt.specs.declared.saving.SavedCheckpoint as checkpoint
 use Rattle.vr_msg.specs.declared.output.Output.{Output}
-use Rattle.vr_msg.specs.Logs.{header_of}
-use Rattle.vr_world.specs.Replica.{Replica, part_at, head, leads, with_part}
-use Rattle.vr_ckpt.specs.Folds as state
-use Rattle.vr_world.specs.Outputs.{commit_line, applied_reply, asker_of, kind_of, replies}
-use Rattle.vr_world.specs.Steps.{Effect, Setting, Word, ◌⨾◌, change, does, says, by, reading, when, after_all}
-use Rattle.vr_world.specs.Words.{entry_of, lost, or_lost, with_entry, with_entry_at, applied, checkpoints, with_checkpoint, checkpoint_of, make_checkpoint, is_checkpoint, apply_entry, is_loaded, apply_next, apply, save}
+use Rattle.vr_header.specs.Parts.{header_of}
+use Rattle.vr_rules.specs.Replica.{Replica, part_at, head, leads, with_part}
+use Rattle.vr_state.specs.Folds as state
+use Rattle.vr_rules.specs.Outputs.{commit_line, applied_reply, asker_of, kind_of, replies}
+use Rattle.vr_rules.specs.Steps.{Effect, Setting, Word, ◌⨾◌, change, does, says, by, reading, when, after_all}
+use Rattle.vr_rules.specs.Words.{entry_of, lost, or_lost, with_entry, with_entry_at, applied, checkpoints, with_checkpoint, checkpoint_of, make_checkpoint, is_checkpoint, apply_entry, is_loaded, apply_next, apply, save}
 use Rattle.vr_world.specs.Group as group
-use Rattle.vr_world.specs.Sound.{IsSound}
-use Rattle.vr_world.proofs.Heads.{Spans, known_within, knows_some, head_least, with_part_spans, with_part_at, with_part_other}
-use Rattle.vr_world.proofs.Keeping.{spans_of}
-use Rattle.vr_world.proofs.Storing.{kept_lost, kept_applied, kept_moved, moved, moved_at, moved_head}
+use Rattle.vr_rules.specs.Sound.{IsSound}
+use Rattle.vr_rules.proofs.Heads.{Spans, known_within, knows_some, head_least, with_part_spans, with_part_at, with_part_other}
+use Rattle.vr_rules.proofs.Keeping.{spans_of}
+use Rattle.vr_rules.proofs.Storing.{kept_lost, kept_applied, kept_moved, moved, moved_at, moved_head}
 use Rattle.law_1_machine.specs.Group.{Group, Member, becomes}
 use Rattle.law_1_machine.specs.Laws.{Agreement}
 use Rattle.law_1_machine.specs.Members.{Memory, Message}

@@ -10,6 +10,7 @@ use Rattle.vr_header.specs.declared.header.Header.{Header}
 use Rattle.vr_header.specs.declared.part.Part.{Part}
 use Rattle.vr_header.specs.declared.part.Part.TheVariants.{Here, Lost, Wanted, Unknown, Nothing}
 use Rattle.vr_header.specs.Made.{Whole}
+use Rattle.vr_header.specs.Parts.{header_of}
 use Rattle.vr_msg.specs.declared.event.Event.{Event}
 use Rattle.vr_msg.specs.declared.event.Event.TheVariants as event
 use Rattle.vr_msg.specs.declared.frame.Frame.TheVariants as frame
@@ -20,26 +21,24 @@ use Rattle.vr_msg.specs.declared.choice.Choice.{Choice}
 use Rattle.vr_msg.specs.declared.choice.Choice.TheVariants.{Ends, WaitsAt, TooFew}
 use Rattle.vr_msg.specs.Choice as said
 use Rattle.vr_msg.specs.Choice.{top_view, top_commit, named, ops, choice}
-use Rattle.vr_msg.specs.Logs.{header_of}
 use Rattle.vr_msg.specs.Normal.{primary}
-use Rattle.vr_world.specs.Replica.{Replica, last_view, head, is_alone, is_started, is_primary, part_at, run_start, statement_of, with_part, version}
-use Rattle.vr_world.specs.Outputs.{others, send, send_to_all, start_view, start_view_change, prepare, wait_line}
-use Rattle.vr_world.specs.Steps.{Effect, Say, Setting, Step, Word, ◌⨾◌, quiet, change, does, says, by, reading, when, each, after_all}
-use Rattle.vr_world.specs.Words.{Log, saves, with_saved, save, entered, enter, entry_of, or_lost, lost, with_entry, with_entry_at, taken, take, log_header, may_take, prepare_again, stated, chosen_log, choose_line, begin_view, try_log, obey_choice, decided, try, advance, apply}
-use Rattle.vr_world.specs.Opening.{listed}
-use Rattle.vr_world.specs.Words.{value_of}
-use Rattle.vr_world.specs.Deciding.{do_view_change_table, is_from, is_for}
-use Rattle.vr_world.specs.Rules.{with_statement, obey_do_view_change, on_do_view_change, tell_view}
-use Rattle.vr_world.specs.Laws.{IsMessage}
-use Rattle.vr_world.specs.Sound.{IsSound, IsStated}
-use Rattle.vr_world.proofs.Ruling.{by_rows, group_of, kept_statement, IsFor}
-use Rattle.vr_world.proofs.SilentSteps.{still_enter}
-use Rattle.vr_world.proofs.SilentWaits.{mute_one, mute_quiet}
-use Rattle.vr_world.proofs.Stating.{run_of, given_at}
-use Rattle.vr_world.specs.Given.{IsLogFor}
-use Rattle.vr_world.proofs.Taking.{MayTake, may_take_is, over, kept_taken}
-use Rattle.vr_world.proofs.Trying.{all_stated, chosen_log_is}
-use Rattle.vr_world.proofs.Wording.{none_stated, kept_entered}
+use Rattle.vr_rules.specs.Replica.{Replica, last_view, head, is_alone, is_started, is_primary, part_at, run_start, statement_of, with_part, version}
+use Rattle.vr_rules.specs.Outputs.{others, send, send_to_all, start_view, start_view_change, prepare, wait_line}
+use Rattle.vr_rules.specs.Steps.{Effect, Say, Setting, Step, Word, ◌⨾◌, quiet, change, does, says, by, reading, when, each, after_all}
+use Rattle.vr_rules.specs.Words.{Log, saves, with_saved, save, entered, enter, entry_of, or_lost, lost, with_entry, with_entry_at, taken, take, log_header, may_take, prepare_again, stated, chosen_log, choose_line, begin_view, try_log, obey_choice, decided, try, advance, apply, value_of}
+use Rattle.vr_rules.specs.Opening.{listed}
+use Rattle.vr_rules.specs.Deciding.{do_view_change_table, is_from, is_for}
+use Rattle.vr_rules.specs.Rules.{with_statement, obey_do_view_change, on_do_view_change, tell_view}
+use Rattle.vr_rules.specs.Laws.{IsMessage}
+use Rattle.vr_rules.specs.Sound.{IsSound, IsStated}
+use Rattle.vr_rules.proofs.Ruling.{by_rows, group_of, kept_statement, IsFor}
+use Rattle.vr_rules.proofs.SilentSteps.{still_enter}
+use Rattle.vr_rules.proofs.SilentWaits.{mute_one, mute_quiet}
+use Rattle.vr_rules.proofs.Stating.{run_of, given_at}
+use Rattle.vr_rules.specs.Given.{IsLogFor}
+use Rattle.vr_rules.proofs.Taking.{MayTake, may_take_is, over, kept_taken}
+use Rattle.vr_rules.proofs.Trying.{all_stated, chosen_log_is}
+use Rattle.vr_rules.proofs.Wording.{none_stated, kept_entered}
 use Rattle.law_1_machine.specs.Basics.{In}
 use Rattle.law_1_machine.specs.Group.{Group, Member, becomes, decides}
 use Rattle.law_1_machine.specs.Members as machine

@@ -2,25 +2,25 @@
 use Rattle.std.proofs.Common.{ℕ, ◌≡◌, ◌≢◌, arith, refl, sym, subst, Bool, true, false, List, [], ◌∷◌, ◌++◌, Option, Some, None, is_some}
 use Rattle.std.specs.Prelude.{find, nat_lt}
 use Rattle.vr_header.specs.declared.header.Header.{Header}
-use Rattle.vr_ckpt.specs.State.{State}
-use Rattle.vr_ckpt.specs.StateTexts.{state_decoded}
+use Rattle.vr_state.specs.declared.state.State.{State}
+use Rattle.vr_state.specs.StateTexts.{state_decoded}
 use Rattle.vr_ckpt.specs.declared.found.Load.{Load}
 use Rattle.vr_ckpt.specs.declared.found.Load.TheVariants.{Loaded, Missing}
 use Rattle.vr_ckpt.specs.declared.table.PayloadTable.{PayloadTable}
 use Rattle.vr_ckpt.specs.declared.name.Name.{Name}
 use Rattle.vr_msg.specs.declared.frame.GetBlock.{GetBlock}
 use Rattle.vr_msg.specs.declared.frame.GiveBlock.{GiveBlock}
-use Rattle.vr_world.specs.Replica.{Replica, part_at, head, version}
-use Rattle.vr_world.specs.Outputs.{send_to, give_block}
-use Rattle.vr_world.specs.Steps.{Effect, PutBlock, Setting, Word, ◌⨾◌, quiet, change, does, by, reading, when, after_all}
-use Rattle.vr_world.specs.Words.{is_loaded, with_state, loaded_state, loads, checkpoint_at, load, apply, usable}
-use Rattle.vr_world.specs.Deciding.{is_wanted, get_block_table, give_block_table}
-use Rattle.vr_world.specs.Rules.{asked_block, block_at, give_read, obey_get_block, on_get_block, without, put_block, put_found, mend_found, not_worn, test_of, obey_give_block, on_give_block}
-use Rattle.vr_world.specs.Sound.{IsSound}
-use Rattle.vr_world.proofs.Combining.{kept_when}
-use Rattle.vr_world.proofs.Reacting.{kept_without}
-use Rattle.vr_world.proofs.Ruling.{by_rows}
-use Rattle.vr_world.proofs.Wording.{kept_load}
+use Rattle.vr_rules.specs.Replica.{Replica, part_at, head, version}
+use Rattle.vr_rules.specs.Outputs.{send_to, give_block}
+use Rattle.vr_rules.specs.Steps.{Effect, PutBlock, Setting, Word, ◌⨾◌, quiet, change, does, by, reading, when, after_all}
+use Rattle.vr_rules.specs.Words.{is_loaded, with_state, loaded_state, loads, checkpoint_at, load, apply, usable}
+use Rattle.vr_rules.specs.Deciding.{is_wanted, get_block_table, give_block_table}
+use Rattle.vr_rules.specs.Rules.{asked_block, block_at, give_read, obey_get_block, on_get_block, without, put_block, put_found, mend_found, not_worn, test_of, obey_give_block, on_give_block}
+use Rattle.vr_rules.specs.Sound.{IsSound}
+use Rattle.vr_rules.proofs.Combining.{kept_when}
+use Rattle.vr_rules.proofs.Reacting.{kept_without}
+use Rattle.vr_rules.proofs.Ruling.{by_rows}
+use Rattle.vr_rules.proofs.Wording.{kept_load}
 use Rattle.law_1_machine.specs.Group.{Group, Member, becomes}
 use Rattle.law_1_machine.specs.Members.{Memory}
 use Rattle.law_1_machine.specs.Machine as move

@@ -14,24 +14,24 @@ use Rattle.vr_msg.specs.declared.output.Committed.{Committed}
 use Rattle.vr_msg.specs.declared.output.Output.{Output}
 use Rattle.vr_msg.specs.declared.output.Output.TheVariants as output
 use Rattle.vr_super.specs.Copies.{SuperValue}
-use Rattle.vr_world.specs.Replica.{Replica, part_at}
-use Rattle.vr_world.specs.Steps.{Effect, Write, outputs}
+use Rattle.vr_rules.specs.Replica.{Replica, part_at}
+use Rattle.vr_rules.specs.Steps.{Effect, Write, outputs}
 use Rattle.vr_world.specs.Commitment.{Stored}
 use Rattle.vr_world.specs.Lying.{Lying, lying}
-use Rattle.vr_world.specs.Outputs.{messages}
+use Rattle.vr_rules.specs.Outputs.{messages}
 use Rattle.vr_world.specs.Group as group
 use Rattle.vr_world.specs.Group.{Arrival, Asked, Message, Time, IsArrival, Move, Moved, Movable, Moves, Opens, Played, Run, begins, carried_out, cut_after, cut_in_two, ends, keeps_all, made_by_effect, made_in, mended, migration, once_mended, opening_script, resumed, stepped, with_script}
 use Rattle.vr_world.specs.GroupFit.{IsFitArrival, IsFitGroup, IsFitMember, IsFitMove}
-use Rattle.vr_world.specs.Own.{IsAt}
-use Rattle.vr_world.specs.Sound.{IsSound}
+use Rattle.vr_rules.specs.Own.{IsAt}
+use Rattle.vr_rules.specs.Sound.{IsSound}
 use Rattle.vr_world.specs.Storing.{done_in, here_in, in_view, stored_at, stored_by, stored_from}
-use Rattle.vr_world.specs.Fit.{MayCome, ReadsWell}
-use Rattle.vr_world.proofs.Slots.{value_is}
-use Rattle.vr_world.proofs.FitMessages.{asked_may_come}
+use Rattle.vr_rules.specs.Fit.{MayCome, ReadsWell}
+use Rattle.vr_rules.proofs.Slots.{value_is}
+use Rattle.vr_rules.proofs.FitMessages.{asked_may_come}
 use Rattle.vr_world.proofs.FitLies.{lies_fit}
 use Rattle.vr_world.proofs.FitGroups.{good_value, groups_fit}
-use Rattle.vr_world.proofs.FitOpening.{headers_of}
-use Rattle.vr_world.proofs.SendsScripts.{outputs_append}
+use Rattle.vr_rules.proofs.FitOpening.{headers_of}
+use Rattle.vr_rules.proofs.SendsScripts.{outputs_append}
 use Rattle.law_1_machine.specs.Basics.{In}
 use Rattle.law_1_machine.specs.Group.{Group, Made, Member, made_at}
 use Rattle.law_1_machine.specs.Laws.{Backed}

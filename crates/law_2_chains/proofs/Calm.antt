@@ -9,11 +9,11 @@ use Rattle.vr_header.specs.Same.{same_header}
 use Rattle.vr_msg.specs.declared.frame.Frame.{Frame}
 use Rattle.vr_msg.specs.declared.output.Output.{Output}
 use Rattle.vr_ckpt.specs.declared.name.Name.{Name}
-use Rattle.vr_world.specs.Outputs.{commit_line, applied_reply, get_block, get_prepare, send_to_all, start_view_change}
-use Rattle.vr_world.specs.Replica.{Replica, head, is_alone, last_view, part_at, with_part}
-use Rattle.vr_world.specs.Rules.{backup_ticks, idler, next_view, primary_ticks}
-use Rattle.vr_world.specs.Steps.{Effect, Say, Setting, Word, ◌⨾◌, quiet, change, does, says, by, naming, reading, when, times, each, after_all}
-use Rattle.vr_world.specs.Words.{advance, advanced, applied, apply, apply_entry, apply_next, ask, ask_for, ask_peer, blocks_of, checkpoint_of, checkpoints, enter, entered, entry_of, header_read, is_loaded, least_absent, lost, make_checkpoint, mend_header, op_of_slot, or_lost, place_now, prepare_again, rested, save, saves, turned, value_of, visit, visit_block, visit_place, visit_read, visit_slot, with_checkpoint, with_cursor, with_entry, with_entry_at, with_saved, with_worn}
+use Rattle.vr_rules.specs.Outputs.{commit_line, applied_reply, get_block, get_prepare, send_to_all, start_view_change}
+use Rattle.vr_rules.specs.Replica.{Replica, head, is_alone, last_view, part_at, with_part}
+use Rattle.vr_rules.specs.Rules.{backup_ticks, idler, next_view, primary_ticks}
+use Rattle.vr_rules.specs.Steps.{Effect, Say, Setting, Word, ◌⨾◌, quiet, change, does, says, by, naming, reading, when, times, each, after_all}
+use Rattle.vr_rules.specs.Words.{advance, advanced, applied, apply, apply_entry, apply_next, ask, ask_for, ask_peer, blocks_of, checkpoint_of, checkpoints, enter, entered, entry_of, header_read, is_loaded, least_absent, lost, make_checkpoint, mend_header, op_of_slot, or_lost, place_now, prepare_again, rested, save, saves, turned, value_of, visit, visit_block, visit_place, visit_read, visit_slot, with_checkpoint, with_cursor, with_entry, with_entry_at, with_saved, with_worn}
 use Rattle.law_2_chains.specs.Chains.{Every}
 use Rattle.law_2_chains.proofs.LastWord.{last_word}
 use Rattle.law_2_chains.proofs.Scripts.{every_append}

@@ -12,18 +12,18 @@ use Rattle.vr_msg.specs.declared.frame.StartViewChange.{StartViewChange}
 use Rattle.vr_msg.specs.declared.output.Output.{Output}
 use Rattle.vr_msg.specs.declared.output.Output.TheVariants as output
 use Rattle.vr_msg.specs.declared.statement.Statement.{Statement}
-use Rattle.vr_world.specs.Sound.{IsNameBytes}
-use Rattle.vr_world.specs.Replica.{Replica, last_view, head, is_started, leads, header_at, is_frozen, is_spent}
-use Rattle.vr_world.specs.Outputs.{others, send, send_to_all, commit_message, start_view_change}
-use Rattle.vr_world.specs.Steps.{Say, Setting, Step, Word, ◌⨾◌, quiet, change, says, by, when, outputs, after_all}
-use Rattle.vr_world.specs.Words.{saves, with_saved, entered, enter, rested, prepare_again, speak, ask, visit}
-use Rattle.vr_world.specs.Deciding.{first_of, commit_table, get_block_table, get_prepare_table, get_sync_table, get_view_table, give_block_table, give_prepare_table, prepare_ok_table, prepare_table, request_table, start_view_change_table, start_view_table, sync_view_table, tick_table}
-use Rattle.vr_world.specs.Rules.{heard_of, obey_start_view_change, on_start_view_change, idler, next_view, primary_ticks, backup_ticks, changing_ticks, obey_tick, on_tick, on_message, on_event, on_request, on_prepare, on_prepare_ok, on_commit, on_start_view, on_get_view, on_get_prepare, on_give_prepare, on_get_block, on_give_block, on_get_sync, on_sync_view, react, tell_view}
-use Rattle.vr_world.specs.Laws.{IsMessage}
-use Rattle.vr_world.proofs.Ruling.{by_rows}
-use Rattle.vr_world.proofs.SilentWaits.{Mute, mute_all, mute_by, mute_change, mute_if, mute_naming, mute_one, mute_prepare_again, mute_quiet, mute_reading, mute_then}
-use Rattle.vr_world.proofs.SilentSteps.{still_enter, mute_commit, mute_get_block, mute_get_prepare, mute_get_view, mute_give_block, mute_give_prepare, mute_prepare, mute_prepare_ok, mute_request, mute_start_view, mute_get_sync, mute_sync_view}
-use Rattle.vr_world.proofs.Wording.{none_stated}
+use Rattle.vr_rules.specs.Sound.{IsNameBytes}
+use Rattle.vr_rules.specs.Replica.{Replica, last_view, head, is_started, leads, header_at, is_frozen, is_spent}
+use Rattle.vr_rules.specs.Outputs.{others, send, send_to_all, commit_message, start_view_change}
+use Rattle.vr_rules.specs.Steps.{Say, Setting, Step, Word, ◌⨾◌, quiet, change, says, by, when, outputs, after_all}
+use Rattle.vr_rules.specs.Words.{saves, with_saved, entered, enter, rested, prepare_again, speak, ask, visit}
+use Rattle.vr_rules.specs.Deciding.{first_of, commit_table, get_block_table, get_prepare_table, get_sync_table, get_view_table, give_block_table, give_prepare_table, prepare_ok_table, prepare_table, request_table, start_view_change_table, start_view_table, sync_view_table, tick_table}
+use Rattle.vr_rules.specs.Rules.{heard_of, obey_start_view_change, on_start_view_change, idler, next_view, primary_ticks, backup_ticks, changing_ticks, obey_tick, on_tick, on_message, on_event, on_request, on_prepare, on_prepare_ok, on_commit, on_start_view, on_get_view, on_get_prepare, on_give_prepare, on_get_block, on_give_block, on_get_sync, on_sync_view, react, tell_view}
+use Rattle.vr_rules.specs.Laws.{IsMessage}
+use Rattle.vr_rules.proofs.Ruling.{by_rows}
+use Rattle.vr_rules.proofs.SilentWaits.{Mute, mute_all, mute_by, mute_change, mute_if, mute_naming, mute_one, mute_prepare_again, mute_quiet, mute_reading, mute_then}
+use Rattle.vr_rules.proofs.SilentSteps.{still_enter, mute_commit, mute_get_block, mute_get_prepare, mute_get_view, mute_give_block, mute_give_prepare, mute_prepare, mute_prepare_ok, mute_request, mute_start_view, mute_get_sync, mute_sync_view}
+use Rattle.vr_rules.proofs.Wording.{none_stated}
 use Rattle.law_1_machine.specs.Group.{Group}
 use Rattle.law_2_chains.specs.Local.{Local, through, carried}
 use Rattle.law_2_chains.specs.Chains.{Setup, Every, AsksNothing, MayBeSaid, WasSent, Mid, Goes}

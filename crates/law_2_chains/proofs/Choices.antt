@@ -8,14 +8,13 @@ use Rattle.vr_msg.specs.declared.output.Chosen.{Chosen}
 use Rattle.vr_msg.specs.declared.output.Output.{Output}
 use Rattle.vr_msg.specs.declared.output.Output.TheVariants as output
 use Rattle.vr_msg.specs.declared.statement.Statement.{Statement}
-use Rattle.vr_msg.specs.Choice.{named, top_view}
-use Rattle.vr_world.specs.Replica.{Replica}
+use Rattle.vr_msg.specs.Choice.{named, top_view, top_commit}
+use Rattle.vr_rules.specs.Replica.{Replica}
 use Rattle.vr_world.specs.Safe.{heard_from}
-use Rattle.vr_world.specs.Steps.{Effect, Setting, Step, Word, ◌⨾◌, quiet, change, by, naming, outputs, after_all}
-use Rattle.vr_world.specs.Words.{log_end, stated}
-use Rattle.vr_msg.specs.Choice.{top_commit}
-use Rattle.vr_world.proofs.SendsScripts.{outputs_append}
-use Rattle.vr_world.proofs.SilentWaits.{Mute}
+use Rattle.vr_rules.specs.Steps.{Effect, Setting, Step, Word, ◌⨾◌, quiet, change, by, naming, outputs, after_all}
+use Rattle.vr_rules.specs.Words.{log_end, stated}
+use Rattle.vr_rules.proofs.SendsScripts.{outputs_append}
+use Rattle.vr_rules.proofs.SilentWaits.{Mute}
 use Rattle.law_1_machine.specs.Basics.{In}
 use Rattle.law_1_machine.specs.Group.{Group}
 use Rattle.law_1_machine.specs.Members.{Choice}

@@ -5,7 +5,7 @@ use Rattle.std.specs.List.{cons_option, filter_map, range_with_len}
 use Rattle.std.specs.Option.{option_and_then, option_map_or}
 use Rattle.std.proofs.lemmas.Bool.{cases_lt, cases_eq, eq-eqb, eqb-true, eqb-false, not-true, true≢false, lt-leb, le-leb}
 use Rattle.std.proofs.lemmas.List.{get_or_past}
-use Rattle.std.proofs.lemmas.List.Elements.{All-cons, All-nil, All-head, All-tail, All-contains}
+use Rattle.std.proofs.lemmas.List.Elements.{All-cons, All-nil, All-head, All-tail, All-contains, All-weaker}
 use Rattle.std.proofs.lemmas.List.Sums.{sum_by-cons}
 use Rattle.vr_base.specs.declared.table.Quorums.{Quorums}
 use Rattle.vr_header.specs.declared.header.Header.{Header}
@@ -24,12 +24,11 @@ use Rattle.vr_choose.proofs.Logs.{found, chosen_front, chosen_open}
 use Rattle.vr_choose.proofs.Named.{names_of, unnamed}
 use Rattle.vr_choose.proofs.Order.{view_most}
 use Rattle.vr_choose.proofs.Standing.{headers_stand}
-use Rattle.vr_world.specs.Replica.{Replica, statement_of, version}
-use Rattle.vr_world.specs.Words.{stated, chosen_log, log_end, log_header, Log}
-use Rattle.vr_world.specs.Sound.{IsSound, IsStated}
-use Rattle.vr_world.proofs.Taking.{log_reaches}
-use Rattle.vr_world.proofs.Trying.{all_stated, log_end_is}
-use Rattle.std.proofs.lemmas.List.Elements.{All-weaker}
+use Rattle.vr_rules.specs.Replica.{Replica, statement_of, version}
+use Rattle.vr_rules.specs.Words.{stated, chosen_log, log_end, log_header, Log}
+use Rattle.vr_rules.specs.Sound.{IsSound, IsStated}
+use Rattle.vr_rules.proofs.Taking.{log_reaches}
+use Rattle.vr_rules.proofs.Trying.{all_stated, log_end_is}
 use Rattle.law_1_machine.specs.Choosing.{Denies, plainly, other, silent, Chosen}
 use Rattle.law_1_machine.specs.Members as machine
 use Rattle.law_1_machine.specs.Parts.{header, denied}

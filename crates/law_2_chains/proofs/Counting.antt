@@ -15,14 +15,14 @@ use Rattle.vr_base.proofs.Sets.{has_with}
 use Rattle.vr_msg.specs.declared.frame.Frame.TheVariants as frame
 use Rattle.vr_msg.specs.declared.frame.PrepareOk.{PrepareOk}
 use Rattle.vr_msg.specs.Choice.{ops}
-use Rattle.vr_world.specs.Replica.{Replica, replication, ackers_at, head, is_here, leads, part_at}
-use Rattle.vr_world.specs.Steps.{Setting}
-use Rattle.vr_world.specs.Words.{votes, has_quorum, advance}
-use Rattle.vr_world.specs.Deciding.{prepare_ok_table, is_from, is_for}
-use Rattle.vr_world.specs.Rules.{acknowledged, obey_prepare_ok, on_prepare_ok}
-use Rattle.vr_world.specs.Sound.{IsSound}
-use Rattle.vr_world.proofs.Keeping.{sound_ackers}
-use Rattle.vr_world.proofs.Ruling.{by_rows}
+use Rattle.vr_rules.specs.Replica.{Replica, replication, ackers_at, head, is_here, leads, part_at}
+use Rattle.vr_rules.specs.Steps.{Setting}
+use Rattle.vr_rules.specs.Words.{votes, has_quorum, advance}
+use Rattle.vr_rules.specs.Deciding.{prepare_ok_table, is_from, is_for}
+use Rattle.vr_rules.specs.Rules.{acknowledged, obey_prepare_ok, on_prepare_ok}
+use Rattle.vr_rules.specs.Sound.{IsSound}
+use Rattle.vr_rules.proofs.Keeping.{sound_ackers}
+use Rattle.vr_rules.proofs.Ruling.{by_rows}
 use Rattle.law_1_machine.specs.Group.{Group}
 use Rattle.law_1_machine.specs.Basics.{In}
 use Rattle.law_1_machine.specs.Members as machine

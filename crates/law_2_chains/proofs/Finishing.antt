@@ -6,8 +6,8 @@ use Rattle.vr_msg.specs.declared.frame.Frame.TheVariants as frame
 use Rattle.vr_msg.specs.declared.output.Output.{Output}
 use Rattle.vr_msg.specs.declared.output.Output.TheVariants as output
 use Rattle.vr_msg.specs.declared.output.Sent.{Sent}
-use Rattle.vr_world.specs.Replica.{Replica}
-use Rattle.vr_world.specs.Steps.{Step}
+use Rattle.vr_rules.specs.Replica.{Replica}
+use Rattle.vr_rules.specs.Steps.{Step}
 use Rattle.law_1_machine.specs.Basics.{In}
 use Rattle.law_1_machine.specs.Group.{Group, sends}
 use Rattle.law_1_machine.specs.Members.{Memory, Message}
@@ -20,8 +20,8 @@ use Rattle.law_1_machine.proofs.Laws.{log_backed}
 use Rattle.law_1_machine.proofs.Moves.{memory_of, reached_good}
 use Rattle.law_2_chains.specs.Local.{Local, carried}
 use Rattle.law_2_chains.specs.Reflecting.{entries_by, IsDisk}
-use Rattle.vr_world.specs.Words.{log_header}
-use Rattle.vr_world.specs.Deciding.{log_of}
+use Rattle.vr_rules.specs.Words.{log_header}
+use Rattle.vr_rules.specs.Deciding.{log_of}
 use Rattle.law_2_chains.specs.Chains.{WasMade, Setup, IsReached, WasSent, MayBeSent, MayBeSaid, Every, Mid, Goes}
 use Rattle.law_2_chains.proofs.Moving.{stops}
 use Rattle.law_2_chains.specs.Finished.{AreBacked, IsSaid, acknowledged, prepared, a_commit, a_start, a_checkpoint, a_statement, IsTrue, Finished, Finishes}

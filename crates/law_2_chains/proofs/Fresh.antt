@@ -10,14 +10,14 @@ use Rattle.vr_base.specs.Replicas.{no_replicas, has_replica}
 use Rattle.vr_header.specs.declared.header.Header.{Header}
 use Rattle.vr_header.specs.declared.part.Part.TheVariants.{Here, Nothing}
 use Rattle.vr_msg.specs.declared.statement.Statement.{Statement}
-use Rattle.vr_msg.specs.Logs.{header_of, has_header}
-use Rattle.vr_world.proofs.Openings.{empty_numbers}
-use Rattle.vr_world.specs.Replica.{Replica, ackers_at, part_at, head}
-use Rattle.vr_world.specs.Opening.{first_value, fresh, blank, listed}
+use Rattle.vr_header.specs.Parts.{header_of, has_header}
+use Rattle.vr_rules.proofs.Openings.{empty_numbers}
+use Rattle.vr_rules.specs.Replica.{Replica, ackers_at, part_at, head}
+use Rattle.vr_rules.specs.Opening.{first_value, fresh, blank, listed}
 use Rattle.vr_world.specs.Group as group
-use Rattle.vr_world.specs.Sound.{IsSound}
-use Rattle.vr_world.proofs.Heads.{Spans, head_knows, part_before, part_within}
-use Rattle.vr_world.proofs.Wording.{none_stated}
+use Rattle.vr_rules.specs.Sound.{IsSound}
+use Rattle.vr_rules.proofs.Heads.{Spans, head_knows, part_before, part_within}
+use Rattle.vr_rules.proofs.Wording.{none_stated}
 use Rattle.law_1_machine.specs.Basics.{In}
 use Rattle.law_1_machine.specs.Group.{Group, Member, becomes, made_at}
 use Rattle.law_1_machine.specs.Members.{Memory}

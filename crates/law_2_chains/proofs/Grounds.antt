@@ -4,9 +4,9 @@ use Rattle.std.proofs.Common.{ℕ, zero, suc, ◌≡◌, ◌∙◌, ◌⊎◌, i
 use Rattle.std.specs.Prelude.{Contains, slice_get}
 use Rattle.vr_header.specs.declared.header.Header.{Header}
 use Rattle.vr_msg.specs.declared.output.Output.{Output}
+use Rattle.vr_rules.specs.Steps.{Effect, Checkpoint, Mend, PutBlock, Rewrite, Save, Say, Write, outputs}
 use Rattle.vr_world.specs.Group as group
 use Rattle.vr_world.specs.Group.{Move, Moved, Moves, Played}
-use Rattle.vr_world.specs.Steps.{Effect, Checkpoint, Mend, PutBlock, Rewrite, Save, Say, Write, outputs}
 use Rattle.vr_world.specs.Storing.{done_in, stored_from, until_said}
 use Rattle.law_1_machine.specs.Basics.{In}
 use Rattle.law_1_machine.specs.Group.{Group}

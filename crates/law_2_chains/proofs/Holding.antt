@@ -10,13 +10,13 @@ use Rattle.vr_header.specs.declared.header.Header.{Header}
 use Rattle.vr_header.specs.declared.part.Part.{Part}
 use Rattle.vr_header.specs.declared.part.Part.TheVariants.{Here, Lost, Wanted, Unknown, Nothing}
 use Rattle.vr_header.specs.Made.{Whole}
-use Rattle.vr_world.specs.Replica.{Replica, ackers_at, head, leads, part_at, with_part}
-use Rattle.vr_world.specs.Steps.{Setting, Word, ◌⨾◌, quiet, change, says, does, by, reading, when, times}
-use Rattle.vr_world.specs.Words.{entry_of, or_lost, with_entry, with_entry_at, applied, with_checkpoint, checkpoint_of, make_checkpoint, is_checkpoint, apply_entry, is_loaded, apply_next, apply, save, learn, advanced, advance, rested, with_saved}
-use Rattle.vr_world.specs.Sound.{IsSound}
-use Rattle.vr_world.proofs.Keeping.{sound_commit}
-use Rattle.vr_world.proofs.Storing.{moved, moved_at, moved_head}
-use Rattle.vr_world.proofs.Wording.{keeps_apply_next}
+use Rattle.vr_rules.specs.Replica.{Replica, ackers_at, head, leads, part_at, with_part}
+use Rattle.vr_rules.specs.Steps.{Setting, Word, ◌⨾◌, quiet, change, says, does, by, reading, when, times}
+use Rattle.vr_rules.specs.Words.{entry_of, or_lost, with_entry, with_entry_at, applied, with_checkpoint, checkpoint_of, make_checkpoint, is_checkpoint, apply_entry, is_loaded, apply_next, apply, save, learn, advanced, advance, rested, with_saved}
+use Rattle.vr_rules.specs.Sound.{IsSound}
+use Rattle.vr_rules.proofs.Keeping.{sound_commit}
+use Rattle.vr_rules.proofs.Storing.{moved, moved_at, moved_head}
+use Rattle.vr_rules.proofs.Wording.{keeps_apply_next}
 use Rattle.law_1_machine.specs.Basics.{In}
 use Rattle.vr_msg.specs.declared.statement.Statement.{Statement}
 use Rattle.law_1_machine.specs.Members.{Message, Do_view_change}

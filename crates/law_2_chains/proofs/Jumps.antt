@@ -6,15 +6,15 @@ use Rattle.std.specs.Option.{option_map_or}
 use Rattle.std.proofs.lemmas.Bool.{cases_lt, lt-leb, le-leb, lt-ltb, le-ltb}
 use Rattle.vr_header.specs.declared.header.Header.{Header}
 use Rattle.vr_header.specs.declared.part.Part.TheVariants.{Here, Lost, Nothing}
+use Rattle.vr_header.specs.Parts.{header_of, has_header}
 use Rattle.vr_msg.specs.declared.frame.SyncView.{SyncView}
-use Rattle.vr_msg.specs.Logs.{header_of, has_header}
-use Rattle.vr_world.specs.Replica.{Replica, part_at, head, forgetting}
-use Rattle.vr_world.specs.Words.{jumped, jumped_part, log_header, replaced_by, sync_log}
+use Rattle.vr_rules.specs.Replica.{Replica, part_at, head, forgetting}
+use Rattle.vr_rules.specs.Words.{jumped, jumped_part, log_header, replaced_by, sync_log}
+use Rattle.vr_rules.specs.Sound.{IsSound}
+use Rattle.vr_rules.proofs.Heads.{Spans, some_known, part_past, head_from, head_within, head_knows, head_reaches, head_stops, known_within, knows_some, forgetting_spans, forgetting_at, forgetting_known, forgetting_head}
+use Rattle.vr_rules.specs.Given.{IsSyncFor}
+use Rattle.vr_rules.proofs.Jumping.{MayJump, landed, landed_at, landed_spans, jumped_known}
 use Rattle.vr_world.specs.Group as group
-use Rattle.vr_world.specs.Sound.{IsSound}
-use Rattle.vr_world.proofs.Heads.{Spans, some_known, part_past, head_from, head_within, head_knows, head_reaches, head_stops, known_within, knows_some, forgetting_spans, forgetting_at, forgetting_known, forgetting_head}
-use Rattle.vr_world.specs.Given.{IsSyncFor}
-use Rattle.vr_world.proofs.Jumping.{MayJump, landed, landed_at, landed_spans, jumped_known}
 use Rattle.law_1_machine.specs.Members.{Memory}
 use Rattle.law_1_machine.specs.Parts as part
 use Rattle.law_1_machine.specs.Taking.{Jumps}

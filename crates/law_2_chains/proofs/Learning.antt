@@ -4,10 +4,10 @@ use Rattle.std.specs.List.{prefix_len}
 use Rattle.std.proofs.lemmas.Bool.{cases_lt}
 use Rattle.vr_header.specs.declared.header.Header.{Header}
 use Rattle.vr_msg.specs.Choice.{ops}
-use Rattle.vr_world.specs.Replica.{Replica, part_at, head}
-use Rattle.vr_world.specs.Steps.{Setting, change}
-use Rattle.vr_world.specs.Words.{learned, learn, has_quorum, advanced, advance, apply}
-use Rattle.vr_world.proofs.Keeping.{sound_commit}
+use Rattle.vr_rules.specs.Replica.{Replica, part_at, head}
+use Rattle.vr_rules.specs.Steps.{Setting, change}
+use Rattle.vr_rules.specs.Words.{learned, learn, has_quorum, advanced, advance, apply}
+use Rattle.vr_rules.proofs.Keeping.{sound_commit}
 use Rattle.law_1_machine.specs.Basics.{In}
 use Rattle.law_1_machine.specs.Group.{Group, Member, becomes, Vouches}
 use Rattle.law_1_machine.specs.Members.{Memory, Prepare, Commit}

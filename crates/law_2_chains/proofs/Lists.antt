@@ -4,7 +4,7 @@ use Rattle.std.specs.Prelude.{All, slice_get, slice_set}
 use Rattle.std.proofs.lemmas.List.{append_assoc}
 use Rattle.std.proofs.lemmas.List.Elements.{All-nil, All-cons, All-head, All-tail}
 use Rattle.vr_header.specs.declared.header.Header.{Header}
-use Rattle.vr_world.specs.Steps.{Effect}
+use Rattle.vr_rules.specs.Steps.{Effect}
 use Rattle.vr_world.specs.Group as group
 use Rattle.vr_world.specs.Group.{made_in}
 use Rattle.law_1_machine.specs.Basics.{In}

@@ -8,14 +8,14 @@ use Rattle.vr_msg.specs.declared.event.Event.TheVariants as event
 use Rattle.vr_msg.specs.declared.frame.Frame.{Frame}
 use Rattle.vr_msg.specs.declared.frame.Frame.TheVariants as frame
 use Rattle.vr_msg.specs.declared.request.RequestFields.{RequestFields}
-use Rattle.vr_world.specs.Deciding.{first_of, is_for, is_from, tick_table}
-use Rattle.vr_world.specs.Laws.{IsMessage}
-use Rattle.vr_world.specs.Replica.{Replica, head, header_at, is_frozen, is_spent, last_view}
-use Rattle.vr_world.specs.Rules.{changing_ticks, obey_tick, on_commit, on_do_view_change, on_event, on_get_block, on_get_prepare, on_get_sync, on_get_view, on_give_block, on_give_prepare, on_message, on_prepare, on_prepare_ok, on_request, on_start_view, on_start_view_change, on_sync_view, on_tick, react}
-use Rattle.vr_world.specs.Sound.{IsNameBytes}
-use Rattle.vr_world.specs.Steps.{Setting, Step, by, naming, quiet, reading, when}
-use Rattle.vr_world.proofs.Ruling.{by_rows}
-use Rattle.vr_world.proofs.SilentWaits.{mute_quiet}
+use Rattle.vr_rules.specs.Deciding.{first_of, is_for, is_from, tick_table}
+use Rattle.vr_rules.specs.Laws.{IsMessage}
+use Rattle.vr_rules.specs.Replica.{Replica, head, header_at, is_frozen, is_spent, last_view}
+use Rattle.vr_rules.specs.Rules.{changing_ticks, obey_tick, on_commit, on_do_view_change, on_event, on_get_block, on_get_prepare, on_get_sync, on_get_view, on_give_block, on_give_prepare, on_message, on_prepare, on_prepare_ok, on_request, on_start_view, on_start_view_change, on_sync_view, on_tick, react}
+use Rattle.vr_rules.specs.Sound.{IsNameBytes}
+use Rattle.vr_rules.specs.Steps.{Setting, Step, by, naming, quiet, reading, when}
+use Rattle.vr_rules.proofs.Ruling.{by_rows}
+use Rattle.vr_rules.proofs.SilentWaits.{mute_quiet}
 use Rattle.law_1_machine.specs.Group.{Group}
 use Rattle.law_2_chains.specs.ChainLaws.{MayArrive}
 use Rattle.law_2_chains.specs.Chains.{Setup, Every, AsksNothing, Mid}

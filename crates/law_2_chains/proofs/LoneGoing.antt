@@ -7,11 +7,11 @@ use Rattle.vr_msg.specs.declared.event.Event.{Event}
 use Rattle.vr_msg.specs.declared.output.Output.{Output}
 use Rattle.vr_msg.specs.declared.output.Output.TheVariants as output
 use Rattle.vr_super.specs.Copies.{SuperValue}
+use Rattle.vr_rules.specs.Replica.{Replica}
+use Rattle.vr_rules.specs.Steps.{Effect, Say, Setting, Step, Word, ◌⨾◌, after_all, change, outputs, says}
+use Rattle.vr_rules.proofs.SilentWaits.{Mute}
 use Rattle.vr_world.specs.Commitment.{Stored}
-use Rattle.vr_world.specs.Replica.{Replica}
-use Rattle.vr_world.specs.Steps.{Effect, Say, Setting, Step, Word, ◌⨾◌, after_all, change, outputs, says}
 use Rattle.vr_world.specs.Storing.{here_in, in_view, stored_by}
-use Rattle.vr_world.proofs.SilentWaits.{Mute}
 use Rattle.law_1_machine.specs.Basics.{In}
 use Rattle.law_1_machine.specs.Group.{Group}
 use Rattle.law_1_machine.specs.Members.{Choice, Message}

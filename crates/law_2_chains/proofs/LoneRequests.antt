@@ -7,19 +7,19 @@ use Rattle.vr_header.specs.Made.{Whole}
 use Rattle.vr_msg.specs.declared.event.Event.{Event}
 use Rattle.vr_msg.specs.declared.frame.Frame.TheVariants as frame
 use Rattle.vr_msg.specs.declared.request.RequestFields.{RequestFields}
-use Rattle.vr_world.specs.Sound.{IsNameBytes}
+use Rattle.vr_rules.specs.Sound.{IsNameBytes}
+use Rattle.vr_rules.specs.Replica.{Replica, forgetting, last_view, replication, head, header_at, with_part}
+use Rattle.vr_rules.specs.Outputs.{prepare, send_to_all}
+use Rattle.vr_rules.specs.Steps.{Effect, Say, Setting, Step, ◌⨾◌, change, does, says, after_all}
+use Rattle.vr_rules.specs.Words.{writes, write, stored, advance}
+use Rattle.vr_rules.specs.Rules.{make, on_request}
+use Rattle.vr_rules.specs.Laws.{IsMessage}
+use Rattle.vr_rules.specs.Deciding.{first_of, request_table}
+use Rattle.vr_rules.proofs.SilentSteps.{mute_request}
+use Rattle.vr_rules.proofs.SilentWaits.{mute_by, mute_naming}
+use Rattle.vr_rules.proofs.Storing.{kept_stored}
 use Rattle.vr_world.specs.Commitment.{Stored}
-use Rattle.vr_world.specs.Replica.{Replica, forgetting, last_view, replication, head, header_at, with_part}
-use Rattle.vr_world.specs.Outputs.{prepare, send_to_all}
-use Rattle.vr_world.specs.Steps.{Effect, Say, Setting, Step, ◌⨾◌, change, does, says, after_all}
-use Rattle.vr_world.specs.Words.{writes, write, stored, advance}
-use Rattle.vr_world.specs.Rules.{make, on_request}
 use Rattle.vr_world.specs.Storing.{here_in, in_view, stored_by}
-use Rattle.vr_world.specs.Laws.{IsMessage}
-use Rattle.vr_world.specs.Deciding.{first_of, request_table}
-use Rattle.vr_world.proofs.SilentSteps.{mute_request}
-use Rattle.vr_world.proofs.SilentWaits.{mute_by, mute_naming}
-use Rattle.vr_world.proofs.Storing.{kept_stored}
 use Rattle.law_1_machine.specs.Basics.{In}
 use Rattle.law_1_machine.specs.Group.{Group, Made, made_at}
 use Rattle.law_1_machine.specs.Machine as move

@@ -5,12 +5,12 @@ use Rattle.std.proofs.lemmas.List.Elements.{All-contains}
 use Rattle.vr_header.specs.declared.header.Header.{Header}
 use Rattle.vr_msg.specs.declared.event.Event.{Event}
 use Rattle.vr_msg.specs.declared.output.Output.TheVariants as output
-use Rattle.vr_world.specs.Replica.{Replica, is_frozen}
+use Rattle.vr_rules.specs.Replica.{Replica, is_frozen}
+use Rattle.vr_rules.specs.Sound.{IsSound}
+use Rattle.vr_rules.specs.Steps.{Effect, Setting, Step, Word, outputs, quiet}
+use Rattle.vr_rules.proofs.SilentWaits.{Mute}
 use Rattle.vr_world.specs.Commitment.{Stored}
-use Rattle.vr_world.specs.Sound.{IsSound}
-use Rattle.vr_world.specs.Steps.{Effect, Setting, Step, Word, outputs, quiet}
 use Rattle.vr_world.specs.Storing.{here_in, in_view, stored_by}
-use Rattle.vr_world.proofs.SilentWaits.{Mute}
 use Rattle.law_1_machine.specs.Basics.{In}
 use Rattle.law_1_machine.specs.Group.{Group}
 use Rattle.law_1_machine.specs.Members.{Message, Prepare_ok}
@@ -27,10 +27,9 @@ use Rattle.law_2_chains.proofs.Holding.{holds_same, tables_hold}
 use Rattle.law_2_chains.proofs.Calm.{calms_quiet}
 use Rattle.law_2_chains.proofs.Lone.{saved_views, vouches, vouches_at_end}
 use Rattle.law_2_chains.proofs.StoredLists.{IsCalm, at_its_op, counts_late, held_by, in_its, is_in, view_has}
-use Rattle.law_2_chains.proofs.Tabling.{in_left}
+use Rattle.law_2_chains.proofs.Tabling.{in_left, Tabled, since_finished}
 use Rattle.law_2_chains.proofs.Scripts.{goes_quiet}
 use Rattle.law_2_chains.proofs.Picking.{IsPicked}
-use Rattle.law_2_chains.proofs.Tabling.{Tabled, since_finished}
 
 -- nothing before the first effect
 no_effects : (r : Replica) (k : ℕ) → k < 0 → CountsNoMore r (take k []) []

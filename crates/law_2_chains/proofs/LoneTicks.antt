@@ -12,15 +12,15 @@ use Rattle.vr_msg.specs.declared.choice.Choice.{Choice}
 use Rattle.vr_msg.specs.declared.choice.Choice.TheVariants.{Ends, TooFew, WaitsAt}
 use Rattle.vr_msg.specs.declared.event.Event.{Event}
 use Rattle.vr_msg.specs.declared.event.Event.TheVariants as event
-use Rattle.vr_world.specs.Outputs.{do_view_change, send_to_all, start_view_change, to_primary, wait_line}
-use Rattle.vr_world.specs.Replica.{Replica, is_primary, is_started, view_change}
-use Rattle.vr_world.specs.Rules.{changing_ticks, idler, next_view}
-use Rattle.vr_world.specs.Sound.{IsSound}
+use Rattle.vr_rules.specs.Outputs.{do_view_change, send_to_all, start_view_change, to_primary, wait_line}
+use Rattle.vr_rules.specs.Replica.{Replica, is_primary, is_started, view_change}
+use Rattle.vr_rules.specs.Rules.{changing_ticks, idler, next_view}
+use Rattle.vr_rules.specs.Sound.{IsSound}
+use Rattle.vr_rules.specs.Steps.{Setting, Step, Word, ◌⨾◌, after_all, by, change, naming, quiet, says, when}
+use Rattle.vr_rules.specs.Words.{ask, begin_view, chosen_log, decided, may_take, obey_choice, speak, stated, try, try_log, visit}
+use Rattle.vr_rules.proofs.SilentWaits.{mute_all, mute_change, mute_quiet, mute_then}
+use Rattle.vr_rules.proofs.Taking.{may_take_is}
 use Rattle.vr_world.specs.Storing.{here_in}
-use Rattle.vr_world.specs.Steps.{Setting, Step, Word, ◌⨾◌, after_all, by, change, naming, quiet, says, when}
-use Rattle.vr_world.specs.Words.{ask, begin_view, chosen_log, decided, may_take, obey_choice, speak, stated, try, try_log, visit}
-use Rattle.vr_world.proofs.SilentWaits.{mute_all, mute_change, mute_quiet, mute_then}
-use Rattle.vr_world.proofs.Taking.{may_take_is}
 use Rattle.law_1_machine.specs.Group.{Group}
 use Rattle.law_2_chains.specs.Chains.{Setup, Every, AsksNothing, Goes, Mid}
 use Rattle.law_2_chains.specs.Choices.{IsMadeFrom}

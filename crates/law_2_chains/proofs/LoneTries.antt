@@ -12,20 +12,20 @@ use Rattle.vr_msg.specs.declared.choice.Choice.TheVariants.{Ends}
 use Rattle.vr_msg.specs.declared.event.Event.{Event}
 use Rattle.vr_msg.specs.declared.output.Output.{Output}
 use Rattle.vr_msg.specs.Choice.{choice, ops}
-use Rattle.vr_msg.specs.Logs.{header_of}
+use Rattle.vr_header.specs.Parts.{header_of}
 use Rattle.vr_msg.specs.Normal.{primary}
 use Rattle.vr_super.specs.Copies.{SuperValue}
 use Rattle.vr_world.specs.Commitment.{Stored}
-use Rattle.vr_world.specs.Opening.{listed}
-use Rattle.vr_world.specs.Outputs.{send_to_all, start_view}
-use Rattle.vr_world.specs.Replica.{Replica, ackers_at, forgetting, is_alone, is_primary, part_at, replication}
-use Rattle.vr_world.specs.Sound.{IsSound}
-use Rattle.vr_world.specs.Steps.{Effect, Save, Say, Setting, Step, ◌⨾◌, after_all, by, change, does, each, quiet, says}
+use Rattle.vr_rules.specs.Opening.{listed}
+use Rattle.vr_rules.specs.Outputs.{send_to_all, start_view}
+use Rattle.vr_rules.specs.Replica.{Replica, ackers_at, forgetting, is_alone, is_primary, part_at, replication}
+use Rattle.vr_rules.specs.Sound.{IsSound}
+use Rattle.vr_rules.specs.Steps.{Effect, Save, Say, Setting, Step, ◌⨾◌, after_all, by, change, does, each, quiet, says}
 use Rattle.vr_world.specs.Storing.{here_in, in_view, names, stored_by}
-use Rattle.vr_world.specs.Words.{Log, advance, apply, begin_view, choose_line, chosen_log, prepare_again, save, stated, take, taken, value_of, with_saved}
-use Rattle.vr_world.specs.Given.{IsLogFor}
-use Rattle.vr_world.proofs.Taking.{MayTake, kept_taken}
-use Rattle.vr_world.proofs.Trying.{all_stated, chosen_log_is}
+use Rattle.vr_rules.specs.Words.{Log, advance, apply, begin_view, choose_line, chosen_log, prepare_again, save, stated, take, taken, value_of, with_saved}
+use Rattle.vr_rules.specs.Given.{IsLogFor}
+use Rattle.vr_rules.proofs.Taking.{MayTake, kept_taken}
+use Rattle.vr_rules.proofs.Trying.{all_stated, chosen_log_is}
 use Rattle.law_1_machine.specs.Basics.{In}
 use Rattle.law_1_machine.specs.Group.{Group}
 use Rattle.law_1_machine.specs.Members.{Message, Prepare_ok}

@@ -8,21 +8,21 @@ use Rattle.vr_header.specs.declared.header.Header.{Header}
 use Rattle.vr_header.specs.declared.part.Part.TheVariants as part
 use Rattle.vr_header.specs.Made.{Whole}
 use Rattle.vr_msg.specs.Choice.{ops}
-use Rattle.vr_msg.specs.Logs.{header_of}
+use Rattle.vr_header.specs.Parts.{header_of}
 use Rattle.vr_recover.specs.declared.readings.Verdict.{Verdict}
 use Rattle.vr_recover.specs.declared.readings.Verdict.TheVariants as verdict
 use Rattle.vr_super.specs.Copies.{SuperValue}
-use Rattle.vr_world.specs.Replica.{Replica, head, part_at, forgetting, with_part}
-use Rattle.vr_world.specs.Words.{entry_of}
-use Rattle.vr_world.specs.Steps.{Effect, Write, Rewrite, Save, Mend, Checkpoint, PutBlock, Say, Setting, ◌⨾◌, quiet, change, does, reading, each, after_all}
-use Rattle.vr_world.specs.Opening.{Slot, blank, entry_header, first_listed, listed, mend_slot, old_headers, part_by, recover_old, recover_op, recover_parts, rewrite, slot_at, slot_verdict, stored_above, old_part, some_part, clouded, clouded_at, clouded_part, is_listed}
+use Rattle.vr_rules.specs.Replica.{Replica, head, part_at, forgetting, with_part}
+use Rattle.vr_rules.specs.Words.{entry_of}
+use Rattle.vr_rules.specs.Steps.{Effect, Write, Rewrite, Save, Mend, Checkpoint, PutBlock, Say, Setting, ◌⨾◌, quiet, change, does, reading, each, after_all}
+use Rattle.vr_rules.specs.Opening.{Slot, blank, entry_header, first_listed, listed, mend_slot, old_headers, part_by, recover_old, recover_op, recover_parts, rewrite, slot_at, slot_verdict, stored_above, old_part, some_part, clouded, clouded_at, clouded_part, is_listed}
 use Rattle.vr_world.specs.Group as group
 use Rattle.vr_world.specs.Group.{AreSound, IsFoundAbove, IsUndenied, MayOpen, kept_at, kept_under}
-use Rattle.vr_world.specs.Laws.{ReadsHeaders}
-use Rattle.vr_world.proofs.Heads.{Spans, forgetting_at, forgetting_head, forgetting_known, forgetting_spans, head_reaches, known_within, knows_some, part_before, part_within, remade, remade_at, remade_known, with_part_at, with_part_other}
-use Rattle.vr_world.proofs.Openings.{clouded_header, first_is, found_op, found_ops, found_old, found_olds, partly_blank, partly_clouded, partly_spans, IsOld}
-use Rattle.vr_world.specs.Found.{IsOf, Partly}
-use Rattle.vr_world.proofs.Slots.{Value}
+use Rattle.vr_rules.specs.Laws.{ReadsHeaders}
+use Rattle.vr_rules.proofs.Heads.{Spans, forgetting_at, forgetting_head, forgetting_known, forgetting_spans, head_reaches, known_within, knows_some, part_before, part_within, remade, remade_at, remade_known, with_part_at, with_part_other}
+use Rattle.vr_rules.proofs.Openings.{clouded_header, first_is, found_op, found_ops, found_old, found_olds, partly_blank, partly_clouded, partly_spans, IsOld}
+use Rattle.vr_rules.specs.Found.{IsOf, Partly}
+use Rattle.vr_rules.proofs.Slots.{Value}
 use Rattle.law_1_machine.specs.Basics.{In, update}
 use Rattle.law_1_machine.specs.Group.{Group, Member, becomes, made_at}
 use Rattle.law_1_machine.specs.Members.{Superblock}

@@ -6,11 +6,11 @@ use Rattle.std.proofs.lemmas.Bool.{le-ltb}
 use Rattle.std.proofs.lemmas.Option.{slice_get_past}
 use Rattle.vr_header.specs.declared.header.Header.{Header}
 use Rattle.vr_super.specs.Copies.{IsGood, SuperValue}
-use Rattle.vr_world.specs.Steps.{Effect, Mend, Save}
-use Rattle.vr_world.specs.Migrating.{migrated}
-use Rattle.vr_world.specs.Opening.{first_listed, listed}
+use Rattle.vr_rules.specs.Steps.{Effect, Mend, Save}
+use Rattle.vr_rules.specs.Migrating.{migrated}
+use Rattle.vr_rules.specs.Opening.{first_listed, listed}
+use Rattle.vr_rules.proofs.Slots.{value_is}
 use Rattle.vr_world.specs.Group.{MayOpen, migration}
-use Rattle.vr_world.proofs.Slots.{value_is}
 use Rattle.law_1_machine.specs.Group.{Group, Member, becomes}
 use Rattle.law_1_machine.specs.Members.{Memory, Names, Superblock}
 use Rattle.law_1_machine.specs.Opening.{Opened, Reaches, Sound, opened}

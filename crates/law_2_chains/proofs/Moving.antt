@@ -2,9 +2,9 @@
 use Rattle.std.proofs.Common.{ℕ, ◌≡◌, ◌∙◌, sym, ap, subst, List, [], ◌∷◌, map, Some, None}
 use Rattle.vr_header.specs.declared.header.Header.{Header}
 use Rattle.vr_msg.specs.declared.output.Output.{Output}
-use Rattle.vr_world.specs.Replica.{Replica}
-use Rattle.vr_world.specs.Steps.{Say, Setting, says}
-use Rattle.vr_world.specs.Sound.{IsSound}
+use Rattle.vr_rules.specs.Replica.{Replica}
+use Rattle.vr_rules.specs.Steps.{Say, Setting, says}
+use Rattle.vr_rules.specs.Sound.{IsSound}
 use Rattle.law_1_machine.specs.Group.{Group, Member, becomes}
 use Rattle.law_1_machine.specs.Members.{Memory}
 use Rattle.law_1_machine.specs.Machine as move

@@ -11,20 +11,20 @@ use Rattle.vr_msg.specs.declared.frame.Frame.TheVariants as frame
 use Rattle.vr_msg.specs.declared.output.Output.{Output}
 use Rattle.vr_msg.specs.declared.request.RequestFields.{RequestFields}
 use Rattle.vr_msg.specs.Normal.{same_sum}
-use Rattle.vr_ckpt.specs.SessionAnswer.{SessionAnswer}
-use Rattle.vr_ckpt.specs.SessionAnswer.TheVariants as answer
-use Rattle.vr_world.specs.Sound.{IsNameBytes}
-use Rattle.vr_world.specs.Replica.{Replica, last_view, head, header_at, leads, part_at}
-use Rattle.vr_world.specs.Outputs.{prepare, send_to_all}
-use Rattle.vr_world.specs.Asker.{Asker}
-use Rattle.vr_world.specs.Steps.{Effect, Setting, Step, ◌⨾◌, quiet, change, does, says, by, naming, after_all}
-use Rattle.vr_world.specs.Words.{is_loaded, writes, write, stored, advance}
-use Rattle.vr_world.specs.Deciding.{request_table, session_answer}
-use Rattle.vr_world.specs.Rules.{asker_by, next_entry, make, stored_reply, obey_request, on_request}
-use Rattle.vr_world.specs.Laws.{IsMessage}
-use Rattle.vr_world.proofs.Reacting.{may_store_next}
-use Rattle.vr_world.proofs.Ruling.{by_rows, for_of}
-use Rattle.vr_world.proofs.Storing.{MayStore}
+use Rattle.vr_state.specs.declared.session.SessionAnswer.{SessionAnswer}
+use Rattle.vr_state.specs.declared.session.SessionAnswer.TheVariants as answer
+use Rattle.vr_rules.specs.Sound.{IsNameBytes}
+use Rattle.vr_rules.specs.Replica.{Replica, last_view, head, header_at, leads, part_at}
+use Rattle.vr_rules.specs.Outputs.{prepare, send_to_all}
+use Rattle.vr_rules.specs.declared.asker.Asker.{Asker}
+use Rattle.vr_rules.specs.Steps.{Effect, Setting, Step, ◌⨾◌, quiet, change, does, says, by, naming, after_all}
+use Rattle.vr_rules.specs.Words.{is_loaded, writes, write, stored, advance}
+use Rattle.vr_rules.specs.Deciding.{request_table, session_answer}
+use Rattle.vr_rules.specs.Rules.{asker_by, next_entry, make, stored_reply, obey_request, on_request}
+use Rattle.vr_rules.specs.Laws.{IsMessage}
+use Rattle.vr_rules.proofs.Reacting.{may_store_next}
+use Rattle.vr_rules.proofs.Ruling.{by_rows, for_of}
+use Rattle.vr_rules.proofs.Storing.{MayStore}
 use Rattle.law_1_machine.specs.Basics.{In}
 use Rattle.law_1_machine.specs.Group.{Group, made_at}
 use Rattle.law_1_machine.specs.Machine as move

@@ -3,14 +3,14 @@ use Rattle.std.proofs.Common.{ℕ, ◌+◌, ◌≡◌, ◌∙◌, arith, refl, s
 use Rattle.std.specs.Prelude.{Contains}
 use Rattle.vr_header.specs.declared.header.Header.{Header}
 use Rattle.vr_super.specs.Copies.{SuperValue}
-use Rattle.vr_world.specs.Replica.{Replica, head, part_at, parts_from}
-use Rattle.vr_world.specs.Steps.{Effect, Mend, Setting, Step, ◌⨾◌, does, after_all}
-use Rattle.vr_world.specs.Opening.{blank, mending, recover_parts, resuming}
+use Rattle.vr_rules.specs.Replica.{Replica, head, part_at, parts_from}
+use Rattle.vr_rules.specs.Steps.{Effect, Mend, Setting, Step, ◌⨾◌, does, after_all}
+use Rattle.vr_rules.specs.Opening.{blank, mending, recover_parts, resuming}
+use Rattle.vr_rules.proofs.Keeping.{sound_missing}
+use Rattle.vr_rules.proofs.Openings.{recovered as found_sound, reads_after}
+use Rattle.vr_rules.proofs.Slots.{value_is}
 use Rattle.vr_world.specs.Group as group
 use Rattle.vr_world.specs.Group.{keeps_all}
-use Rattle.vr_world.proofs.Keeping.{sound_missing}
-use Rattle.vr_world.proofs.Openings.{recovered as found_sound, reads_after}
-use Rattle.vr_world.proofs.Slots.{value_is}
 use Rattle.law_1_machine.specs.Group.{Group}
 use Rattle.law_1_machine.specs.Members.{Memory}
 use Rattle.law_2_chains.specs.Local.{Local, carried}

@@ -8,12 +8,12 @@ use Rattle.std.proofs.lemmas.List.Elements.{All-nil, All-cons, All-append}
 use Rattle.vr_base.specs.Replicas.{size}
 use Rattle.vr_msg.specs.declared.output.Chosen.{Chosen}
 use Rattle.vr_msg.specs.Choice.{top_commit, top_view}
-use Rattle.vr_world.specs.Replica.{Replica, is_primary, is_started, view_change, statement_of, run, head, parts_from, trimmed, version}
-use Rattle.vr_world.specs.Steps.{Setting, Word, ◌⨾◌, quiet, says, by, naming, outputs, after_all}
-use Rattle.vr_world.specs.Words as words
-use Rattle.vr_world.specs.Words.{decided, log_end, stated}
-use Rattle.vr_world.specs.Sound.{IsSound}
-use Rattle.vr_world.specs.Laws.{IsEvent}
+use Rattle.vr_rules.specs.Replica.{Replica, is_primary, is_started, view_change, statement_of, run, head, parts_from, trimmed, version}
+use Rattle.vr_rules.specs.Steps.{Setting, Word, ◌⨾◌, quiet, says, by, naming, outputs, after_all}
+use Rattle.vr_rules.specs.Words as words
+use Rattle.vr_rules.specs.Words.{decided, log_end, stated}
+use Rattle.vr_rules.specs.Sound.{IsSound}
+use Rattle.vr_rules.specs.Laws.{IsEvent}
 use Rattle.vr_msg.specs.Logs.{IsStatement}
 use Rattle.vr_world.specs.Safe.{all_heard, brought, heard_from, or_else}
 use Rattle.vr_header.specs.declared.header.Header.{Header}
@@ -27,11 +27,11 @@ use Rattle.vr_msg.specs.declared.frame.StartViewChange.{StartViewChange}
 use Rattle.vr_msg.specs.declared.output.Output.TheVariants as output
 use Rattle.vr_msg.specs.declared.output.Output.{Output}
 use Rattle.vr_msg.specs.declared.statement.Statement.{Statement}
-use Rattle.vr_world.proofs.Ruling.{IsFor}
-use Rattle.vr_world.proofs.SilentWaits.{IsPlain, Mute, plain_are, mute_all, mute_by, mute_each, mute_one, mute_prepare_again, mute_quiet, mute_take, mute_then}
-use Rattle.vr_world.proofs.SendsScripts.{outputs_append, outputs_said}
-use Rattle.vr_world.specs.Outputs as told
-use Rattle.vr_world.specs.Rules as rules
+use Rattle.vr_rules.proofs.Ruling.{IsFor}
+use Rattle.vr_rules.proofs.SilentWaits.{IsPlain, Mute, plain_are, mute_all, mute_by, mute_each, mute_one, mute_prepare_again, mute_quiet, mute_take, mute_then}
+use Rattle.vr_rules.proofs.SendsScripts.{outputs_append, outputs_said}
+use Rattle.vr_rules.specs.Outputs as told
+use Rattle.vr_rules.specs.Rules as rules
 use Rattle.law_2_chains.proofs.LastWord.{mute_last}
 
 abbrev pub line_of : Replica → List Header → Chosen

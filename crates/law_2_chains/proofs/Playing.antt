@@ -2,7 +2,7 @@
 use Rattle.std.proofs.Common.{ℕ, zero, suc, ◌+◌, ◌<◌, ◌≡◌, ◌∙◌, arith, refl, sym, ap, List, [], ◌∷◌, ◌++◌, length, take}
 use Rattle.std.proofs.lemmas.List.{append_assoc, append-nil}
 use Rattle.vr_header.specs.declared.header.Header.{Header}
-use Rattle.vr_world.specs.Steps.{Effect, outputs, output_of}
+use Rattle.vr_rules.specs.Steps.{Effect, outputs, output_of}
 use Rattle.vr_world.specs.Group.{carried_out, made_in, made_by_effect}
 use Rattle.law_2_chains.specs.Local.{Local, begun, through, WhereverCut}
 use Rattle.law_2_chains.specs.ChainLaws.{Leaves, CutAt}

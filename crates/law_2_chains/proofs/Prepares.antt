@@ -9,17 +9,17 @@ use Rattle.vr_header.specs.declared.part.Part.TheVariants.{Here, Lost, Wanted, U
 use Rattle.vr_header.specs.Made.{Whole}
 use Rattle.vr_header.specs.Same.{same_header}
 use Rattle.vr_header.proofs.SameHeaders.{same_header_is}
+use Rattle.vr_header.specs.Parts.{header_of}
 use Rattle.vr_msg.specs.declared.frame.Frame.TheVariants as frame
 use Rattle.vr_msg.specs.declared.frame.Prepare.{Prepare}
-use Rattle.vr_msg.specs.Logs.{header_of}
-use Rattle.vr_world.specs.Replica.{Replica, header_at, is_here, part_at}
-use Rattle.vr_world.specs.Steps.{Setting, Word, ◌⨾◌, quiet, change, by, when}
-use Rattle.vr_world.specs.Words.{rested, write, stored, accept, learn}
-use Rattle.vr_world.specs.Deciding.{prepare_table, is_from_primary}
-use Rattle.vr_world.specs.Rules.{acknowledge, ask_view, obey_prepare, on_prepare}
-use Rattle.vr_world.specs.Laws.{IsMessage}
-use Rattle.vr_world.proofs.Ruling.{by_rows, group_of_primary, may_store_prepare}
-use Rattle.vr_world.proofs.Storing.{MayStore}
+use Rattle.vr_rules.specs.Replica.{Replica, header_at, is_here, part_at}
+use Rattle.vr_rules.specs.Steps.{Setting, Word, ◌⨾◌, quiet, change, by, when}
+use Rattle.vr_rules.specs.Words.{rested, write, stored, accept, learn}
+use Rattle.vr_rules.specs.Deciding.{prepare_table, is_from_primary}
+use Rattle.vr_rules.specs.Rules.{acknowledge, ask_view, obey_prepare, on_prepare}
+use Rattle.vr_rules.specs.Laws.{IsMessage}
+use Rattle.vr_rules.proofs.Ruling.{by_rows, group_of_primary, may_store_prepare}
+use Rattle.vr_rules.proofs.Storing.{MayStore}
 use Rattle.law_1_machine.specs.Group.{Group}
 use Rattle.law_1_machine.specs.Machine.{MayWrite, was_prepared}
 use Rattle.law_2_chains.specs.Local.{Local}

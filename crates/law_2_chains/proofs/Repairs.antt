@@ -6,24 +6,24 @@ use Rattle.vr_header.specs.declared.header.Header.{Header}
 use Rattle.vr_header.specs.declared.part.Part.TheVariants.{Here}
 use Rattle.vr_header.specs.Made.{Whole}
 use Rattle.vr_header.specs.Names.{name_by}
+use Rattle.vr_header.specs.Parts.{header_of}
 use Rattle.vr_msg.specs.declared.frame.Frame.TheVariants as frame
 use Rattle.vr_msg.specs.declared.frame.Commit.{Commit}
 use Rattle.vr_msg.specs.declared.frame.GetPrepare.{GetPrepare}
 use Rattle.vr_msg.specs.declared.frame.GetView.{GetView}
 use Rattle.vr_msg.specs.declared.frame.GivePrepare.{GivePrepare}
-use Rattle.vr_msg.specs.Logs.{header_of}
 use Rattle.vr_msg.specs.Normal.{primary}
-use Rattle.vr_world.specs.Replica.{Replica, header_at, head, is_started, is_primary, leads, part_at, run, run_start}
-use Rattle.vr_world.specs.Outputs.{others, send, send_to, send_to_all, to_primary, prepare, prepare_ok, start_view, give_prepare}
-use Rattle.vr_world.specs.Steps.{Setting, Word, ◌⨾◌, quiet, change, says, by, naming, when}
-use Rattle.vr_world.specs.Words.{log_header, rested, stored, learn, apply, resend}
-use Rattle.vr_world.specs.Deciding.{commit_table, get_view_table, get_prepare_table, give_prepare_table, is_known}
-use Rattle.vr_world.specs.Rules.{ask_view, obey_commit, on_commit, tell_view, obey_get_view, on_get_view, obey_get_prepare, on_get_prepare, obey_give_prepare, on_give_prepare}
-use Rattle.vr_world.proofs.Ruling.{by_rows, may_store_given}
-use Rattle.vr_world.proofs.Stating.{run_of}
-use Rattle.vr_world.proofs.Taking.{log_reaches}
-use Rattle.vr_world.proofs.Trying.{from_at}
-use Rattle.vr_world.specs.Sound.{IsSound}
+use Rattle.vr_rules.specs.Replica.{Replica, header_at, head, is_started, is_primary, leads, part_at, run, run_start}
+use Rattle.vr_rules.specs.Outputs.{others, send, send_to, send_to_all, to_primary, prepare, prepare_ok, start_view, give_prepare}
+use Rattle.vr_rules.specs.Steps.{Setting, Word, ◌⨾◌, quiet, change, says, by, naming, when}
+use Rattle.vr_rules.specs.Words.{log_header, rested, stored, learn, apply, resend}
+use Rattle.vr_rules.specs.Deciding.{commit_table, get_view_table, get_prepare_table, give_prepare_table, is_known}
+use Rattle.vr_rules.specs.Rules.{ask_view, obey_commit, on_commit, tell_view, obey_get_view, on_get_view, obey_get_prepare, on_get_prepare, obey_give_prepare, on_give_prepare}
+use Rattle.vr_rules.proofs.Ruling.{by_rows, may_store_given}
+use Rattle.vr_rules.proofs.Stating.{run_of}
+use Rattle.vr_rules.proofs.Taking.{log_reaches}
+use Rattle.vr_rules.proofs.Trying.{from_at}
+use Rattle.vr_rules.specs.Sound.{IsSound}
 use Rattle.law_1_machine.specs.Group.{Group}
 use Rattle.law_1_machine.specs.Members.{Memory}
 use Rattle.law_1_machine.specs.Parts.{header}

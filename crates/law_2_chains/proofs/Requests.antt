@@ -8,13 +8,13 @@ use Rattle.vr_header.specs.declared.part.Part.TheVariants.{Here}
 use Rattle.vr_header.specs.Made.{Whole}
 use Rattle.vr_msg.specs.declared.frame.Frame.TheVariants as frame
 use Rattle.vr_msg.specs.declared.request.RequestFields.{RequestFields}
-use Rattle.vr_world.specs.Sound.{IsNameBytes}
-use Rattle.vr_world.specs.Replica.{Replica, last_view, replication, head, header_at, part_at}
-use Rattle.vr_world.specs.Outputs.{prepare, send_to_all}
-use Rattle.vr_world.specs.Steps.{Setting}
-use Rattle.vr_world.specs.Words.{votes, has_quorum, stored, advance}
-use Rattle.vr_world.specs.Rules.{make, on_request}
-use Rattle.vr_world.specs.Laws.{IsMessage}
+use Rattle.vr_rules.specs.Sound.{IsNameBytes}
+use Rattle.vr_rules.specs.Replica.{Replica, last_view, replication, head, header_at, part_at}
+use Rattle.vr_rules.specs.Outputs.{prepare, send_to_all}
+use Rattle.vr_rules.specs.Steps.{Setting}
+use Rattle.vr_rules.specs.Words.{votes, has_quorum, stored, advance}
+use Rattle.vr_rules.specs.Rules.{make, on_request}
+use Rattle.vr_rules.specs.Laws.{IsMessage}
 use Rattle.law_1_machine.specs.Group.{Group, made_at}
 use Rattle.law_1_machine.specs.Machine as move
 use Rattle.law_2_chains.specs.Local.{Local}

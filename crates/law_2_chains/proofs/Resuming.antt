@@ -5,15 +5,15 @@ use Rattle.std.proofs.lemmas.Bool.{or_parts, true≢false}
 use Rattle.vr_header.specs.declared.header.Header.{Header}
 use Rattle.vr_header.specs.Names.{no_name}
 use Rattle.vr_msg.specs.declared.statement.Statement.{Statement}
-use Rattle.vr_world.specs.Replica.{Replica, head, is_spent, is_started, last_view, leads, part_at, run}
-use Rattle.vr_world.specs.Outputs.{send_to_all, start_line, start_view_change}
-use Rattle.vr_world.specs.Steps.{Effect, Say, Setting, Word, ◌⨾◌, quiet, change, does, says, by, when, after_all}
-use Rattle.vr_world.specs.Words.{apply, load, save, saves, value_of, with_missing, with_saved}
-use Rattle.vr_world.specs.Opening.{announce, going_on, heard_itself, in_next_view, leave_view, resuming}
-use Rattle.vr_world.specs.Sound.{IsSound}
-use Rattle.vr_world.proofs.Keeping.{sound_alike}
-use Rattle.vr_world.proofs.Openings.{kept_next}
-use Rattle.vr_world.proofs.Wording.{kept_load, none_stated}
+use Rattle.vr_rules.specs.Replica.{Replica, head, is_spent, is_started, last_view, leads, part_at, run}
+use Rattle.vr_rules.specs.Outputs.{send_to_all, start_line, start_view_change}
+use Rattle.vr_rules.specs.Steps.{Effect, Say, Setting, Word, ◌⨾◌, quiet, change, does, says, by, when, after_all}
+use Rattle.vr_rules.specs.Words.{apply, load, save, saves, value_of, with_missing, with_saved}
+use Rattle.vr_rules.specs.Opening.{announce, going_on, heard_itself, in_next_view, leave_view, resuming}
+use Rattle.vr_rules.specs.Sound.{IsSound}
+use Rattle.vr_rules.proofs.Keeping.{sound_alike}
+use Rattle.vr_rules.proofs.Openings.{kept_next}
+use Rattle.vr_rules.proofs.Wording.{kept_load, none_stated}
 use Rattle.law_1_machine.specs.Group.{Group}
 use Rattle.law_1_machine.specs.Members.{Memory}
 use Rattle.law_1_machine.specs.Parts.{header}

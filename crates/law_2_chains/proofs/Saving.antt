@@ -4,17 +4,18 @@ use Rattle.std.proofs.Common.{ℕ, ◌+◌, ◌-◌, ◌≤◌, ◌<◌, ◌≡�
 use Rattle.std.specs.Prelude.{slice_get}
 use Rattle.std.proofs.lemmas.Bool.{cases_lt, lt-ltb, le-ltb}
 use Rattle.vr_header.specs.declared.header.Header.{Header}
-use Rattle.vr_msg.specs.Logs.{header_of, FromOp}
-use Rattle.vr_world.specs.Replica.{Replica, part_at, head, run, run_start}
-use Rattle.vr_world.specs.Steps.{Effect, Setting, Word, ◌⨾◌, change, does, after_all}
-use Rattle.vr_world.specs.Words.{value_of, saves, with_saved, save}
-use Rattle.vr_world.specs.Opening.{listed, first_listed}
-use Rattle.vr_world.specs.Sound.{IsSound}
-use Rattle.vr_world.proofs.Keeping.{sound_alike}
-use Rattle.vr_world.proofs.Stating.{back, back_at, run_of}
-use Rattle.vr_world.proofs.SavesCore.{heads, in_order}
-use Rattle.vr_world.proofs.Taking.{log_reaches}
-use Rattle.vr_world.proofs.Trying.{from_at}
+use Rattle.vr_header.specs.Parts.{header_of}
+use Rattle.vr_msg.specs.Logs.{FromOp}
+use Rattle.vr_rules.specs.Replica.{Replica, part_at, head, run, run_start}
+use Rattle.vr_rules.specs.Steps.{Effect, Setting, Word, ◌⨾◌, change, does, after_all}
+use Rattle.vr_rules.specs.Words.{value_of, saves, with_saved, save}
+use Rattle.vr_rules.specs.Opening.{listed, first_listed}
+use Rattle.vr_rules.specs.Sound.{IsSound}
+use Rattle.vr_rules.proofs.Keeping.{sound_alike}
+use Rattle.vr_rules.proofs.Stating.{back, back_at, run_of}
+use Rattle.vr_rules.proofs.SavesCore.{heads, in_order}
+use Rattle.vr_rules.proofs.Taking.{log_reaches}
+use Rattle.vr_rules.proofs.Trying.{from_at}
 use Rattle.std.proofs.lemmas.List.{length-reverse}
 use Rattle.law_1_machine.specs.Group.{Group, Member, becomes}
 use Rattle.law_1_machine.specs.Members.{Memory, Names, superblock}

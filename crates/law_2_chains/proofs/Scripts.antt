@@ -2,8 +2,8 @@
 use Rattle.std.proofs.Common.{ℕ, zero, suc, ◌≡◌, refl, sym, ap, subst, Bool, true, false, cond, List, [], ◌∷◌, ◌++◌}
 use Rattle.std.proofs.lemmas.List.{append_assoc}
 use Rattle.vr_header.specs.declared.header.Header.{Header}
-use Rattle.vr_world.specs.Replica.{Replica}
-use Rattle.vr_world.specs.Steps.{Effect, Setting, Word, ◌⨾◌, quiet, change, by, naming, reading, when, times, after_all}
+use Rattle.vr_rules.specs.Replica.{Replica}
+use Rattle.vr_rules.specs.Steps.{Effect, Setting, Word, ◌⨾◌, quiet, change, by, naming, reading, when, times, after_all}
 use Rattle.law_1_machine.specs.Group.{Group}
 use Rattle.law_2_chains.specs.Local.{Local, through, carried, WhereverCut}
 use Rattle.law_2_chains.specs.Chains.{Setup, Every, Mid, Stopped, Goes}

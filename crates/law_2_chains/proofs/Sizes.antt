@@ -3,7 +3,7 @@ use Rattle.std.proofs.Common.{ℕ, zero, suc, ◌+◌, ◌≤◌, ◌<◌, ◌�
 use Rattle.std.specs.Option.{option_map_or}
 use Rattle.std.proofs.lemmas.Bool.{cases_eq, cases_lt, ne_eqb}
 use Rattle.vr_base.specs.Groups.{quorums_of}
-use Rattle.vr_world.specs.Replica.{replication}
+use Rattle.vr_rules.specs.Replica.{replication}
 use Rattle.law_2_chains.specs.Chains.{Setup}
 use Rattle.law_2_chains.specs.Tables.{Fits}
 

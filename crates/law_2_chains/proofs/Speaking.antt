@@ -10,14 +10,14 @@ use Rattle.vr_msg.specs.declared.frame.Frame.TheVariants as frame
 use Rattle.vr_msg.specs.declared.output.Output.{Output}
 use Rattle.vr_msg.specs.declared.output.Output.TheVariants as output
 use Rattle.vr_msg.specs.Normal.{primary}
-use Rattle.vr_world.specs.Replica.{Replica, view_change, head, is_alone, is_primary, part_at, statement_of}
-use Rattle.vr_world.specs.Outputs.{send_to, to_primary, do_view_change, get_block, get_prepare}
-use Rattle.vr_world.specs.Steps.{Say, Setting, Step, Word, ◌⨾◌, quiet, change, says, by, naming, when, after_all}
-use Rattle.vr_world.specs.Words.{try, speak, peer, turned, ask_peer, least_absent, ask_for, ask, visit}
-use Rattle.vr_world.specs.Rules.{heard_of, idler}
-use Rattle.vr_world.proofs.Keeping.{sound_alike}
-use Rattle.vr_world.proofs.SilentSteps.{still_ask}
-use Rattle.vr_world.proofs.SilentWaits.{Mute, mute_quiet, mute_then, mute_visit}
+use Rattle.vr_rules.specs.Replica.{Replica, view_change, head, is_alone, is_primary, part_at, statement_of}
+use Rattle.vr_rules.specs.Outputs.{send_to, to_primary, do_view_change, get_block, get_prepare}
+use Rattle.vr_rules.specs.Steps.{Say, Setting, Step, Word, ◌⨾◌, quiet, change, says, by, naming, when, after_all}
+use Rattle.vr_rules.specs.Words.{try, speak, peer, turned, ask_peer, least_absent, ask_for, ask, visit}
+use Rattle.vr_rules.specs.Rules.{heard_of, idler}
+use Rattle.vr_rules.proofs.Keeping.{sound_alike}
+use Rattle.vr_rules.proofs.SilentSteps.{still_ask}
+use Rattle.vr_rules.proofs.SilentWaits.{Mute, mute_quiet, mute_then, mute_visit}
 use Rattle.law_1_machine.specs.Basics.{In}
 use Rattle.law_1_machine.specs.Group.{Group, sends}
 use Rattle.law_1_machine.specs.Members as machine

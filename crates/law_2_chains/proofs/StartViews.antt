@@ -5,20 +5,20 @@ use Rattle.std.proofs.lemmas.Bool.{and_parts}
 use Rattle.vr_header.specs.declared.header.Header.{Header}
 use Rattle.vr_header.specs.declared.part.Part.{Part}
 use Rattle.vr_header.specs.declared.part.Part.TheVariants.{Here}
+use Rattle.vr_header.specs.Parts.{header_of}
 use Rattle.vr_msg.specs.declared.frame.Frame.TheVariants as frame
 use Rattle.vr_msg.specs.declared.frame.StartView.{StartView}
 use Rattle.vr_msg.specs.Choice.{ops}
-use Rattle.vr_msg.specs.Logs.{header_of}
-use Rattle.vr_world.specs.Replica.{Replica, head, is_here, part_at}
-use Rattle.vr_world.specs.Outputs.{send_to, get_sync}
-use Rattle.vr_world.specs.Steps.{Setting, Word, ◌⨾◌, quiet, change, by, when, each, after_all}
-use Rattle.vr_world.specs.Words.{Log, taken, take, with_saved, apply, may_take, log_header}
-use Rattle.vr_world.specs.Deciding.{log_of, start_view_table}
-use Rattle.vr_world.specs.Rules.{acknowledge, acknowledge_stored, obey_start_view, on_start_view}
-use Rattle.vr_world.specs.Laws.{IsMessage}
-use Rattle.vr_world.proofs.Ruling.{by_rows, group_of_primary, told_log}
-use Rattle.vr_world.specs.Given.{IsLogFor}
-use Rattle.vr_world.proofs.Taking.{MayTake, may_take_is, over, kept_taken}
+use Rattle.vr_rules.specs.Replica.{Replica, head, is_here, part_at}
+use Rattle.vr_rules.specs.Outputs.{send_to, get_sync}
+use Rattle.vr_rules.specs.Steps.{Setting, Word, ◌⨾◌, quiet, change, by, when, each, after_all}
+use Rattle.vr_rules.specs.Words.{Log, taken, take, with_saved, apply, may_take, log_header}
+use Rattle.vr_rules.specs.Deciding.{log_of, start_view_table}
+use Rattle.vr_rules.specs.Rules.{acknowledge, acknowledge_stored, obey_start_view, on_start_view}
+use Rattle.vr_rules.specs.Laws.{IsMessage}
+use Rattle.vr_rules.proofs.Ruling.{by_rows, group_of_primary, told_log}
+use Rattle.vr_rules.specs.Given.{IsLogFor}
+use Rattle.vr_rules.proofs.Taking.{MayTake, may_take_is, over, kept_taken}
 use Rattle.law_1_machine.specs.Basics.{In}
 use Rattle.law_1_machine.specs.Group.{Group}
 use Rattle.law_1_machine.specs.Members.{Memory, Start_view}

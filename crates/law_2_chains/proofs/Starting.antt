@@ -6,13 +6,13 @@ use Rattle.std.proofs.lemmas.List.{length-set, length-drop, get_or-drop, get_or-
 use Rattle.vr_header.specs.declared.header.Header.{Header}
 use Rattle.vr_header.specs.declared.part.Part.{Part}
 use Rattle.vr_header.specs.declared.part.Part.TheVariants.{Here, Lost, Wanted, Unknown, Nothing}
-use Rattle.vr_msg.specs.Logs.{header_of}
+use Rattle.vr_header.specs.Parts.{header_of}
 use Rattle.vr_super.specs.Copies.{SuperValue}
-use Rattle.vr_world.specs.Replica.{Replica, part_at, parts_from, head}
-use Rattle.vr_world.specs.Opening.{listed}
+use Rattle.vr_rules.specs.Replica.{Replica, part_at, parts_from, head}
+use Rattle.vr_rules.specs.Opening.{listed}
+use Rattle.vr_rules.proofs.Heads.{Spans, part_past, part_within, known_within, knows_some, some_known, head_within, head_knows, head_stops}
 use Rattle.vr_world.specs.Group as group
 use Rattle.vr_world.specs.Group.{AreSound, IsFoundAbove, IsUndenied, keeps_all, keeps_found, kept_at}
-use Rattle.vr_world.proofs.Heads.{Spans, part_past, part_within, known_within, knows_some, some_known, head_within, head_knows, head_stops}
 use Rattle.law_1_machine.specs.Basics.{In, update}
 use Rattle.law_1_machine.specs.Group.{Group, Member, made_at, becomes}
 use Rattle.law_1_machine.specs.Members.{Memory, Superblock}

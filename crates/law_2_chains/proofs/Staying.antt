@@ -6,18 +6,18 @@ use Rattle.vr_header.specs.Made.{Whole}
 use Rattle.vr_header.specs.Same.{same_header}
 use Rattle.vr_msg.specs.declared.frame.Frame.{Frame}
 use Rattle.vr_msg.specs.declared.output.Output.{Output}
-use Rattle.vr_ckpt.specs.State.{State}
+use Rattle.vr_state.specs.declared.state.State.{State}
 use Rattle.vr_ckpt.specs.declared.name.Name.{Name}
 use Rattle.vr_ckpt.specs.declared.table.PayloadTable.{PayloadTable}
-use Rattle.vr_world.specs.Replica.{Replica, head, is_alone, part_at}
-use Rattle.vr_world.specs.Outputs.{send_to_all, prepare, get_block, get_prepare}
-use Rattle.vr_world.specs.Steps.{Effect, Rewrite, Mend, PutBlock, Setting, Word, ◌⨾◌, quiet, change, does, says, by, naming, reading, when, each, after_all}
-use Rattle.vr_world.specs.Words.{with_entry_at, apply, learn, advance, rested, prepare_again, resend, turned, ask_peer, ask_for, ask, least_absent, is_loaded, loads, checkpoint_at, load, blocks_of, op_of_slot, mend_header, header_read, visit_slot, with_worn, visit_read, visit_block, visit_place, place_now, with_cursor, visit}
-use Rattle.vr_world.specs.Rules.{idler, without, put_block, mend_found, not_worn}
-use Rattle.vr_world.specs.Sound.{IsSound}
-use Rattle.vr_world.proofs.Combining.{Keeps, keeps_does}
-use Rattle.vr_world.proofs.Visiting.{keeps_visit, keeps_not_worn}
-use Rattle.vr_world.proofs.Wording.{kept_rested, keeps_apply, keeps_learn, keeps_advance, keeps_prepare_again, keeps_ask}
+use Rattle.vr_rules.specs.Replica.{Replica, head, is_alone, part_at}
+use Rattle.vr_rules.specs.Outputs.{send_to_all, prepare, get_block, get_prepare}
+use Rattle.vr_rules.specs.Steps.{Effect, Rewrite, Mend, PutBlock, Setting, Word, ◌⨾◌, quiet, change, does, says, by, naming, reading, when, each, after_all}
+use Rattle.vr_rules.specs.Words.{with_entry_at, apply, learn, advance, rested, prepare_again, resend, turned, ask_peer, ask_for, ask, least_absent, is_loaded, loads, checkpoint_at, load, blocks_of, op_of_slot, mend_header, header_read, visit_slot, with_worn, visit_read, visit_block, visit_place, place_now, with_cursor, visit}
+use Rattle.vr_rules.specs.Rules.{idler, without, put_block, mend_found, not_worn}
+use Rattle.vr_rules.specs.Sound.{IsSound}
+use Rattle.vr_rules.proofs.Combining.{Keeps, keeps_does}
+use Rattle.vr_rules.proofs.Visiting.{keeps_visit, keeps_not_worn}
+use Rattle.vr_rules.proofs.Wording.{kept_rested, keeps_apply, keeps_learn, keeps_advance, keeps_prepare_again, keeps_ask}
 use Rattle.law_2_chains.proofs.Blocks.{Other, other_loads, with_other}
 use Rattle.law_2_chains.proofs.LastWord.{last_word}
 use Rattle.law_2_chains.proofs.Holding.{Holds, HoldsBy, holds_same, holds_more, holds_rested, holds_part, holds_if, holds_apply, holds_learn, holds_advance}

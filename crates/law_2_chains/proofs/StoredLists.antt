@@ -9,17 +9,17 @@ use Rattle.vr_header.specs.declared.part.Part.{Part}
 use Rattle.vr_header.specs.declared.part.Part.TheVariants.{Here, Lost, Wanted, Unknown, Nothing}
 use Rattle.vr_header.specs.Same.{same_header}
 use Rattle.vr_header.proofs.SameHeaders.{same_header_is, same_header_of}
+use Rattle.vr_header.specs.Parts.{header_of}
 use Rattle.vr_msg.specs.declared.output.Output.{Output}
-use Rattle.vr_msg.specs.Logs.{header_of}
 use Rattle.vr_super.specs.Copies.{SuperValue}
+use Rattle.vr_rules.specs.Opening.{listed}
+use Rattle.vr_rules.specs.Replica.{Replica, part_at, parts_from}
+use Rattle.vr_rules.specs.Sound.{IsSound}
+use Rattle.vr_rules.specs.Steps.{Effect, Checkpoint, Mend, PutBlock, Rewrite, Save, Say, Write}
+use Rattle.vr_rules.proofs.Heads.{part_within}
 use Rattle.vr_world.specs.Commitment.{Stored}
 use Rattle.vr_world.specs.Group.{Group, Member}
-use Rattle.vr_world.specs.Opening.{listed}
-use Rattle.vr_world.specs.Replica.{Replica, part_at, parts_from}
-use Rattle.vr_world.specs.Sound.{IsSound}
-use Rattle.vr_world.specs.Steps.{Effect, Checkpoint, Mend, PutBlock, Rewrite, Save, Say, Write}
 use Rattle.vr_world.specs.Storing.{here_header, here_in, in_view, names, stored_at, stored_by, stored_from}
-use Rattle.vr_world.proofs.Heads.{part_within}
 use Rattle.law_1_machine.specs.Basics.{In}
 use Rattle.law_2_chains.specs.Chains.{Every}
 use Rattle.law_2_chains.specs.Lone.{CountsNoMore, counted_by}

@@ -7,16 +7,16 @@ use Rattle.vr_msg.specs.declared.frame.GetSync.{GetSync}
 use Rattle.vr_msg.specs.declared.frame.SyncView.{SyncView}
 use Rattle.vr_msg.specs.declared.output.Output.{Output}
 use Rattle.vr_msg.specs.declared.output.Output.TheVariants as output
-use Rattle.vr_world.specs.Replica.{Replica, head, leads, run, run_start}
-use Rattle.vr_world.specs.Outputs.{send_to, sync_view}
-use Rattle.vr_world.specs.Steps.{Say, Setting, Word, ◌⨾◌, change, says, by, after_all}
-use Rattle.vr_world.specs.Words.{jump, jumped, log_header, sync_log, with_saved}
-use Rattle.vr_world.specs.Deciding.{get_sync_table, may_jump, sync_view_table}
-use Rattle.vr_world.specs.Rules.{obey_get_sync, on_get_sync, obey_sync_view, on_sync_view}
-use Rattle.vr_world.specs.Laws.{IsMessage}
-use Rattle.vr_world.proofs.Ruling.{by_rows, group_of_primary, told_sync}
-use Rattle.vr_world.specs.Given.{IsSyncFor}
-use Rattle.vr_world.proofs.Jumping.{MayJump, may_jump_is, landed, kept_jumped}
+use Rattle.vr_rules.specs.Replica.{Replica, head, leads, run, run_start}
+use Rattle.vr_rules.specs.Outputs.{send_to, sync_view}
+use Rattle.vr_rules.specs.Steps.{Say, Setting, Word, ◌⨾◌, change, says, by, after_all}
+use Rattle.vr_rules.specs.Words.{jump, jumped, log_header, sync_log, with_saved}
+use Rattle.vr_rules.specs.Deciding.{get_sync_table, may_jump, sync_view_table}
+use Rattle.vr_rules.specs.Rules.{obey_get_sync, on_get_sync, obey_sync_view, on_sync_view}
+use Rattle.vr_rules.specs.Laws.{IsMessage}
+use Rattle.vr_rules.proofs.Ruling.{by_rows, group_of_primary, told_sync}
+use Rattle.vr_rules.specs.Given.{IsSyncFor}
+use Rattle.vr_rules.proofs.Jumping.{MayJump, may_jump_is, landed, kept_jumped}
 use Rattle.law_1_machine.specs.Basics.{In}
 use Rattle.law_1_machine.specs.Group.{Group, sends}
 use Rattle.law_1_machine.specs.Members.{Memory, Message, Start_view, Checkpoint}

@@ -22,23 +22,23 @@ use Rattle.vr_msg.specs.declared.frame.StartViewChange.{StartViewChange}
 use Rattle.vr_msg.specs.declared.statement.Statement.{Statement}
 use Rattle.vr_msg.specs.Choice.{ops}
 use Rattle.vr_ckpt.specs.declared.name.Name.{Name}
-use Rattle.vr_world.specs.Replica.{Replica, last_view, head, header_at, is_here, is_started, leads, part_at, forgetting, with_part, version}
-use Rattle.vr_world.specs.Outputs.{send_to, send_to_all, commit_message, start_view_change, give_prepare, give_block, get_sync, sync_view}
-use Rattle.vr_world.specs.Steps.{Setting, Step, Word, ◌⨾◌, quiet, change, does, says, by, naming, reading, when, each, after_all}
-use Rattle.vr_world.specs.Words.{with_saved, entered, enter, rested, stored, write, accept, apply, learn, advance, taken, may_take, prepare_again, try, speak, resend, ask, visit, jumped, is_loaded, load, value_of}
-use Rattle.vr_world.specs.Deciding.{Hash, is_from, is_from_primary, is_known, prepare_table, prepare_ok_table, commit_table, start_view_change_table, do_view_change_table, log_of, start_view_table, get_view_table, get_prepare_table, give_prepare_table, get_block_table, is_wanted, give_block_table, tick_table, get_sync_table, sync_view_table, may_jump, is_for}
-use Rattle.vr_world.specs.Rules.{acknowledge, ask_view, obey_prepare, on_prepare, acknowledged, obey_prepare_ok, on_prepare_ok, obey_commit, on_commit, heard_of, tell_view, obey_start_view_change, on_start_view_change, with_statement, obey_do_view_change, on_do_view_change, acknowledge_stored, obey_start_view, on_start_view, obey_get_view, on_get_view, obey_get_prepare, on_get_prepare, obey_give_prepare, on_give_prepare, asked_block, block_at, give_read, obey_get_block, on_get_block, without, put_block, put_found, test_of, obey_give_block, on_give_block, mend_found, obey_get_sync, on_get_sync, obey_sync_view, on_sync_view, idler, next_view, primary_ticks, obey_tick, on_tick}
-use Rattle.vr_world.specs.Laws.{IsMessage}
-use Rattle.vr_world.specs.Sound.{IsSound, IsStated}
-use Rattle.vr_world.proofs.Keeping.{sound_alike}
-use Rattle.vr_world.proofs.Reacting.{kept_without}
-use Rattle.vr_world.proofs.Combining.{kept_by, kept_change_then, kept_does_then, kept_when}
-use Rattle.vr_world.proofs.Ruling.{by_rows, group_of, group_of_primary, kept_statement, keeps_acknowledged, may_store_given, may_store_prepare, told_log, told_sync}
-use Rattle.vr_world.proofs.Jumping.{may_jump_is, kept_jumped}
-use Rattle.vr_world.proofs.Storing.{MayStore, kept_stored}
-use Rattle.vr_world.proofs.Taking.{may_take_is, kept_taken}
-use Rattle.vr_world.proofs.Trying.{keeps_speak}
-use Rattle.vr_world.proofs.Wording.{kept_accept, kept_load, kept_rested, none_stated}
+use Rattle.vr_rules.specs.Replica.{Replica, last_view, head, header_at, is_here, is_started, leads, part_at, forgetting, with_part, version}
+use Rattle.vr_rules.specs.Outputs.{send_to, send_to_all, commit_message, start_view_change, give_prepare, give_block, get_sync, sync_view}
+use Rattle.vr_rules.specs.Steps.{Setting, Step, Word, ◌⨾◌, quiet, change, does, says, by, naming, reading, when, each, after_all}
+use Rattle.vr_rules.specs.Words.{with_saved, entered, enter, rested, stored, write, accept, apply, learn, advance, taken, may_take, prepare_again, try, speak, resend, ask, visit, jumped, is_loaded, load, value_of}
+use Rattle.vr_rules.specs.Deciding.{Hash, is_from, is_from_primary, is_known, prepare_table, prepare_ok_table, commit_table, start_view_change_table, do_view_change_table, log_of, start_view_table, get_view_table, get_prepare_table, give_prepare_table, get_block_table, is_wanted, give_block_table, tick_table, get_sync_table, sync_view_table, may_jump, is_for}
+use Rattle.vr_rules.specs.Rules.{acknowledge, ask_view, obey_prepare, on_prepare, acknowledged, obey_prepare_ok, on_prepare_ok, obey_commit, on_commit, heard_of, tell_view, obey_start_view_change, on_start_view_change, with_statement, obey_do_view_change, on_do_view_change, acknowledge_stored, obey_start_view, on_start_view, obey_get_view, on_get_view, obey_get_prepare, on_get_prepare, obey_give_prepare, on_give_prepare, asked_block, block_at, give_read, obey_get_block, on_get_block, without, put_block, put_found, test_of, obey_give_block, on_give_block, mend_found, obey_get_sync, on_get_sync, obey_sync_view, on_sync_view, idler, next_view, primary_ticks, obey_tick, on_tick}
+use Rattle.vr_rules.specs.Laws.{IsMessage}
+use Rattle.vr_rules.specs.Sound.{IsSound, IsStated}
+use Rattle.vr_rules.proofs.Keeping.{sound_alike}
+use Rattle.vr_rules.proofs.Reacting.{kept_without}
+use Rattle.vr_rules.proofs.Combining.{kept_by, kept_change_then, kept_does_then, kept_when}
+use Rattle.vr_rules.proofs.Ruling.{by_rows, group_of, group_of_primary, kept_statement, keeps_acknowledged, may_store_given, may_store_prepare, told_log, told_sync}
+use Rattle.vr_rules.proofs.Jumping.{may_jump_is, kept_jumped}
+use Rattle.vr_rules.proofs.Storing.{MayStore, kept_stored}
+use Rattle.vr_rules.proofs.Taking.{may_take_is, kept_taken}
+use Rattle.vr_rules.proofs.Trying.{keeps_speak}
+use Rattle.vr_rules.proofs.Wording.{kept_accept, kept_load, kept_rested, none_stated}
 use Rattle.law_1_machine.specs.Basics.{In}
 use Rattle.law_1_machine.specs.Group.{Group}
 use Rattle.law_1_machine.specs.Members as machine

@@ -16,17 +16,17 @@ use Rattle.vr_msg.specs.declared.frame.SyncView.{SyncView}
 use Rattle.vr_msg.specs.declared.output.Output.{Output}
 use Rattle.vr_msg.specs.declared.statement.Statement.{Statement}
 use Rattle.vr_msg.specs.Choice.{choice, ops}
-use Rattle.vr_world.specs.Replica.{Replica, ackers_at, view_change, head, is_primary, is_started, last_view, leads, part_at, forgetting, with_part}
-use Rattle.vr_world.specs.Outputs.{do_view_change, prepare, send_to_all, start_view, to_primary, wait_line}
-use Rattle.vr_world.specs.Steps.{Effect, Say, Setting, Step, Word, ◌⨾◌, quiet, change, does, says, by, naming, each, after_all, outputs}
-use Rattle.vr_world.specs.Words.{Log, save, with_saved, entered, enter, rested, stored, write, taken, take, may_take, stated, chosen_log, choose_line, begin_view, try_log, obey_choice, decided, try, speak, resend, prepare_again, apply, advance, no_ackers, jump, jumped}
-use Rattle.vr_world.specs.Rules.{make}
-use Rattle.vr_world.specs.Sound.{IsSound}
-use Rattle.vr_world.proofs.Storing.{MayStore, kept_stored}
-use Rattle.vr_world.specs.Given.{IsLogFor}
-use Rattle.vr_world.proofs.Taking.{MayTake, may_take_is, over, kept_taken}
-use Rattle.vr_world.proofs.Trying.{all_stated, chosen_log_is, decided_ends}
-use Rattle.vr_world.proofs.Wording.{none_stated, kept_entered}
+use Rattle.vr_rules.specs.Replica.{Replica, ackers_at, view_change, head, is_primary, is_started, last_view, leads, part_at, forgetting, with_part}
+use Rattle.vr_rules.specs.Outputs.{do_view_change, prepare, send_to_all, start_view, to_primary, wait_line}
+use Rattle.vr_rules.specs.Steps.{Effect, Say, Setting, Step, Word, ◌⨾◌, quiet, change, does, says, by, naming, each, after_all, outputs}
+use Rattle.vr_rules.specs.Words.{Log, save, with_saved, entered, enter, rested, stored, write, taken, take, may_take, stated, chosen_log, choose_line, begin_view, try_log, obey_choice, decided, try, speak, resend, prepare_again, apply, advance, no_ackers, jump, jumped}
+use Rattle.vr_rules.specs.Rules.{make}
+use Rattle.vr_rules.specs.Sound.{IsSound}
+use Rattle.vr_rules.proofs.Storing.{MayStore, kept_stored}
+use Rattle.vr_rules.specs.Given.{IsLogFor}
+use Rattle.vr_rules.proofs.Taking.{MayTake, may_take_is, over, kept_taken}
+use Rattle.vr_rules.proofs.Trying.{all_stated, chosen_log_is, decided_ends}
+use Rattle.vr_rules.proofs.Wording.{none_stated, kept_entered}
 use Rattle.law_1_machine.specs.Basics.{In}
 use Rattle.law_1_machine.specs.Group.{Group, Made, made_at}
 use Rattle.law_1_machine.specs.Members.{Message, Do_view_change}

@@ -12,13 +12,13 @@ use Rattle.vr_msg.specs.declared.frame.Prepare.{Prepare}
 use Rattle.vr_msg.specs.declared.output.Output.{Output}
 use Rattle.vr_msg.specs.declared.output.Output.TheVariants as output
 use Rattle.vr_msg.specs.declared.output.Sent.{Sent}
-use Rattle.vr_world.specs.Replica.{Replica, leads, part_at, with_part, version}
-use Rattle.vr_world.specs.Outputs.{others, send, send_to_all, prepare}
-use Rattle.vr_world.specs.Steps.{Effect, Say, Setting, Step, Word, ◌⨾◌, quiet, change, says, by, reading, each, after_all, outputs}
-use Rattle.vr_world.specs.Words.{entry_of, or_lost, lost, with_entry, with_entry_at, prepare_again}
-use Rattle.vr_world.specs.Sound.{IsSound}
-use Rattle.vr_world.proofs.SendsScripts.{outputs_append, outputs_said}
-use Rattle.vr_world.proofs.Wording.{read_is}
+use Rattle.vr_rules.specs.Replica.{Replica, leads, part_at, with_part, version}
+use Rattle.vr_rules.specs.Outputs.{others, send, send_to_all, prepare}
+use Rattle.vr_rules.specs.Steps.{Effect, Say, Setting, Step, Word, ◌⨾◌, quiet, change, says, by, reading, each, after_all, outputs}
+use Rattle.vr_rules.specs.Words.{entry_of, or_lost, lost, with_entry, with_entry_at, prepare_again}
+use Rattle.vr_rules.specs.Sound.{IsSound}
+use Rattle.vr_rules.proofs.SendsScripts.{outputs_append, outputs_said}
+use Rattle.vr_rules.proofs.Wording.{read_is}
 use Rattle.law_1_machine.specs.Basics.{In}
 use Rattle.law_1_machine.specs.Group.{Group}
 use Rattle.law_1_machine.specs.Members as machine

@@ -8,15 +8,15 @@ use Rattle.vr_header.specs.declared.part.Part.{Part}
 use Rattle.vr_header.specs.declared.part.Part.TheVariants.{Here, Lost, Wanted, Unknown, Nothing}
 use Rattle.vr_header.specs.Same.{same_header}
 use Rattle.vr_header.proofs.SameHeaders.{same_header_is, same_header_of}
-use Rattle.vr_msg.specs.Logs.{header_of, has_header}
-use Rattle.vr_world.specs.Replica.{Replica, part_at, head, forgetting}
-use Rattle.vr_world.specs.Words.{Log, log_header, replaced_by, taken_part, taken}
+use Rattle.vr_header.specs.Parts.{header_of, has_header}
+use Rattle.vr_rules.specs.Replica.{Replica, part_at, head, forgetting}
+use Rattle.vr_rules.specs.Words.{Log, log_header, replaced_by, taken_part, taken}
+use Rattle.vr_rules.specs.Sound.{IsSound}
+use Rattle.vr_rules.proofs.Heads.{Spans, some_known, part_before, part_past, head_within, head_knows, head_reaches, head_stops, remade_at, forgetting_spans, forgetting_at, forgetting_known, forgetting_head}
+use Rattle.vr_rules.proofs.Keeping.{spans_of}
+use Rattle.vr_rules.specs.Given.{IsLogFor}
+use Rattle.vr_rules.proofs.Taking.{MayTake, taken_known, over, over_at, over_spans}
 use Rattle.vr_world.specs.Group as group
-use Rattle.vr_world.specs.Sound.{IsSound}
-use Rattle.vr_world.proofs.Heads.{Spans, some_known, part_before, part_past, head_within, head_knows, head_reaches, head_stops, remade_at, forgetting_spans, forgetting_at, forgetting_known, forgetting_head}
-use Rattle.vr_world.proofs.Keeping.{spans_of}
-use Rattle.vr_world.specs.Given.{IsLogFor}
-use Rattle.vr_world.proofs.Taking.{MayTake, taken_known, over, over_at, over_spans}
 use Rattle.law_1_machine.specs.Members.{Memory}
 use Rattle.law_1_machine.specs.Parts as part
 use Rattle.law_1_machine.specs.Taking.{Installed, Takes}

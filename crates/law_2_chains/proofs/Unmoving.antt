@@ -4,13 +4,13 @@ use Rattle.std.proofs.Common.{ℕ, ◌≡◌, ◌∙◌, refl, sym, subst}
 use Rattle.vr_header.specs.declared.header.Header.{Header}
 use Rattle.vr_header.specs.declared.part.Part.TheVariants.{Here, Lost}
 use Rattle.vr_ckpt.specs.declared.name.Name.{Name}
-use Rattle.vr_world.specs.Replica.{Replica, head, part_at, with_part}
-use Rattle.vr_world.specs.Words.{lost, with_cursor, with_worn}
-use Rattle.vr_world.specs.Rules.{not_worn}
+use Rattle.vr_rules.specs.Replica.{Replica, head, part_at, with_part}
+use Rattle.vr_rules.specs.Words.{lost, with_cursor, with_worn}
+use Rattle.vr_rules.specs.Rules.{not_worn}
+use Rattle.vr_rules.specs.Sound.{IsSound}
+use Rattle.vr_rules.proofs.Keeping.{sound_alike}
+use Rattle.vr_rules.proofs.Storing.{kept_lost}
 use Rattle.vr_world.specs.Group as group
-use Rattle.vr_world.specs.Sound.{IsSound}
-use Rattle.vr_world.proofs.Keeping.{sound_alike}
-use Rattle.vr_world.proofs.Storing.{kept_lost}
 use Rattle.law_1_machine.specs.Members.{Memory}
 use Rattle.law_2_chains.specs.Reflecting.{Reflects, KeepsStored}
 use Rattle.law_2_chains.proofs.Applying.{op_is, reflects_with, keeps_with, place_with}

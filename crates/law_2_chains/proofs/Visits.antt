@@ -12,13 +12,13 @@ use Rattle.vr_header.specs.Same.{same_header}
 use Rattle.vr_header.proofs.SameHeaders.{same_header_of}
 use Rattle.vr_ckpt.specs.declared.name.Name.{Name}
 use Rattle.vr_msg.specs.declared.output.Output.{Output}
-use Rattle.vr_world.specs.Replica.{Replica, part_at}
-use Rattle.vr_world.specs.Steps.{Effect, Rewrite, Mend, Setting, Step, Word, ◌⨾◌, quiet, change, does, by, reading, when}
-use Rattle.vr_world.specs.Words.{entry_of, or_lost, lost, with_entry, with_entry_at, is_loaded, blocks_of, op_of_slot, mend_header, header_read, visit_slot, with_worn, visit_read, visit_block, visit_place, place_now, with_cursor, visit}
+use Rattle.vr_rules.specs.Replica.{Replica, part_at}
+use Rattle.vr_rules.specs.Steps.{Effect, Rewrite, Mend, Setting, Step, Word, ◌⨾◌, quiet, change, does, by, reading, when}
+use Rattle.vr_rules.specs.Words.{entry_of, or_lost, lost, with_entry, with_entry_at, is_loaded, blocks_of, op_of_slot, mend_header, header_read, visit_slot, with_worn, visit_read, visit_block, visit_place, place_now, with_cursor, visit}
 use Rattle.vr_world.specs.Group as group
 use Rattle.vr_world.specs.Group.{kept_at, kept_under}
-use Rattle.vr_world.specs.Sound.{IsSound}
-use Rattle.vr_world.proofs.Wording.{read_is}
+use Rattle.vr_rules.specs.Sound.{IsSound}
+use Rattle.vr_rules.proofs.Wording.{read_is}
 use Rattle.law_1_machine.specs.Group.{Group, Member, becomes}
 use Rattle.law_1_machine.specs.Machine as move
 use Rattle.law_1_machine.proofs.Counting.{elsewhere}

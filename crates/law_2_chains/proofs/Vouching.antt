@@ -4,13 +4,13 @@ use Rattle.std.proofs.lemmas.Bool.{cases_lt}
 use Rattle.vr_header.specs.declared.header.Header.{Header}
 use Rattle.vr_header.specs.declared.part.Part.TheVariants.{Here}
 use Rattle.vr_header.specs.Names.{name_by}
-use Rattle.vr_msg.specs.Logs.{header_of}
-use Rattle.vr_world.specs.Replica.{Replica, part_at, head}
-use Rattle.vr_world.specs.Outputs.{send_to, to_primary, prepare_ok, get_view}
-use Rattle.vr_world.specs.Steps.{Setting, Word, ◌⨾◌, change, after_all}
-use Rattle.vr_world.specs.Words.{rested}
-use Rattle.vr_world.specs.Rules.{acknowledge, ask_view}
-use Rattle.vr_world.proofs.Wording.{kept_rested}
+use Rattle.vr_header.specs.Parts.{header_of}
+use Rattle.vr_rules.specs.Replica.{Replica, part_at, head}
+use Rattle.vr_rules.specs.Outputs.{send_to, to_primary, prepare_ok, get_view}
+use Rattle.vr_rules.specs.Steps.{Setting, Word, ◌⨾◌, change, after_all}
+use Rattle.vr_rules.specs.Words.{rested}
+use Rattle.vr_rules.specs.Rules.{acknowledge, ask_view}
+use Rattle.vr_rules.proofs.Wording.{kept_rested}
 use Rattle.law_1_machine.specs.Group.{Group}
 use Rattle.law_1_machine.specs.Parts.{header, denied}
 use Rattle.law_2_chains.specs.Local.{Local}

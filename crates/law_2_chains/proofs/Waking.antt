@@ -7,7 +7,7 @@ use Rattle.std.proofs.lemmas.List.Elements.{All-nil}
 use Rattle.vr_base.proofs.Members.{is_sized}
 use Rattle.vr_header.specs.declared.header.Header.{Header}
 use Rattle.vr_world.specs.Lying.{lying}
-use Rattle.vr_world.specs.Opening.{AreKinds, fresh}
+use Rattle.vr_rules.specs.Opening.{AreKinds, fresh}
 use Rattle.vr_world.specs.Group.{Played, Run, fresh_group, fresh_member}
 use Rattle.vr_world.specs.GroupFit.{IsFitGroup, IsFitMove}
 use Rattle.vr_header.specs.declared.part.Part.TheVariants.{Here, Nothing}

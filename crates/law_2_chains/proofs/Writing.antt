@@ -9,15 +9,15 @@ use Rattle.vr_header.specs.declared.part.Part.TheVariants.{Here, Lost, Wanted, U
 use Rattle.vr_header.specs.Made.{Whole}
 use Rattle.vr_header.specs.Same.{same_header}
 use Rattle.vr_header.proofs.SameHeaders.{same_header_of}
-use Rattle.vr_msg.specs.Logs.{has_header, header_of}
-use Rattle.vr_world.specs.Replica.{Replica, ackers_at, part_at, head, forgetting, with_part}
-use Rattle.vr_world.specs.Steps.{Effect, Setting, Word, ◌⨾◌, change, does, after_all}
-use Rattle.vr_world.specs.Words.{may_be_stored, writes, stored, write}
+use Rattle.vr_header.specs.Parts.{has_header, header_of}
+use Rattle.vr_rules.specs.Replica.{Replica, ackers_at, part_at, head, forgetting, with_part}
+use Rattle.vr_rules.specs.Steps.{Effect, Setting, Word, ◌⨾◌, change, does, after_all}
+use Rattle.vr_rules.specs.Words.{may_be_stored, writes, stored, write}
+use Rattle.vr_rules.specs.Sound.{IsSound}
+use Rattle.vr_rules.proofs.Heads.{Spans, known_within, knows_some, some_known, head_from, head_within, head_knows, head_reaches, head_stops, head_least, with_part_spans, with_part_at, with_part_other, forgetting_spans, forgetting_at, forgetting_before, gone, forgetting_known, forgetting_head}
+use Rattle.vr_rules.proofs.Keeping.{spans_of}
+use Rattle.vr_rules.proofs.Storing.{MayStore, kept_stored, with_part_known}
 use Rattle.vr_world.specs.Group as group
-use Rattle.vr_world.specs.Sound.{IsSound}
-use Rattle.vr_world.proofs.Heads.{Spans, known_within, knows_some, some_known, head_from, head_within, head_knows, head_reaches, head_stops, head_least, with_part_spans, with_part_at, with_part_other, forgetting_spans, forgetting_at, forgetting_before, gone, forgetting_known, forgetting_head}
-use Rattle.vr_world.proofs.Keeping.{spans_of}
-use Rattle.vr_world.proofs.Storing.{MayStore, kept_stored, with_part_known}
 use Rattle.law_1_machine.specs.Basics.{update}
 use Rattle.law_1_machine.specs.Group.{Group, Member, becomes}
 use Rattle.law_1_machine.specs.Members.{Memory}

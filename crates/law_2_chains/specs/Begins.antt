@@ -2,7 +2,7 @@
 use Rattle.std.specs.Prelude.{ℕ, ◌%◌, ◌≡◌, Bool, List, ◌∷◌}
 use Rattle.vr_header.specs.declared.header.Header.{Header}
 use Rattle.vr_header.specs.Made.{Whole}
-use Rattle.vr_world.specs.Steps.{Effect, Write, Step}
+use Rattle.vr_rules.specs.Steps.{Effect, Write, Step}
 use Rattle.law_1_machine.specs.Basics.{In}
 use Rattle.law_1_machine.specs.Group.{Group, made_at}
 use Rattle.law_2_chains.specs.Local.{Local}

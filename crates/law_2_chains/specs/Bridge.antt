@@ -8,9 +8,9 @@ use Rattle.vr_msg.specs.declared.output.Committed.{Committed}
 use Rattle.vr_msg.specs.declared.output.Output.{Output}
 use Rattle.vr_msg.specs.declared.output.Output.TheVariants as output
 use Rattle.vr_msg.specs.declared.output.Sent.{Sent}
-use Rattle.vr_world.specs.Replica.{Replica, part_at}
+use Rattle.vr_rules.specs.Replica.{Replica, part_at}
 use Rattle.vr_world.specs.Lying.{lying}
-use Rattle.vr_world.specs.Steps.{Effect, outputs}
+use Rattle.vr_rules.specs.Steps.{Effect, outputs}
 use Rattle.vr_world.specs.Commitment.{Stored}
 use Rattle.vr_world.specs.Storing.{done_in, stored_from}
 use Rattle.vr_world.specs.Group as group

@@ -4,12 +4,12 @@ use Rattle.vr_header.specs.declared.header.Header.{Header}
 use Rattle.vr_msg.specs.declared.event.Event.{Event}
 use Rattle.vr_msg.specs.declared.event.Event.TheVariants as event
 use Rattle.vr_msg.specs.declared.frame.Frame.TheVariants as frame
-use Rattle.vr_world.specs.Replica.{Replica, head, header_at}
-use Rattle.vr_world.specs.Steps.{Effect, Setting, outputs}
+use Rattle.vr_rules.specs.Replica.{Replica, head, header_at}
+use Rattle.vr_rules.specs.Steps.{Effect, Setting, outputs}
 use Rattle.vr_super.specs.Copies.{SuperValue}
-use Rattle.vr_world.specs.Rules.{react}
-use Rattle.vr_world.specs.Opening.{blank, mending}
-use Rattle.vr_world.specs.Laws.{IsMessage, HasNames}
+use Rattle.vr_rules.specs.Rules.{react}
+use Rattle.vr_rules.specs.Opening.{blank, mending}
+use Rattle.vr_rules.specs.Laws.{IsMessage, HasNames}
 use Rattle.vr_world.specs.Group.{carried_out, cut_after, made_in}
 use Rattle.law_1_machine.specs.Group.{Group}
 use Rattle.law_2_chains.specs.Local.{Local, carried, WhereverCut}

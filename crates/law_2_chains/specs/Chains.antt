@@ -9,11 +9,11 @@ use Rattle.vr_msg.specs.declared.output.Output.{Output}
 use Rattle.vr_msg.specs.declared.output.Output.TheVariants as output
 use Rattle.vr_msg.specs.declared.statement.Statement.{Statement}
 use Rattle.vr_msg.specs.Choice as stated
-use Rattle.vr_world.specs.Replica.{Replica}
-use Rattle.vr_world.specs.Steps.{Step}
-use Rattle.vr_world.specs.Words.{log_header, sync_log}
-use Rattle.vr_world.specs.Deciding.{log_of}
-use Rattle.vr_world.specs.Sound.{IsSound}
+use Rattle.vr_rules.specs.Replica.{Replica}
+use Rattle.vr_rules.specs.Steps.{Step}
+use Rattle.vr_rules.specs.Words.{log_header, sync_log}
+use Rattle.vr_rules.specs.Deciding.{log_of}
+use Rattle.vr_rules.specs.Sound.{IsSound}
 use Rattle.law_1_machine.specs.Basics.{In}
 use Rattle.law_1_machine.specs.Quorums.{Quorums}
 use Rattle.law_1_machine.specs.Parts.{header}

@@ -6,9 +6,9 @@ use Rattle.vr_msg.specs.declared.output.Chosen.{Chosen}
 use Rattle.vr_msg.specs.declared.output.Output.TheVariants as output
 use Rattle.vr_msg.specs.declared.statement.Statement.{Statement}
 use Rattle.vr_msg.specs.Choice.{named}
-use Rattle.vr_world.specs.Replica.{Replica}
+use Rattle.vr_rules.specs.Replica.{Replica}
+use Rattle.vr_rules.specs.Steps.{Step, outputs}
 use Rattle.vr_world.specs.Safe.{all_heard, heard_from}
-use Rattle.vr_world.specs.Steps.{Step, outputs}
 use Rattle.law_1_machine.specs.Basics.{In}
 use Rattle.law_1_machine.specs.Group.{Group}
 use Rattle.law_1_machine.specs.Members.{Choice}

@@ -4,8 +4,8 @@ use Rattle.std.specs.Prelude.{ℕ, ◌<◌, ◌≡◌, true, false, Some, slice_
 use Rattle.vr_base.specs.Replicas.{has_replica}
 use Rattle.vr_header.specs.declared.header.Header.{Header}
 use Rattle.vr_header.specs.declared.part.Part.TheVariants.{Here}
+use Rattle.vr_rules.specs.Replica.{Replica, ackers_at, is_frozen, leads, part_at}
 use Rattle.vr_world.specs.Group as group
-use Rattle.vr_world.specs.Replica.{Replica, ackers_at, is_frozen, leads, part_at}
 use Rattle.law_1_machine.specs.Group.{Group, Vouches}
 use Rattle.law_1_machine.specs.History.{History, InLog}
 use Rattle.law_1_machine.specs.Invariant.{Invariant}

@@ -9,9 +9,9 @@ use Rattle.vr_msg.specs.declared.frame.PrepareOk.{PrepareOk}
 use Rattle.vr_msg.specs.declared.output.Output.{Output}
 use Rattle.vr_msg.specs.declared.output.Output.TheVariants as output
 use Rattle.vr_msg.specs.declared.output.Sent.{Sent}
-use Rattle.vr_world.specs.Replica.{Replica}
-use Rattle.vr_world.specs.Steps.{Step}
-use Rattle.vr_world.specs.Sound.{IsSound}
+use Rattle.vr_rules.specs.Replica.{Replica}
+use Rattle.vr_rules.specs.Steps.{Step}
+use Rattle.vr_rules.specs.Sound.{IsSound}
 use Rattle.law_1_machine.specs.Basics.{In}
 use Rattle.law_1_machine.specs.Group.{Group}
 use Rattle.law_1_machine.specs.Members.{Choice, Memory, Message}

@@ -3,7 +3,7 @@
 use Rattle.std.specs.Prelude.{⊤, List, [], ◌∷◌, ◌++◌}
 use Rattle.vr_header.specs.declared.header.Header.{Header}
 use Rattle.vr_msg.specs.declared.output.Output.{Output}
-use Rattle.vr_world.specs.Steps.{Effect, output_of}
+use Rattle.vr_rules.specs.Steps.{Effect, output_of}
 use Rattle.vr_world.specs.Group.{Member, begins, ends, made_by_effect}
 
 pub record Local : Type 0 where

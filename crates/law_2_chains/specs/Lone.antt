@@ -6,8 +6,8 @@ use Rattle.vr_header.specs.declared.part.Part.TheVariants.{Here}
 use Rattle.vr_msg.specs.declared.event.Event.{Event}
 use Rattle.vr_msg.specs.declared.output.Chosen.{Chosen}
 use Rattle.vr_msg.specs.declared.output.Output.TheVariants as output
-use Rattle.vr_world.specs.Replica.{Replica, part_at}
-use Rattle.vr_world.specs.Steps.{Effect, Step, outputs}
+use Rattle.vr_rules.specs.Replica.{Replica, part_at}
+use Rattle.vr_rules.specs.Steps.{Effect, Step, outputs}
 use Rattle.vr_world.specs.Commitment.{Stored}
 use Rattle.vr_world.specs.Storing.{here_in, in_view, stored_by}
 use Rattle.law_1_machine.specs.Basics.{In}

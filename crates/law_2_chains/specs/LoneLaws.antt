@@ -5,10 +5,10 @@ use Rattle.vr_msg.specs.declared.event.Event.{Event}
 use Rattle.vr_msg.specs.declared.event.Event.TheVariants as event
 use Rattle.vr_msg.specs.declared.frame.Frame.TheVariants as frame
 use Rattle.vr_msg.specs.declared.request.RequestFields.{RequestFields}
-use Rattle.vr_world.specs.Replica.{Replica, head, header_at, last_view, replication}
-use Rattle.vr_world.specs.Steps.{Setting}
-use Rattle.vr_world.specs.Rules.{on_request, react}
-use Rattle.vr_world.specs.Laws.{HasNames, IsMessage}
+use Rattle.vr_rules.specs.Replica.{Replica, head, header_at, last_view, replication}
+use Rattle.vr_rules.specs.Steps.{Setting}
+use Rattle.vr_rules.specs.Rules.{on_request, react}
+use Rattle.vr_rules.specs.Laws.{HasNames, IsMessage}
 use Rattle.law_1_machine.specs.Group.{Group}
 use Rattle.law_2_chains.specs.Local.{Local}
 use Rattle.law_2_chains.specs.Chains.{Setup, Mid, Every, AsksNothing}

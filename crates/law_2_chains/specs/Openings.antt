@@ -2,11 +2,11 @@
 use Rattle.std.specs.Prelude.{ℕ, ◌+◌, ◌≡◌, List, Contains, None}
 use Rattle.vr_header.specs.declared.header.Header.{Header}
 use Rattle.vr_super.specs.Copies.{IsGood, SuperValue}
-use Rattle.vr_world.specs.Replica.{parts_from}
-use Rattle.vr_world.specs.Steps.{Setting, Step, after_all}
-use Rattle.vr_world.specs.Opening.{blank, mending, resuming}
+use Rattle.vr_rules.specs.Replica.{parts_from}
+use Rattle.vr_rules.specs.Steps.{Setting, Step, after_all}
+use Rattle.vr_rules.specs.Opening.{blank, mending, resuming}
+use Rattle.vr_rules.specs.Laws.{ReadsHeaders}
 use Rattle.vr_world.specs.Group.{AreSound, MayOpen, keeps_all, kept_at}
-use Rattle.vr_world.specs.Laws.{ReadsHeaders}
 use Rattle.law_1_machine.specs.Group.{Group}
 use Rattle.law_2_chains.specs.Local.{Local, carried, WhereverCut}
 use Rattle.law_2_chains.specs.Reflecting.{IsDisk}

@@ -8,8 +8,8 @@ use Rattle.vr_header.specs.declared.part.Part.TheVariants.{Here, Lost, Wanted, U
 use Rattle.vr_header.specs.Names.{name_by, root_by}
 use Rattle.vr_msg.specs.Normal.{same_sum}
 use Rattle.vr_super.specs.Copies.{SuperValue}
-use Rattle.vr_world.specs.Replica.{Replica, part_at, head}
-use Rattle.vr_world.specs.Opening.{listed}
+use Rattle.vr_rules.specs.Replica.{Replica, part_at, head}
+use Rattle.vr_rules.specs.Opening.{listed}
 use Rattle.vr_world.specs.Group as group
 use Rattle.law_1_machine.specs.Headers.{Headers}
 use Rattle.law_1_machine.specs.Parts as machine

@@ -1,6 +1,6 @@
 -- Every move, and every run, of a group is one of the machine.
 use Rattle.vr_base.specs.declared.kind.Kind.{Kind}
-use Rattle.vr_world.specs.Opening.{AreKinds}
+use Rattle.vr_rules.specs.Opening.{AreKinds}
 use Rattle.std.specs.Prelude.{ℕ, ◌^◌, ◌<◌, ◌≤◌, ◌≡◌, List, All}
 use Rattle.vr_header.specs.declared.header.Header.{Header}
 use Rattle.vr_world.specs.Lying.{lying}

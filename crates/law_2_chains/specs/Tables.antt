@@ -6,7 +6,7 @@ use Rattle.vr_base.specs.Replicas.{has_replica}
 use Rattle.vr_header.specs.declared.header.Header.{Header}
 use Rattle.vr_header.specs.declared.part.Part.TheVariants.{Here}
 use Rattle.vr_msg.specs.declared.statement.Statement.{Statement}
-use Rattle.vr_world.specs.Replica.{Replica, ackers_at, head, is_frozen, leads, part_at, replication}
+use Rattle.vr_rules.specs.Replica.{Replica, ackers_at, head, is_frozen, leads, part_at, replication}
 use Rattle.law_1_machine.specs.Basics.{In}
 use Rattle.law_1_machine.specs.Group.{Group, made_at, Vouches}
 use Rattle.law_1_machine.specs.Members.{Do_view_change}

@@ -7,15 +7,15 @@ use Rattle.std.proofs.lemmas.Bool.{eqb-true, not-false, or_parts}
 use Rattle.std.proofs.lemmas.List.{nil_from_length}
 use Rattle.vr_header.specs.declared.header.Header.{Header}
 use Rattle.vr_header.specs.Made.{Whole}
-use Rattle.vr_ckpt.specs.Folds.{state_after}
-use Rattle.vr_ckpt.specs.StateTexts.{state_decoded}
-use Rattle.vr_ckpt.specs.State.{State}
+use Rattle.vr_state.specs.Folds.{state_after}
+use Rattle.vr_state.specs.StateTexts.{state_decoded}
+use Rattle.vr_state.specs.declared.state.State.{State}
 use Rattle.vr_ckpt.specs.declared.found.Load.{Load}
 use Rattle.vr_ckpt.specs.declared.found.Load.TheVariants.{Loaded, Missing}
 use Rattle.vr_ckpt.specs.declared.name.Name.{Name}
-use Rattle.vr_ckpt.specs.Sessions.{checked}
-use Rattle.vr_ckpt.specs.SessionAnswer.{SessionAnswer}
-use Rattle.vr_ckpt.specs.SessionAnswer.TheVariants as answer
+use Rattle.vr_state.specs.Sessions.{checked}
+use Rattle.vr_state.specs.declared.session.SessionAnswer.{SessionAnswer}
+use Rattle.vr_state.specs.declared.session.SessionAnswer.TheVariants as answer
 use Rattle.vr_msg.specs.declared.event.Event.{Event}
 use Rattle.vr_msg.specs.declared.event.Event.TheVariants as event
 use Rattle.vr_msg.specs.declared.frame.Frame.{Frame}
@@ -39,17 +39,17 @@ use Rattle.vr_msg.specs.declared.reply.ReplyKind.TheVariants as reply
 use Rattle.vr_msg.specs.declared.request.RequestFields.{RequestFields}
 use Rattle.vr_msg.specs.declared.statement.Statement.{Statement}
 use Rattle.vr_msg.specs.Choice.{ops}
-use Rattle.vr_ckpt.proofs.Stored.{repeat_stored}
-use Rattle.law_2_chains.specs.Outputs.{replies, send_to, send_to_all, prepare, commit_message, start_view, start_view_change, get_view, get_sync, sync_view, give_prepare, give_block}
-use Rattle.law_2_chains.specs.Asker.{Asker}
-use Rattle.law_2_chains.specs.Replica.{Replica, is_frozen, part_at, header_at, head, is_here, version}
-use Rattle.law_2_chains.specs.Steps.{Step, Setting, Word, ◌⨾◌, quiet, change, does, says, by, naming, reading, when, each, outputs, after_all, PutBlock}
-use Rattle.law_2_chains.specs.Words.{rested, write, accept, enter, apply, advance, learn, is_loaded, load, loads, loaded_state, checkpoint_at, try, speak, resend, ask, prepare_again, visit, usable}
-use Rattle.law_2_chains.specs.Words as word
-use Rattle.law_2_chains.specs.Deciding.{Hash, session_answer, request_table, prepare_table, prepare_ok_table, commit_table, start_view_change_table, do_view_change_table, log_of, start_view_table, get_view_table, get_prepare_table, give_prepare_table, get_block_table, is_from, is_wanted, give_block_table, tick_table, get_sync_table, sync_view_table}
-use Rattle.law_2_chains.specs.Rules.{asker_by, next_entry, make, stored_reply, obey_request, on_request, acknowledge, ask_view, obey_prepare, on_prepare, acknowledged, obey_prepare_ok, on_prepare_ok, obey_commit, on_commit, heard_of, obey_start_view_change, on_start_view_change, with_statement, obey_do_view_change, on_do_view_change, acknowledge_stored, obey_start_view, on_start_view, obey_get_view, on_get_view, obey_get_prepare, on_get_prepare, obey_give_prepare, on_give_prepare, asked_block, block_at, give_read, obey_get_block, on_get_block, without, put_block, put_found, mend_found, not_worn, obey_give_block, on_give_block, obey_get_sync, on_get_sync, obey_sync_view, on_sync_view, idler, next_view, obey_tick, on_tick, on_message, on_event, react}
-use Rattle.law_2_chains.proofs.Ruling.{by_rows}
-use Rattle.law_2_chains.specs.Commitment.{IsReplyOf}
+use Rattle.vr_state.proofs.Stored.{repeat_stored}
+use Rattle.vr_rules.specs.Outputs.{replies, send_to, send_to_all, prepare, commit_message, start_view, start_view_change, get_view, get_sync, sync_view, give_prepare, give_block}
+use Rattle.vr_rules.specs.declared.asker.Asker.{Asker}
+use Rattle.vr_rules.specs.Replica.{Replica, is_frozen, part_at, header_at, head, is_here, version}
+use Rattle.vr_rules.specs.Steps.{Step, Setting, Word, ◌⨾◌, quiet, change, does, says, by, naming, reading, when, each, outputs, after_all, PutBlock}
+use Rattle.vr_rules.specs.Words.{rested, write, accept, enter, apply, advance, learn, is_loaded, load, loads, loaded_state, checkpoint_at, try, speak, resend, ask, prepare_again, visit, usable}
+use Rattle.vr_rules.specs.Words as word
+use Rattle.vr_rules.specs.Deciding.{Hash, session_answer, request_table, prepare_table, prepare_ok_table, commit_table, start_view_change_table, do_view_change_table, log_of, start_view_table, get_view_table, get_prepare_table, give_prepare_table, get_block_table, is_from, is_wanted, give_block_table, tick_table, get_sync_table, sync_view_table}
+use Rattle.vr_rules.specs.Rules.{asker_by, next_entry, make, stored_reply, obey_request, on_request, acknowledge, ask_view, obey_prepare, on_prepare, acknowledged, obey_prepare_ok, on_prepare_ok, obey_commit, on_commit, heard_of, obey_start_view_change, on_start_view_change, with_statement, obey_do_view_change, on_do_view_change, acknowledge_stored, obey_start_view, on_start_view, obey_get_view, on_get_view, obey_get_prepare, on_get_prepare, obey_give_prepare, on_give_prepare, asked_block, block_at, give_read, obey_get_block, on_get_block, without, put_block, put_found, mend_found, not_worn, obey_give_block, on_give_block, obey_get_sync, on_get_sync, obey_sync_view, on_sync_view, idler, next_view, obey_tick, on_tick, on_message, on_event, react}
+use Rattle.vr_rules.proofs.Ruling.{by_rows}
+use Rattle.vr_world.specs.Commitment.{IsReplyOf}
 use Rattle.law_3_outputs.specs.Answering.{IsNumbered, HasState, Jumps, PutsWell, lines, Lined, Told, Leaves}
 use Rattle.law_3_outputs.proofs.Words.{Keeps, FairAt, IsFair, fair_at_then, fair_then, fair_quiet, fair_change, fair_does, fair_says, fair_by, fair_naming, fair_reading, fair_if, fair_when, fair_each}
 use Rattle.law_3_outputs.proofs.Applies.{fair_with_entry, fair_apply, fair_advance, fair_learn, fair_rested, fair_sends, fair_enter, fair_write, fair_accept, fair_take, fair_again, fair_try, fair_speak, fair_resend, fair_looks}

@@ -9,12 +9,12 @@ use Rattle.vr_header.specs.declared.header.Header.{Header}
 use Rattle.vr_header.specs.declared.part.Part.{Part}
 use Rattle.vr_header.specs.declared.part.Part.TheVariants.{Here, Lost, Wanted, Unknown, Nothing}
 use Rattle.vr_header.specs.Made.{Whole}
-use Rattle.vr_ckpt.specs.Folds.{state_after, check, answered, executed, outcome_of, fresh_outcome, answer_at}
-use Rattle.vr_ckpt.specs.Folds as state
-use Rattle.vr_ckpt.specs.State.{State}
+use Rattle.vr_state.specs.Folds.{state_after, check, answered, executed, outcome_of, fresh_outcome, answer_at}
+use Rattle.vr_state.specs.Folds as state
+use Rattle.vr_state.specs.declared.state.State.{State}
 use Rattle.vr_ckpt.specs.declared.saving.SavedCheckpoint as checkpoint
-use Rattle.vr_ckpt.specs.SessionAnswer.{SessionAnswer}
-use Rattle.vr_ckpt.specs.SessionAnswer.TheVariants as answer
+use Rattle.vr_state.specs.declared.session.SessionAnswer.{SessionAnswer}
+use Rattle.vr_state.specs.declared.session.SessionAnswer.TheVariants as answer
 use Rattle.vr_msg.specs.declared.frame.Frame.{Frame}
 use Rattle.vr_msg.specs.declared.reply.ReplyFields.{ReplyFields}
 use Rattle.vr_msg.specs.declared.statement.Statement.{Statement}
@@ -22,14 +22,14 @@ use Rattle.vr_msg.specs.declared.choice.Choice.{Choice}
 use Rattle.vr_msg.specs.declared.choice.Choice.TheVariants.{Ends, WaitsAt, TooFew}
 use Rattle.vr_msg.specs.Choice.{ops}
 use Rattle.vr_ckpt.specs.declared.name.Name.{Name}
-use Rattle.vr_ckpt.proofs.Stored.{answer_next, repeat_stored, state_next}
-use Rattle.law_2_chains.specs.Outputs.{kind_of, replies, asker_of, commit_line, applied_reply, send, send_to, send_to_all, others, to_primary, prepare, prepare_ok, start_view, start_view_change, do_view_change, get_block, get_prepare, wait_line}
-use Rattle.law_2_chains.specs.Replica.{Replica, is_alone, leads, part_at, with_part, forgetting, last_view, is_primary, is_started, is_here, version}
-use Rattle.law_2_chains.specs.Steps.{Mend, Rewrite, Say, Setting, Word, ◌⨾◌, quiet, change, does, says, by, reading, when, times, each, outputs, after_all}
-use Rattle.law_2_chains.specs.Words.{Log, rested, entered, enter, saves, with_saved, save, writes, stored, write, accept, entry_of, lost, or_lost, with_entry, with_entry_at, applied, checkpoints, with_checkpoint, checkpoint_of, make_checkpoint, is_checkpoint, apply_entry, is_loaded, apply_next, apply, advanced, advance, learned, learn, taken, take as take_over, prepare_again, choose_line, begin_view, try_log, may_take, obey_choice, chosen_log, decided, stated, try, speak, resend, turned, ask_peer, ask_for, ask, least_absent, peer, blocks_of, header_read, mend_header, op_of_slot, place_now, visit, visit_block, visit_place, visit_read, visit_slot, with_cursor, with_worn}
+use Rattle.vr_state.proofs.Stored.{answer_next, repeat_stored, state_next}
+use Rattle.vr_rules.specs.Outputs.{kind_of, replies, asker_of, commit_line, applied_reply, send, send_to, send_to_all, others, to_primary, prepare, prepare_ok, start_view, start_view_change, do_view_change, get_block, get_prepare, wait_line}
+use Rattle.vr_rules.specs.Replica.{Replica, is_alone, leads, part_at, with_part, forgetting, last_view, is_primary, is_started, is_here, version}
+use Rattle.vr_rules.specs.Steps.{Mend, Rewrite, Say, Setting, Word, ◌⨾◌, quiet, change, does, says, by, reading, when, times, each, outputs, after_all}
+use Rattle.vr_rules.specs.Words.{Log, rested, entered, enter, saves, with_saved, save, writes, stored, write, accept, entry_of, lost, or_lost, with_entry, with_entry_at, applied, checkpoints, with_checkpoint, checkpoint_of, make_checkpoint, is_checkpoint, apply_entry, is_loaded, apply_next, apply, advanced, advance, learned, learn, taken, take as take_over, prepare_again, choose_line, begin_view, try_log, may_take, obey_choice, chosen_log, decided, stated, try, speak, resend, turned, ask_peer, ask_for, ask, least_absent, peer, blocks_of, header_read, mend_header, op_of_slot, place_now, visit, visit_block, visit_place, visit_read, visit_slot, with_cursor, with_worn}
 use Rattle.law_2_chains.specs.Chains.{Every}
 use Rattle.law_2_chains.proofs.Repairs.{every_mapped}
-use Rattle.law_2_chains.specs.Commitment.{IsReplyOf}
+use Rattle.vr_world.specs.Commitment.{IsReplyOf}
 use Rattle.law_3_outputs.specs.Answering.{IsMute, IsNumbered, HasState, lines, Lined, Told, Leaves}
 use Rattle.law_3_outputs.proofs.Words.{Keeps, FairAt, IsFair, fair_at_then, fair_then, fair_quiet, fair_change, fair_does, fair_says, fair_by, fair_naming, fair_reading, fair_if, fair_when, fair_times, fair_each}
 

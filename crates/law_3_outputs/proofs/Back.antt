@@ -12,14 +12,14 @@ use Rattle.vr_msg.specs.declared.output.Output.{Output}
 use Rattle.vr_msg.specs.declared.output.Output.TheVariants as output
 use Rattle.vr_msg.specs.declared.output.Sent.{Sent}
 use Rattle.vr_msg.specs.Normal.{same_sum}
-use Rattle.law_2_chains.specs.Replica.{replication}
-use Rattle.law_2_chains.specs.Group as group
-use Rattle.law_2_chains.specs.Group.{Played, fresh_group}
+use Rattle.vr_rules.specs.Replica.{replication}
+use Rattle.vr_world.specs.Group as group
+use Rattle.vr_world.specs.Group.{Played, fresh_group}
 use Rattle.law_2_chains.specs.Lone.{vouch_for}
-use Rattle.law_2_chains.specs.Steps.{Effect}
-use Rattle.law_2_chains.specs.Storing.{done_in, run_stored, stored_from, stored_of, until_said}
+use Rattle.vr_rules.specs.Steps.{Effect}
+use Rattle.vr_world.specs.Storing.{done_in, run_stored, stored_from, stored_of, until_said}
 use Rattle.law_2_chains.proofs.Finishing.{committed_more, said_more}
-use Rattle.law_2_chains.proofs.Taking.{log_reaches}
+use Rattle.vr_rules.proofs.Taking.{log_reaches}
 use Rattle.law_1_machine.specs.Basics.{In}
 use Rattle.law_1_machine.specs.Group.{Vouches}
 use Rattle.law_1_machine.specs.Laws.{Committed, at_root, stands_on}
@@ -28,9 +28,9 @@ use Rattle.law_1_machine.specs.Members.{Message}
 use Rattle.law_2_chains.specs.Chains.{Setup}
 use Rattle.law_2_chains.specs.Finished.{IsSaid}
 use Rattle.law_2_chains.specs.Reflecting.{entries_by}
-use Rattle.law_2_chains.specs.Commitment as said
-use Rattle.law_2_chains.specs.Commitment.{Evidence, HasSent, IsCommitted, Stored}
-use Rattle.law_2_chains.specs.Safe.{before, run_outputs}
+use Rattle.vr_world.specs.Commitment as said
+use Rattle.vr_world.specs.Commitment.{Evidence, HasSent, IsCommitted, Stored}
+use Rattle.vr_world.specs.Safe.{before, run_outputs}
 use Rattle.law_3_outputs.specs.Followed.{IsFollowed, IsFrom, by_then, own_vouches, stored_until}
 use Rattle.law_2_chains.proofs.StoredLists.{in_contains}
 use Rattle.law_3_outputs.proofs.Sets.{in_get, in_left, in_right, set_of}

@@ -16,11 +16,11 @@ use Rattle.vr_msg.specs.declared.output.Committed.{Committed}
 use Rattle.vr_msg.specs.declared.output.Output.{Output}
 use Rattle.vr_msg.specs.declared.output.Output.TheVariants as output
 use Rattle.vr_msg.specs.declared.output.Sent.{Sent}
-use Rattle.law_2_chains.specs.Deciding.{log_of}
-use Rattle.law_2_chains.specs.Group.{Played}
-use Rattle.law_2_chains.specs.Steps.{Write}
-use Rattle.law_2_chains.specs.Words.{log_header, sync_log}
-use Rattle.law_2_chains.specs.Checkpoints.{IsCheckpointOf}
+use Rattle.vr_rules.specs.Deciding.{log_of}
+use Rattle.vr_world.specs.Group.{Played}
+use Rattle.vr_rules.specs.Steps.{Write}
+use Rattle.vr_rules.specs.Words.{log_header, sync_log}
+use Rattle.vr_world.specs.Checkpoints.{IsCheckpointOf}
 use Rattle.vr_msg.specs.declared.frame.SyncView.{SyncView}
 use Rattle.law_2_chains.proofs.Finishing.{committed_more}
 use Rattle.law_3_outputs.specs.Replied.{root_told}
@@ -33,9 +33,9 @@ use Rattle.law_1_machine.specs.Members.{Message}
 use Rattle.law_1_machine.proofs.Laws.{durability}
 use Rattle.law_2_chains.specs.Chains.{Setup, WasSent}
 use Rattle.law_2_chains.specs.Reflecting.{entries_by}
-use Rattle.law_2_chains.specs.Commitment.{Evidence, IsCommitted, AreCommitted, IsBackedMessage, IsLine}
-use Rattle.law_2_chains.specs.Safe.{IsHashed, IsOutput, KeepsEntry, CarriesEntry, wrote, given, before, evidence, run_outputs}
-use Rattle.law_2_chains.specs.Safe as safe
+use Rattle.vr_world.specs.Commitment.{Evidence, IsCommitted, AreCommitted, IsBackedMessage, IsLine}
+use Rattle.vr_world.specs.Safe.{IsHashed, IsOutput, KeepsEntry, CarriesEntry, wrote, given, before, evidence, run_outputs}
+use Rattle.vr_world.specs.Safe as safe
 use Rattle.law_2_chains.specs.Finished.{AreBacked, IsNumbered}
 use Rattle.law_3_outputs.specs.Followed.{IsFollowed, IsGoodEntry, IsLineOf, by_then}
 use Rattle.law_3_outputs.proofs.Reading.{runs_read}

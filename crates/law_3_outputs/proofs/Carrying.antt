@@ -9,13 +9,13 @@ use Rattle.vr_base.specs.Groups.{quorums_of}
 use Rattle.vr_msg.specs.declared.event.Event.{Event}
 use Rattle.vr_msg.specs.Logs.{IsStatement}
 use Rattle.law_1_machine.specs.Members as machine
-use Rattle.law_2_chains.specs.Group.{Played}
+use Rattle.vr_world.specs.Group.{Played}
 use Rattle.law_3_outputs.specs.Picked.{IsChosenBy}
-use Rattle.law_2_chains.specs.Laws.{IsEvent, IsPresentFrame}
-use Rattle.law_2_chains.specs.Replica.{Replica, version}
+use Rattle.vr_rules.specs.Laws.{IsEvent, IsPresentFrame}
+use Rattle.vr_rules.specs.Replica.{Replica, version}
 use Rattle.law_2_chains.specs.Chains.{Setup}
 use Rattle.law_2_chains.specs.Choices.{IsMadeFrom}
-use Rattle.law_2_chains.specs.Safe.{actor, all_heard, event_of}
+use Rattle.vr_world.specs.Safe.{actor, all_heard, event_of}
 use Rattle.law_3_outputs.specs.Followed.{IsChoiceLine, IsFrom}
 
 pub from_is : (MayAsk : ℕ → Type 0) (old new : Replica) (from : ℕ) (m : Frame) → from ≡ new.index → IsPresentFrame MayAsk old new m → IsFrom from m

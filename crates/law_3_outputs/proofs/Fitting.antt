@@ -6,22 +6,22 @@ use Rattle.vr_header.specs.Made.{Whole}
 use Rattle.vr_rings.specs.Slots.{IsWhole}
 use Rattle.vr_msg.specs.declared.event.Event.{Event}
 use Rattle.vr_super.specs.Copies.{IsGood, SuperValue}
-use Rattle.law_2_chains.specs.Replica.{Replica}
-use Rattle.law_2_chains.specs.Migrating.{migrated}
-use Rattle.law_2_chains.specs.Steps.{Effect, Mend, Save, Write, Step}
-use Rattle.law_2_chains.specs.Lying.{Lying, lying}
-use Rattle.law_2_chains.specs.Laws.{IsEvent}
-use Rattle.law_2_chains.specs.Fit.{IsFit, MayCome, ReadsWell}
-use Rattle.law_2_chains.specs.Group.{Member, Group, Arrival, Asked, Message, Time, Move, Moved, Moves, Played, Run, ended, goes, fresh_group, IsArrival, MayOpen, migration, opening_script, stepped}
-use Rattle.law_2_chains.specs.Group as group
-use Rattle.law_2_chains.specs.Files.{IsOfFile}
-use Rattle.law_2_chains.specs.GroupFit.{IsFitReplica, IsFitGroup, IsFitArrival, IsFitMove, IsFitPlayed}
-use Rattle.law_2_chains.proofs.InTwo.{opening_in_two}
-use Rattle.law_2_chains.proofs.FitMessages.{asked_may_come}
-use Rattle.law_2_chains.proofs.FitSteps.{steps_fit}
-use Rattle.law_2_chains.proofs.FitOpening.{openings_fit}
-use Rattle.law_2_chains.proofs.FitLies.{lies_fit}
-use Rattle.law_2_chains.proofs.FitGroups.{good_value, groups_fit}
+use Rattle.vr_rules.specs.Replica.{Replica}
+use Rattle.vr_rules.specs.Migrating.{migrated}
+use Rattle.vr_rules.specs.Steps.{Effect, Mend, Save, Write, Step}
+use Rattle.vr_world.specs.Lying.{Lying, lying}
+use Rattle.vr_rules.specs.Laws.{IsEvent}
+use Rattle.vr_rules.specs.Fit.{IsFit, MayCome, ReadsWell}
+use Rattle.vr_world.specs.Group.{Member, Group, Arrival, Asked, Message, Time, Move, Moved, Moves, Played, Run, ended, goes, fresh_group, IsArrival, MayOpen, migration, opening_script, stepped}
+use Rattle.vr_world.specs.Group as group
+use Rattle.vr_world.specs.Files.{IsOfFile}
+use Rattle.vr_world.specs.GroupFit.{IsFitReplica, IsFitGroup, IsFitArrival, IsFitMove, IsFitPlayed}
+use Rattle.vr_world.proofs.InTwo.{opening_in_two}
+use Rattle.vr_rules.proofs.FitMessages.{asked_may_come}
+use Rattle.vr_rules.proofs.FitSteps.{steps_fit}
+use Rattle.vr_rules.proofs.FitOpening.{openings_fit}
+use Rattle.vr_world.proofs.FitLies.{lies_fit}
+use Rattle.vr_world.proofs.FitGroups.{good_value, groups_fit}
 use Rattle.law_2_chains.proofs.StoredLists.{in_contains}
 use Rattle.law_3_outputs.specs.Followed.{IsFitRun, IsGoodEntry}
 use Rattle.law_3_outputs.specs.Written.{WritesGood}

@@ -8,11 +8,11 @@ use Rattle.vr_header.specs.Names.{header_name, name_by, root_by}
 use Rattle.vr_header.specs.NoCollision.{NoCollision}
 use Rattle.vr_header.specs.Spelling.{IsHeader, named_bytes}
 use Rattle.vr_header.proofs.NameLaws.{one_header}
-use Rattle.law_2_chains.specs.Replica.{replication}
-use Rattle.law_2_chains.specs.Group.{Played}
+use Rattle.vr_rules.specs.Replica.{replication}
+use Rattle.vr_world.specs.Group.{Played}
 use Rattle.law_2_chains.specs.Lone.{vouch_for}
-use Rattle.law_2_chains.specs.Steps.{Write}
-use Rattle.law_2_chains.specs.Storing.{run_stored, stored_of}
+use Rattle.vr_rules.specs.Steps.{Write}
+use Rattle.vr_world.specs.Storing.{run_stored, stored_of}
 use Rattle.law_1_machine.specs.Basics.{In}
 use Rattle.law_1_machine.specs.Group.{Group, Vouches}
 use Rattle.law_1_machine.specs.History.{History}
@@ -27,10 +27,10 @@ use Rattle.law_2_chains.specs.Chains.{Setup}
 use Rattle.law_2_chains.specs.Reflecting.{entries_by}
 use Rattle.law_2_chains.proofs.Counting.{size_count}
 use Rattle.law_2_chains.proofs.Making.{logged_made}
-use Rattle.law_2_chains.specs.Commitment as said
-use Rattle.law_2_chains.specs.Commitment.{IsCommitted, Stored}
-use Rattle.law_2_chains.specs.Safe.{IsHashed, wrote, IsWritten, evidence, run_outputs}
-use Rattle.law_2_chains.specs.Safe as safe
+use Rattle.vr_world.specs.Commitment as said
+use Rattle.vr_world.specs.Commitment.{IsCommitted, Stored}
+use Rattle.vr_world.specs.Safe.{IsHashed, wrote, IsWritten, evidence, run_outputs}
+use Rattle.vr_world.specs.Safe as safe
 use Rattle.law_3_outputs.specs.Followed.{IsFollowed, by_then, own_vouches, stored_until}
 use Rattle.law_2_chains.proofs.StoredLists.{contains_in, in_contains}
 use Rattle.law_3_outputs.proofs.Sets.{get_in}

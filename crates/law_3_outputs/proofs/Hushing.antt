@@ -1,6 +1,6 @@
 -- An opening replies nothing: none that goes on to apply leads its view.
 use Rattle.std.proofs.Common.{ℕ, zero, suc, ◌+◌, ◌≡◌, refl, arith, Bool, true, false, cond, eqb, List, [], ◌∷◌, Option, Some, None}
-use Rattle.vr_ckpt.specs.StateTexts.{state_decoded}
+use Rattle.vr_state.specs.StateTexts.{state_decoded}
 use Rattle.std.proofs.lemmas.List.Elements.{All-nil, All-cons, All-contains}
 use Rattle.std.specs.Prelude.{⊤, All, Contains, nat_lt, nat_le, not}
 use Rattle.std.proofs.lemmas.Bool.{and_parts, eqb-true, ne_eqb, cond_both}
@@ -17,12 +17,12 @@ use Rattle.vr_recover.specs.declared.readings.Verdict.{Verdict}
 use Rattle.vr_recover.specs.declared.readings.Verdict.TheVariants as verdict
 use Rattle.vr_super.specs.Copies.{SuperValue}
 use Rattle.vr_msg.specs.Choice.{ops}
-use Rattle.law_2_chains.specs.Outputs.{applied_reply, commit_line, others, send, send_to_all, start_line, start_view_change}
-use Rattle.law_2_chains.specs.Replica.{Replica, forgetting, is_spent, is_started, last_view, leads, part_at, with_part, version}
-use Rattle.law_2_chains.specs.Steps.{Effect, Mend, Setting, Step, Word, ◌⨾◌, quiet, change, does, says, by, reading, times, each, outputs, after_all}
-use Rattle.law_2_chains.specs.Words as words
-use Rattle.law_2_chains.specs.Opening as opening
-use Rattle.law_2_chains.proofs.SendsScripts.{outputs_append, outputs_said}
+use Rattle.vr_rules.specs.Outputs.{applied_reply, commit_line, others, send, send_to_all, start_line, start_view_change}
+use Rattle.vr_rules.specs.Replica.{Replica, forgetting, is_spent, is_started, last_view, leads, part_at, with_part, version}
+use Rattle.vr_rules.specs.Steps.{Effect, Mend, Setting, Step, Word, ◌⨾◌, quiet, change, does, says, by, reading, times, each, outputs, after_all}
+use Rattle.vr_rules.specs.Words as words
+use Rattle.vr_rules.specs.Opening as opening
+use Rattle.vr_rules.proofs.SendsScripts.{outputs_append, outputs_said}
 use Rattle.law_1_machine.specs.Basics.{In}
 use Rattle.law_2_chains.specs.Chains.{Every}
 use Rattle.law_2_chains.proofs.Scripts.{every_append}

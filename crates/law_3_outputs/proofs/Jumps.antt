@@ -8,12 +8,12 @@ use Rattle.vr_header.specs.declared.header.Header.{Header}
 use Rattle.vr_msg.specs.declared.frame.SyncView.{SyncView}
 use Rattle.vr_msg.specs.declared.output.Output.{Output}
 use Rattle.vr_msg.specs.Choice.{ops}
-use Rattle.law_2_chains.specs.Deciding.{Hash}
-use Rattle.law_2_chains.specs.Replica.{Replica, forgetting, header_at, is_here, part_at}
-use Rattle.law_2_chains.specs.Rules.{acknowledge, acknowledge_stored}
-use Rattle.law_2_chains.specs.Steps.{Setting, Step, Word, ◌⨾◌, after_all, by, change, does, each, outputs, quiet, says, times, when}
-use Rattle.law_2_chains.specs.Words.{apply, apply_entry, apply_next, is_loaded, jump, jumped, save, with_entry_at}
-use Rattle.law_2_chains.proofs.SendsScripts.{outputs_append, outputs_said}
+use Rattle.vr_rules.specs.Deciding.{Hash}
+use Rattle.vr_rules.specs.Replica.{Replica, forgetting, header_at, is_here, part_at}
+use Rattle.vr_rules.specs.Rules.{acknowledge, acknowledge_stored}
+use Rattle.vr_rules.specs.Steps.{Setting, Step, Word, ◌⨾◌, after_all, by, change, does, each, outputs, quiet, says, times, when}
+use Rattle.vr_rules.specs.Words.{apply, apply_entry, apply_next, is_loaded, jump, jumped, save, with_entry_at}
+use Rattle.vr_rules.proofs.SendsScripts.{outputs_append, outputs_said}
 use Rattle.law_2_chains.specs.Chains.{Every}
 use Rattle.law_2_chains.proofs.Scripts.{every_append}
 use Rattle.law_3_outputs.specs.Answering.{IsMute, Jumps}

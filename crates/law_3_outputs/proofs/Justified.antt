@@ -19,8 +19,8 @@ use Rattle.vr_msg.specs.Choice.{IsChoice, denies, denies_as_newest, denies_as_ol
 use Rattle.vr_choose.proofs.Bounds.{bounded, some_statements}
 use Rattle.vr_choose.proofs.Choices.{choice_meets}
 use Rattle.vr_choose.proofs.Standing.{headers_stand}
-use Rattle.law_2_chains.specs.Group.{Played}
-use Rattle.law_2_chains.proofs.Trying.{log_end_is}
+use Rattle.vr_world.specs.Group.{Played}
+use Rattle.vr_rules.proofs.Trying.{log_end_is}
 use Rattle.law_1_machine.specs.Choosing.{Denies, plainly, other, silent}
 use Rattle.law_1_machine.specs.Group.{Group, Vouches}
 use Rattle.law_1_machine.specs.Laws.{CutByNacks}
@@ -28,9 +28,9 @@ use Rattle.law_1_machine.specs.Parts.{header, denied}
 use Rattle.law_1_machine.proofs.Laws.{cut_by_nacks}
 use Rattle.law_2_chains.specs.Chains.{Setup, statement_told}
 use Rattle.law_2_chains.specs.Reflecting.{entries_by, told_of}
-use Rattle.law_2_chains.specs.Safe.{IsDenier, IsJustified, all_heard, evidence, heard_from}
+use Rattle.vr_world.specs.Safe.{IsDenier, IsJustified, all_heard, evidence, heard_from}
 use Rattle.law_2_chains.proofs.Choosing.{told_some}
-use Rattle.law_2_chains.specs.Replica.{version}
+use Rattle.vr_rules.specs.Replica.{version}
 use Rattle.law_3_outputs.specs.Followed.{IsChoiceLine, IsFollowed}
 use Rattle.law_3_outputs.proofs.Sets.{set_of}
 use Rattle.law_3_outputs.proofs.Traces.{chosen_later, last}

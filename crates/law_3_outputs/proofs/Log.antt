@@ -5,10 +5,10 @@ use Rattle.std.proofs.Math.Nat.{mod-lt}
 use Rattle.vr_header.specs.declared.header.Header.{Header}
 use Rattle.vr_header.specs.Made.{Whole}
 use Rattle.std.proofs.lemmas.Option.{slice_get_within}
-use Rattle.law_2_chains.specs.Group.{Played}
-use Rattle.law_2_chains.specs.Steps.{Write}
-use Rattle.law_2_chains.specs.Safe.{wrote}
-use Rattle.law_2_chains.specs.Safe as safe
+use Rattle.vr_world.specs.Group.{Played}
+use Rattle.vr_rules.specs.Steps.{Write}
+use Rattle.vr_world.specs.Safe.{wrote}
+use Rattle.vr_world.specs.Safe as safe
 use Rattle.law_3_outputs.specs.Replied.{IsLogOf}
 use Rattle.law_1_machine.specs.History.{History}
 use Rattle.law_1_machine.specs.Invariant.{Invariant}

@@ -11,8 +11,8 @@ use Rattle.vr_base.specs.Replicas.{size}
 use Rattle.vr_header.specs.declared.header.Header.{Header}
 use Rattle.vr_header.specs.Made.{Whole}
 use Rattle.vr_ckpt.specs.declared.name.Name.{Name}
-use Rattle.vr_ckpt.specs.SessionAnswer.{SessionAnswer}
-use Rattle.vr_ckpt.specs.SessionAnswer.TheVariants as answer
+use Rattle.vr_state.specs.declared.session.SessionAnswer.{SessionAnswer}
+use Rattle.vr_state.specs.declared.session.SessionAnswer.TheVariants as answer
 use Rattle.vr_msg.specs.Choice.{ops}
 use Rattle.vr_msg.specs.declared.choice.Choice.{Choice}
 use Rattle.vr_msg.specs.declared.choice.Choice.TheVariants.{Ends, WaitsAt, TooFew}
@@ -36,24 +36,24 @@ use Rattle.vr_msg.specs.declared.frame.SyncView.{SyncView}
 use Rattle.vr_msg.specs.declared.output.Output.TheVariants as output
 use Rattle.vr_msg.specs.declared.request.RequestFields.{RequestFields}
 use Rattle.vr_msg.specs.declared.statement.Statement.{Statement}
-use Rattle.law_2_chains.specs.Deciding.{Hash, session_answer, request_table, prepare_table, prepare_ok_table, commit_table, start_view_change_table, do_view_change_table, log_of, start_view_table, get_view_table, get_prepare_table, give_prepare_table, get_block_table, is_wanted, give_block_table, tick_table, is_from_primary, is_known, get_sync_table, sync_view_table}
-use Rattle.law_2_chains.specs.Asker.{Asker}
-use Rattle.law_2_chains.specs.Laws.{HasNames, IsEvent, IsMessage}
-use Rattle.law_2_chains.specs.Outputs.{send_to, send_to_all, to_primary, prepare, commit_message, do_view_change, start_view, start_view_change, get_view, get_sync, sync_view, give_prepare, give_block, wait_line}
-use Rattle.law_2_chains.specs.Replica.{Replica, is_alone, head, header_at, is_here, is_frozen, is_spent, is_primary, is_started, last_view, part_at, view_change, version}
-use Rattle.law_2_chains.specs.Rules.{asker_by, next_entry, make, stored_reply, obey_request, on_request, acknowledge, ask_view, obey_prepare, on_prepare, acknowledged, obey_prepare_ok, on_prepare_ok, obey_commit, on_commit, heard_of, obey_start_view_change, on_start_view_change, with_statement, obey_do_view_change, on_do_view_change, acknowledge_stored, obey_start_view, on_start_view, obey_get_view, on_get_view, obey_get_prepare, on_get_prepare, obey_give_prepare, on_give_prepare, asked_block, block_at, give_read, obey_get_block, on_get_block, without, put_block, put_found, mend_found, not_worn, obey_give_block, on_give_block, obey_get_sync, on_get_sync, obey_sync_view, on_sync_view, test_of, idler, next_view, obey_tick, on_tick, on_message, on_event, react}
-use Rattle.law_2_chains.specs.Sound.{IsSound, IsStated}
-use Rattle.law_2_chains.specs.Steps.{PutBlock, Say, Setting, Step, Word, ◌⨾◌, quiet, change, does, says, by, naming, reading, when, each, outputs, after_all}
-use Rattle.law_2_chains.specs.Words.{Log, rested, enter, write, accept, may_take, take, apply, advance, advanced, has_quorum, learn, learned, is_loaded, load, prepare_again, stated, chosen_log, choose_line, begin_view, try_log, obey_choice, decided, try, speak, resend, ask, visit}
-use Rattle.law_2_chains.proofs.Combining.{KeptBy, Keeps, kept_change_then, kept_does_then, kept_by, kept_when, keeps_says, keeps_quiet, keeps_by, keeps_change, keeps_each, keeps_when}
-use Rattle.law_2_chains.proofs.Keeping.{Kept, sound_commit}
-use Rattle.law_2_chains.proofs.Reacting.{may_store_next, kept_without, keeps_idler}
-use Rattle.law_2_chains.proofs.Ruling.{by_rows, group_of, group_of_primary, may_store_prepare, may_store_given, keeps_acknowledged, keeps_heard, kept_statement, in_view, told_log, IsFor, for_of}
-use Rattle.law_2_chains.proofs.Storing.{MayStore}
-use Rattle.law_2_chains.specs.Given.{IsLogFor}
-use Rattle.law_2_chains.proofs.Taking.{MayTake, may_take_is, kept_take}
-use Rattle.law_2_chains.proofs.Trying.{all_stated, chosen_log_is, decided_ends, keeps_speak}
-use Rattle.law_2_chains.proofs.Wording.{keeps_rested, kept_rested, kept_enter, kept_write, kept_accept, keeps_prepare_again, keeps_resend, kept_load}
+use Rattle.vr_rules.specs.Deciding.{Hash, session_answer, request_table, prepare_table, prepare_ok_table, commit_table, start_view_change_table, do_view_change_table, log_of, start_view_table, get_view_table, get_prepare_table, give_prepare_table, get_block_table, is_wanted, give_block_table, tick_table, is_from_primary, is_known, get_sync_table, sync_view_table}
+use Rattle.vr_rules.specs.declared.asker.Asker.{Asker}
+use Rattle.vr_rules.specs.Laws.{HasNames, IsEvent, IsMessage}
+use Rattle.vr_rules.specs.Outputs.{send_to, send_to_all, to_primary, prepare, commit_message, do_view_change, start_view, start_view_change, get_view, get_sync, sync_view, give_prepare, give_block, wait_line}
+use Rattle.vr_rules.specs.Replica.{Replica, is_alone, head, header_at, is_here, is_frozen, is_spent, is_primary, is_started, last_view, part_at, view_change, version}
+use Rattle.vr_rules.specs.Rules.{asker_by, next_entry, make, stored_reply, obey_request, on_request, acknowledge, ask_view, obey_prepare, on_prepare, acknowledged, obey_prepare_ok, on_prepare_ok, obey_commit, on_commit, heard_of, obey_start_view_change, on_start_view_change, with_statement, obey_do_view_change, on_do_view_change, acknowledge_stored, obey_start_view, on_start_view, obey_get_view, on_get_view, obey_get_prepare, on_get_prepare, obey_give_prepare, on_give_prepare, asked_block, block_at, give_read, obey_get_block, on_get_block, without, put_block, put_found, mend_found, not_worn, obey_give_block, on_give_block, obey_get_sync, on_get_sync, obey_sync_view, on_sync_view, test_of, idler, next_view, obey_tick, on_tick, on_message, on_event, react}
+use Rattle.vr_rules.specs.Sound.{IsSound, IsStated}
+use Rattle.vr_rules.specs.Steps.{PutBlock, Say, Setting, Step, Word, ◌⨾◌, quiet, change, does, says, by, naming, reading, when, each, outputs, after_all}
+use Rattle.vr_rules.specs.Words.{Log, rested, enter, write, accept, may_take, take, apply, advance, advanced, has_quorum, learn, learned, is_loaded, load, prepare_again, stated, chosen_log, choose_line, begin_view, try_log, obey_choice, decided, try, speak, resend, ask, visit}
+use Rattle.vr_rules.proofs.Combining.{KeptBy, Keeps, kept_change_then, kept_does_then, kept_by, kept_when, keeps_says, keeps_quiet, keeps_by, keeps_change, keeps_each, keeps_when}
+use Rattle.vr_rules.proofs.Keeping.{Kept, sound_commit}
+use Rattle.vr_rules.proofs.Reacting.{may_store_next, kept_without, keeps_idler}
+use Rattle.vr_rules.proofs.Ruling.{by_rows, group_of, group_of_primary, may_store_prepare, may_store_given, keeps_acknowledged, keeps_heard, kept_statement, in_view, told_log, IsFor, for_of}
+use Rattle.vr_rules.proofs.Storing.{MayStore}
+use Rattle.vr_rules.specs.Given.{IsLogFor}
+use Rattle.vr_rules.proofs.Taking.{MayTake, may_take_is, kept_take}
+use Rattle.vr_rules.proofs.Trying.{all_stated, chosen_log_is, decided_ends, keeps_speak}
+use Rattle.vr_rules.proofs.Wording.{keeps_rested, kept_rested, kept_enter, kept_write, kept_accept, keeps_prepare_again, keeps_resend, kept_load}
 use Rattle.law_3_outputs.specs.Answering.{Jumps}
 use Rattle.law_3_outputs.specs.Ordered.{ComesInOrder, IsOrderly}
 use Rattle.law_3_outputs.proofs.Jumps.{sync_jumps}

@@ -10,22 +10,22 @@ use Rattle.vr_header.specs.declared.part.Part.TheVariants.{Here, Lost, Wanted, U
 use Rattle.vr_header.specs.Made.{Whole}
 use Rattle.vr_header.specs.Same.{same_header}
 use Rattle.vr_header.proofs.SameHeaders.{same_header_is}
-use Rattle.vr_ckpt.specs.Folds as state
+use Rattle.vr_state.specs.Folds as state
 use Rattle.vr_msg.specs.declared.frame.Frame.{Frame}
 use Rattle.vr_msg.specs.declared.output.Committed.{Committed}
 use Rattle.vr_msg.specs.declared.output.Output.{Output}
 use Rattle.vr_msg.specs.declared.output.Output.TheVariants as output
-use Rattle.vr_msg.specs.Logs.{header_of}
+use Rattle.vr_header.specs.Parts.{header_of}
 use Rattle.vr_ckpt.specs.declared.name.Name.{Name}
-use Rattle.law_2_chains.specs.Outputs.{kind_of, replies, asker_of, commit_line, applied_reply, send, send_to_all, others, to_primary, prepare, prepare_ok, start_view_change, get_block, get_prepare}
-use Rattle.law_2_chains.specs.Replica.{Replica, is_alone, leads, part_at, with_part, forgetting, last_view, is_primary, is_started, is_here}
-use Rattle.law_2_chains.specs.Sound.{IsSound}
-use Rattle.law_2_chains.specs.Steps.{Effect, Mend, Rewrite, Say, Setting, Step, Word, ◌⨾◌, quiet, change, does, says, by, naming, reading, when, times, each, outputs, after_all}
-use Rattle.law_2_chains.specs.Words.{Log, rested, entered, enter, saves, with_saved, save, writes, stored, write, accept, entry_of, lost, or_lost, with_entry, with_entry_at, applied, checkpoints, with_checkpoint, checkpoint_of, make_checkpoint, is_checkpoint, apply_entry, is_loaded, apply_next, apply, taken, take as take_over, prepare_again, resend, turned, ask_peer, ask_for, ask, least_absent, load, loads, checkpoint_at, blocks_of, header_read, mend_header, op_of_slot, place_now, visit, visit_block, visit_place, visit_read, visit_slot, with_cursor, with_worn}
-use Rattle.law_2_chains.specs.Commitment.{is_line_of}
-use Rattle.law_2_chains.proofs.SendsScripts.{outputs_append, outputs_said}
-use Rattle.law_2_chains.proofs.Combining.{KeptBy, Keeps}
-use Rattle.law_2_chains.proofs.Wording.{keeps_apply_next}
+use Rattle.vr_rules.specs.Outputs.{kind_of, replies, asker_of, commit_line, applied_reply, send, send_to_all, others, to_primary, prepare, prepare_ok, start_view_change, get_block, get_prepare}
+use Rattle.vr_rules.specs.Replica.{Replica, is_alone, leads, part_at, with_part, forgetting, last_view, is_primary, is_started, is_here}
+use Rattle.vr_rules.specs.Sound.{IsSound}
+use Rattle.vr_rules.specs.Steps.{Effect, Mend, Rewrite, Say, Setting, Step, Word, ◌⨾◌, quiet, change, does, says, by, naming, reading, when, times, each, outputs, after_all}
+use Rattle.vr_rules.specs.Words.{Log, rested, entered, enter, saves, with_saved, save, writes, stored, write, accept, entry_of, lost, or_lost, with_entry, with_entry_at, applied, checkpoints, with_checkpoint, checkpoint_of, make_checkpoint, is_checkpoint, apply_entry, is_loaded, apply_next, apply, taken, take as take_over, prepare_again, resend, turned, ask_peer, ask_for, ask, least_absent, load, loads, checkpoint_at, blocks_of, header_read, mend_header, op_of_slot, place_now, visit, visit_block, visit_place, visit_read, visit_slot, with_cursor, with_worn}
+use Rattle.vr_world.specs.Commitment.{is_line_of}
+use Rattle.vr_rules.proofs.SendsScripts.{outputs_append, outputs_said}
+use Rattle.vr_rules.proofs.Combining.{KeptBy, Keeps}
+use Rattle.vr_rules.proofs.Wording.{keeps_apply_next}
 use Rattle.law_2_chains.specs.Chains.{Every}
 use Rattle.law_2_chains.proofs.Scripts.{every_append}
 use Rattle.law_2_chains.proofs.Repairs.{every_mapped}

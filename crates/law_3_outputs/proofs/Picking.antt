@@ -9,16 +9,16 @@ use Rattle.vr_base.specs.Groups.{quorums_of}
 use Rattle.vr_base.specs.declared.table.Quorums.{Quorums}
 use Rattle.vr_msg.specs.declared.output.Chosen.{Chosen}
 use Rattle.vr_msg.specs.Choice.{choice, top_commit, top_view}
-use Rattle.law_2_chains.specs.Replica.{Replica, is_frozen, last_view, statement_of, head, version}
-use Rattle.law_2_chains.specs.Steps.{Setting, Word, ◌⨾◌, quiet, change, does, says, by, outputs}
-use Rattle.law_2_chains.specs.Words as words
-use Rattle.law_2_chains.specs.Words.{log_end, stated}
-use Rattle.law_2_chains.proofs.Ruling.{by_rows, IsFor, for_of}
-use Rattle.law_2_chains.specs.Sound.{IsSound}
-use Rattle.law_2_chains.specs.Laws.{IsEvent}
+use Rattle.vr_rules.specs.Replica.{Replica, is_frozen, last_view, statement_of, head, version}
+use Rattle.vr_rules.specs.Steps.{Setting, Word, ◌⨾◌, quiet, change, does, says, by, outputs}
+use Rattle.vr_rules.specs.Words as words
+use Rattle.vr_rules.specs.Words.{log_end, stated}
+use Rattle.vr_rules.proofs.Ruling.{by_rows, IsFor, for_of}
+use Rattle.vr_rules.specs.Sound.{IsSound}
+use Rattle.vr_rules.specs.Laws.{IsEvent}
 use Rattle.vr_msg.specs.Logs.{IsStatement}
-use Rattle.law_2_chains.proofs.Stating.{own_statement}
-use Rattle.law_2_chains.specs.Safe.{all_heard, brought, heard_from, or_else}
+use Rattle.vr_rules.proofs.Stating.{own_statement}
+use Rattle.vr_world.specs.Safe.{all_heard, brought, heard_from, or_else}
 use Rattle.law_3_outputs.specs.Picked.{IsChosenBy}
 use Rattle.vr_header.specs.declared.header.Header.{Header}
 use Rattle.vr_msg.specs.declared.choice.Choice.TheVariants.{Ends, TooFew}
@@ -30,11 +30,11 @@ use Rattle.vr_msg.specs.declared.frame.Frame.{Frame}
 use Rattle.vr_msg.specs.declared.frame.StartViewChange.{StartViewChange}
 use Rattle.vr_msg.specs.declared.output.Output.TheVariants as output
 use Rattle.vr_msg.specs.declared.statement.Statement.{Statement}
-use Rattle.law_2_chains.proofs.SilentWaits.{Mute, mute_all, mute_by, mute_change, mute_if, mute_naming, mute_one, mute_prepare_again, mute_quiet, mute_reading, mute_then, mute_visit}
-use Rattle.law_2_chains.proofs.SilentSteps.{still_enter, still_ask, mute_commit, mute_get_block, mute_get_prepare, mute_get_view, mute_give_block, mute_give_prepare, mute_prepare, mute_prepare_ok, mute_request, mute_start_view, mute_get_sync, mute_sync_view}
-use Rattle.law_2_chains.specs.Deciding.{commit_table, do_view_change_table, first_of, get_block_table, get_prepare_table, get_sync_table, get_view_table, give_block_table, give_prepare_table, is_from, prepare_ok_table, prepare_table, request_table, start_view_change_table, start_view_table, sync_view_table, tick_table, is_for}
-use Rattle.law_2_chains.specs.Outputs as told
-use Rattle.law_2_chains.specs.Rules as rules
+use Rattle.vr_rules.proofs.SilentWaits.{Mute, mute_all, mute_by, mute_change, mute_if, mute_naming, mute_one, mute_prepare_again, mute_quiet, mute_reading, mute_then, mute_visit}
+use Rattle.vr_rules.proofs.SilentSteps.{still_enter, still_ask, mute_commit, mute_get_block, mute_get_prepare, mute_get_view, mute_give_block, mute_give_prepare, mute_prepare, mute_prepare_ok, mute_request, mute_start_view, mute_get_sync, mute_sync_view}
+use Rattle.vr_rules.specs.Deciding.{commit_table, do_view_change_table, first_of, get_block_table, get_prepare_table, get_sync_table, get_view_table, give_block_table, give_prepare_table, is_from, prepare_ok_table, prepare_table, request_table, start_view_change_table, start_view_table, sync_view_table, tick_table, is_for}
+use Rattle.vr_rules.specs.Outputs as told
+use Rattle.vr_rules.specs.Rules as rules
 use Rattle.law_2_chains.proofs.Picking.{GoesOn, Hears, IsPicked, MayPick, PicksAt, at_if, at_then, goes_entered, goes_heard, goes_idler, goes_itself, goes_rested, hears_none, hears_statement, no_brought, plain, speak_at, stated_is, try_at}
 
 each_heard : {X : Type 0} (P : X → Type 0) (f : ℕ → Option X) (is : List ℕ) → ((i : ℕ) (x : X) → f i ≡ Some x → P x) → All P (filter_map f is)

@@ -5,18 +5,18 @@ use Rattle.std.specs.Prelude.{All, slice_get, slice_set}
 use Rattle.std.proofs.lemmas.List.Elements.{All-head, All-tail}
 use Rattle.vr_super.specs.Copies.{IsGood, SuperValue}
 use Rattle.vr_msg.specs.declared.event.Event.{Event}
-use Rattle.law_2_chains.specs.Replica.{Replica}
-use Rattle.law_2_chains.specs.Lying.{Lying, lying}
-use Rattle.law_2_chains.specs.Laws.{Answers, IsPlaced, IsPresent}
-use Rattle.law_2_chains.specs.Opening.{AreKinds, blank, fresh}
-use Rattle.law_2_chains.specs.Group.{Member, Group, Move, Moved, Moves, Played, Run, Runs, ended, goes, fresh_group, opening_script, resumed, stepped}
-use Rattle.law_2_chains.specs.Group as group
-use Rattle.law_2_chains.specs.GroupFit.{IsFitGroup, IsFitMove}
-use Rattle.law_2_chains.proofs.FitFresh.{fresh_fits}
-use Rattle.law_2_chains.proofs.FitGroups.{fresh_at, fresh_group_fits, groups_fit}
-use Rattle.law_2_chains.proofs.InTwo.{opening_in_two}
-use Rattle.law_2_chains.proofs.SendsSteps.{steps_are_present}
-use Rattle.law_2_chains.proofs.SendsOpening.{openings_are_present}
+use Rattle.vr_rules.specs.Replica.{Replica}
+use Rattle.vr_world.specs.Lying.{Lying, lying}
+use Rattle.vr_rules.specs.Laws.{Answers, IsPlaced, IsPresent}
+use Rattle.vr_rules.specs.Opening.{AreKinds, blank, fresh}
+use Rattle.vr_world.specs.Group.{Member, Group, Move, Moved, Moves, Played, Run, Runs, ended, goes, fresh_group, opening_script, resumed, stepped}
+use Rattle.vr_world.specs.Group as group
+use Rattle.vr_world.specs.GroupFit.{IsFitGroup, IsFitMove}
+use Rattle.vr_rules.proofs.FitFresh.{fresh_fits}
+use Rattle.vr_world.proofs.FitGroups.{fresh_at, fresh_group_fits, groups_fit}
+use Rattle.vr_world.proofs.InTwo.{opening_in_two}
+use Rattle.vr_rules.proofs.SendsSteps.{steps_are_present}
+use Rattle.vr_rules.proofs.SendsOpening.{openings_are_present}
 use Rattle.law_3_outputs.specs.Followed.{IsFitRun}
 use Rattle.law_3_outputs.proofs.Fitting.{opening_of}
 

@@ -6,18 +6,18 @@ use Rattle.vr_msg.specs.declared.output.Committed.{Committed}
 use Rattle.vr_msg.specs.declared.output.Output.{Output}
 use Rattle.vr_msg.specs.declared.output.Output.TheVariants as output
 use Rattle.vr_super.specs.Copies.{IsGood, SuperValue}
-use Rattle.law_2_chains.specs.Fit.{IsFit, ReadsWell}
-use Rattle.law_2_chains.specs.Group.{Group, Move, Moved, Moves, Played, fresh_group, mended, opening_script, resumed}
-use Rattle.law_2_chains.specs.Group as group
-use Rattle.law_2_chains.specs.GroupFit.{IsFitGroup, IsFitMove}
-use Rattle.law_2_chains.specs.Lying.{Lying, lying}
-use Rattle.law_2_chains.specs.Opening.{blank}
-use Rattle.law_2_chains.specs.Steps.{Effect, outputs}
-use Rattle.law_2_chains.proofs.FitRules.{names_of}
-use Rattle.law_2_chains.proofs.FitLies.{lies_fit}
-use Rattle.law_2_chains.proofs.FitSteps.{steps_fit}
-use Rattle.law_2_chains.proofs.FitWords.{reads_later}
-use Rattle.law_2_chains.proofs.SendsScripts.{outputs_append}
+use Rattle.vr_rules.specs.Fit.{IsFit, ReadsWell}
+use Rattle.vr_world.specs.Group.{Group, Move, Moved, Moves, Played, fresh_group, mended, opening_script, resumed}
+use Rattle.vr_world.specs.Group as group
+use Rattle.vr_world.specs.GroupFit.{IsFitGroup, IsFitMove}
+use Rattle.vr_world.specs.Lying.{Lying, lying}
+use Rattle.vr_rules.specs.Opening.{blank}
+use Rattle.vr_rules.specs.Steps.{Effect, outputs}
+use Rattle.vr_rules.proofs.FitRules.{names_of}
+use Rattle.vr_world.proofs.FitLies.{lies_fit}
+use Rattle.vr_rules.proofs.FitSteps.{steps_fit}
+use Rattle.vr_rules.proofs.FitWords.{reads_later}
+use Rattle.vr_rules.proofs.SendsScripts.{outputs_append}
 use Rattle.law_1_machine.specs.Basics.{In}
 use Rattle.law_3_outputs.specs.Written.{IsWellRead, StepsReadGood}
 use Rattle.law_3_outputs.specs.Followed.{IsFitRun}

@@ -14,20 +14,20 @@ use Rattle.vr_msg.specs.declared.output.Output.{Output}
 use Rattle.vr_msg.specs.declared.output.Output.TheVariants as output
 use Rattle.vr_msg.specs.declared.output.Committed.{Committed}
 use Rattle.vr_msg.specs.declared.reply.ReplyFields.{ReplyFields}
-use Rattle.law_2_chains.specs.Group.{Arrival, IsArrival, Group, Member, Move, Moved, Moves, Played, Run, Runs, Recovers, Steps, ended, finished, fresh_group, fresh_member, goes, migrates, migrates_cut, migration, recovers, recovers_cut, steps, crashes, cuts, stepped, started, mended, resumed, once_mended, opening_script, cut_in_two, carried_out, cut_after, found, keeps_all}
-use Rattle.law_2_chains.specs.Replica.{Replica, is_frozen}
-use Rattle.law_2_chains.specs.Opening.{blank, fresh}
-use Rattle.law_2_chains.specs.Rules.{react}
-use Rattle.law_2_chains.proofs.InTwo.{opening_in_two}
-use Rattle.law_2_chains.specs.Lying.{Lying, lying}
-use Rattle.law_2_chains.specs.Steps.{Step, by, outputs, quiet}
+use Rattle.vr_world.specs.Group.{Arrival, IsArrival, Group, Member, Move, Moved, Moves, Played, Run, Runs, Recovers, Steps, ended, finished, fresh_group, fresh_member, goes, migrates, migrates_cut, migration, recovers, recovers_cut, steps, crashes, cuts, stepped, started, mended, resumed, once_mended, opening_script, cut_in_two, carried_out, cut_after, found, keeps_all}
+use Rattle.vr_rules.specs.Replica.{Replica, is_frozen}
+use Rattle.vr_rules.specs.Opening.{blank, fresh}
+use Rattle.vr_rules.specs.Rules.{react}
+use Rattle.vr_world.proofs.InTwo.{opening_in_two}
+use Rattle.vr_world.specs.Lying.{Lying, lying}
+use Rattle.vr_rules.specs.Steps.{Step, by, outputs, quiet}
 use Rattle.law_1_machine.specs.Basics.{In}
 use Rattle.law_2_chains.specs.Bridge.{ServesWell}
 use Rattle.law_2_chains.specs.Chains.{Setup}
 use Rattle.law_2_chains.specs.Finished.{AreBacked}
 use Rattle.law_2_chains.specs.Reflecting.{entries_by}
-use Rattle.law_2_chains.specs.Commitment.{IsReplyOf, is_line_of, lines_by}
-use Rattle.law_2_chains.specs.Safe.{IsHashed, IsTrueReply}
+use Rattle.vr_world.specs.Commitment.{IsReplyOf, is_line_of, lines_by}
+use Rattle.vr_world.specs.Safe.{IsHashed, IsTrueReply}
 use Rattle.law_2_chains.proofs.Finishing.{committed_more}
 use Rattle.law_3_outputs.specs.Followed.{IsFollowed, by_then, own_vouches, stored_until}
 use Rattle.law_3_outputs.specs.Answering.{one_if, HasState, IsMute, Jumps, lines, IsTold, Told, Leaves}
@@ -36,8 +36,8 @@ use Rattle.law_3_outputs.proofs.Fitting.{arrives, fit_at, move_of, opening_of}
 use Rattle.law_3_outputs.proofs.Orders.{in_order_lined}
 use Rattle.law_3_outputs.proofs.Resuming.{resumed_have, said_right}
 use Rattle.law_3_outputs.proofs.Ordering.{come_in_order}
-use Rattle.law_2_chains.specs.GroupFit.{IsFitMove}
-use Rattle.law_2_chains.proofs.FitLies.{lies_fit}
+use Rattle.vr_world.specs.GroupFit.{IsFitMove}
+use Rattle.vr_world.proofs.FitLies.{lies_fit}
 use Rattle.law_3_outputs.proofs.Sets.{get_in, in_get, in_left}
 use Rattle.law_3_outputs.proofs.Traces.{every_in}
 use Rattle.law_3_outputs.proofs.Log.{the_log, log_numbered, is_log, in_log}

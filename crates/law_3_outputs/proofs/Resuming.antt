@@ -7,26 +7,26 @@ use Rattle.vr_msg.specs.declared.output.Committed.{Committed}
 use Rattle.vr_msg.specs.declared.output.Output.{Output}
 use Rattle.vr_msg.specs.declared.output.Output.TheVariants as output
 use Rattle.vr_super.specs.Copies.{SuperValue, IsGood}
-use Rattle.law_2_chains.specs.Fit.{ReadsWell}
-use Rattle.law_2_chains.specs.Group.{mended, recovered, resumed}
-use Rattle.law_2_chains.specs.Lying.{Lying, lying}
-use Rattle.law_2_chains.specs.Opening.{Slot, announce, clouded, entry_header, going_on, heard_itself, in_next_view, leave_view, mend_slot, mending, old_headers, old_part, part_by, recover_old, recover_op, recover_parts, rewrite, slot_at, slot_verdict}
+use Rattle.vr_rules.specs.Fit.{ReadsWell}
+use Rattle.vr_world.specs.Group.{mended, recovered, resumed}
+use Rattle.vr_world.specs.Lying.{Lying, lying}
+use Rattle.vr_rules.specs.Opening.{Slot, announce, clouded, entry_header, going_on, heard_itself, in_next_view, leave_view, mend_slot, mending, old_headers, old_part, part_by, recover_old, recover_op, recover_parts, rewrite, slot_at, slot_verdict}
 use Rattle.vr_recover.specs.declared.readings.Verdict.{Verdict}
 use Rattle.vr_recover.specs.declared.readings.Verdict.TheVariants as verdict
 use Rattle.vr_header.specs.declared.header.Header.{Header}
 use Rattle.vr_msg.specs.Choice.{ops}
-use Rattle.law_2_chains.specs.Outputs.{send_to_all, start_line, start_view_change}
-use Rattle.law_2_chains.specs.Replica.{Replica, is_frozen, is_spent, is_started, last_view, leads, forgetting, with_part}
-use Rattle.law_2_chains.specs.Sound.{IsSound}
-use Rattle.law_2_chains.specs.Steps.{Effect, Mend, Setting, Word, ◌⨾◌, by, change, does, quiet, says, when, outputs, after_all, Rewrite}
-use Rattle.law_2_chains.specs.Words.{apply, entry_of, load, save}
-use Rattle.law_2_chains.proofs.Combining.{Keeps, keeps_then, keeps_by, keeps_change, keeps_when}
-use Rattle.law_2_chains.proofs.FitOpening.{headers_of}
-use Rattle.law_2_chains.proofs.Openings as opening
-use Rattle.law_2_chains.proofs.Openings.{Opened, kept_next, left_applied, reads_after}
-use Rattle.law_2_chains.proofs.SendsScripts.{outputs_append}
-use Rattle.law_2_chains.proofs.Slots.{value_is}
-use Rattle.law_2_chains.proofs.Wording.{keeps_save, kept_load}
+use Rattle.vr_rules.specs.Outputs.{send_to_all, start_line, start_view_change}
+use Rattle.vr_rules.specs.Replica.{Replica, is_frozen, is_spent, is_started, last_view, leads, forgetting, with_part}
+use Rattle.vr_rules.specs.Sound.{IsSound}
+use Rattle.vr_rules.specs.Steps.{Effect, Mend, Setting, Word, ◌⨾◌, by, change, does, quiet, says, when, outputs, after_all, Rewrite}
+use Rattle.vr_rules.specs.Words.{apply, entry_of, load, save}
+use Rattle.vr_rules.proofs.Combining.{Keeps, keeps_then, keeps_by, keeps_change, keeps_when}
+use Rattle.vr_rules.proofs.FitOpening.{headers_of}
+use Rattle.vr_rules.proofs.Openings as opening
+use Rattle.vr_rules.proofs.Openings.{Opened, kept_next, left_applied, reads_after}
+use Rattle.vr_rules.proofs.SendsScripts.{outputs_append}
+use Rattle.vr_rules.proofs.Slots.{value_is}
+use Rattle.vr_rules.proofs.Wording.{keeps_save, kept_load}
 use Rattle.law_1_machine.specs.Basics.{In}
 use Rattle.law_3_outputs.specs.Answering.{HasState, IsNumbered, Lined}
 use Rattle.law_3_outputs.specs.Replied.{has_loaded}

@@ -20,14 +20,14 @@ use Rattle.vr_super.specs.Calls.{mend_calls, write_calls}
 use Rattle.vr_super.specs.Copies.{IsGood, SuperValue}
 use Rattle.vr_ckpt.specs.Grid.{block_calls, put_calls}
 use Rattle.vr_ckpt.specs.Saves.{blocks_calls, save_calls, written}
-use Rattle.law_2_chains.specs.Steps.{Effect, Write, Rewrite, Save, Mend, Checkpoint, PutBlock, Say, after_all}
-use Rattle.law_2_chains.specs.Sectors.{calls_by, sectors_by}
-use Rattle.law_2_chains.specs.Lying.{Lying, lying}
-use Rattle.law_2_chains.specs.Fit.{IsFit}
-use Rattle.law_2_chains.specs.Own.{IsOwn}
-use Rattle.law_2_chains.proofs.FitDisks.{SparesSlots, apart, checkpoint_slots, front_reads, header_spares, mend_slots, prepare_spares, put_slots, same_entry, save_slots, slot_below}
-use Rattle.law_2_chains.proofs.FitGroups.{Known, known_first, known_rest}
-use Rattle.law_2_chains.proofs.FitLies.{same_whole}
+use Rattle.vr_rules.specs.Steps.{Effect, Write, Rewrite, Save, Mend, Checkpoint, PutBlock, Say, after_all}
+use Rattle.vr_rules.specs.Sectors.{calls_by, sectors_by}
+use Rattle.vr_world.specs.Lying.{Lying, lying}
+use Rattle.vr_rules.specs.Fit.{IsFit}
+use Rattle.vr_rules.specs.Own.{IsOwn}
+use Rattle.vr_rules.proofs.FitDisks.{SparesSlots, apart, checkpoint_slots, front_reads, header_spares, mend_slots, prepare_spares, put_slots, same_entry, save_slots, slot_below}
+use Rattle.vr_world.proofs.FitGroups.{Known, known_first, known_rest}
+use Rattle.vr_world.proofs.FitLies.{same_whole}
 use Rattle.law_1_machine.specs.Basics.{In}
 
 -- ---- sectors that aren't there don't read

@@ -7,12 +7,12 @@ use Rattle.std.proofs.lemmas.List.{append_assoc, append-nil}
 use Rattle.vr_header.specs.declared.header.Header.{Header}
 use Rattle.vr_super.specs.Copies.{SuperValue}
 use Rattle.vr_msg.specs.declared.output.Output.{Output}
-use Rattle.law_2_chains.specs.Commitment.{Stored}
-use Rattle.law_2_chains.specs.Group.{Group, Member, Played, Run, ended, goes}
+use Rattle.vr_world.specs.Commitment.{Stored}
+use Rattle.vr_world.specs.Group.{Group, Member, Played, Run, ended, goes}
 use Rattle.law_2_chains.specs.Lone.{vouch_for}
-use Rattle.law_2_chains.specs.Replica.{Replica}
-use Rattle.law_2_chains.specs.Steps.{Effect, Write, Rewrite, Save, Mend, Checkpoint, PutBlock, Say}
-use Rattle.law_2_chains.specs.Storing.{done_in, here_in, in_view, names, run_stored, stored_at, stored_by, stored_from, stored_of, until_said}
+use Rattle.vr_rules.specs.Replica.{Replica}
+use Rattle.vr_rules.specs.Steps.{Effect, Write, Rewrite, Save, Mend, Checkpoint, PutBlock, Say}
+use Rattle.vr_world.specs.Storing.{done_in, here_in, in_view, names, run_stored, stored_at, stored_by, stored_from, stored_of, until_said}
 use Rattle.law_1_machine.specs.Basics.{In}
 use Rattle.law_1_machine.specs.Members.{Message}
 use Rattle.law_2_chains.specs.Chains.{Setup}

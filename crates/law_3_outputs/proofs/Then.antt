@@ -5,7 +5,7 @@ use Rattle.vr_msg.specs.declared.frame.Frame.{Frame}
 use Rattle.vr_msg.specs.declared.frame.Frame.TheVariants as frame
 use Rattle.vr_msg.specs.declared.output.Output.{Output}
 use Rattle.vr_msg.specs.declared.output.Output.TheVariants as output
-use Rattle.law_2_chains.specs.Group.{Played}
+use Rattle.vr_world.specs.Group.{Played}
 use Rattle.law_1_machine.specs.Basics.{In}
 use Rattle.law_1_machine.specs.Group.{Group}
 use Rattle.law_1_machine.specs.Members.{Message}

@@ -13,9 +13,9 @@ use Rattle.vr_msg.specs.declared.frame.PrepareOk.{PrepareOk}
 use Rattle.vr_msg.specs.declared.output.Output.{Output}
 use Rattle.vr_msg.specs.declared.output.Output.TheVariants as output
 use Rattle.vr_msg.specs.declared.output.Sent.{Sent}
-use Rattle.law_2_chains.specs.Group.{Played, made_in, made_by_effect}
-use Rattle.law_2_chains.specs.Steps.{Effect, Write, Rewrite, Save, Mend, Checkpoint, PutBlock, Say}
-use Rattle.law_2_chains.proofs.Taking.{log_reaches}
+use Rattle.vr_world.specs.Group.{Played, made_in, made_by_effect}
+use Rattle.vr_rules.specs.Steps.{Effect, Write, Rewrite, Save, Mend, Checkpoint, PutBlock, Say}
+use Rattle.vr_rules.proofs.Taking.{log_reaches}
 use Rattle.law_1_machine.specs.Basics.{In}
 use Rattle.law_1_machine.specs.Group.{Group, Made}
 use Rattle.law_1_machine.specs.Members.{Choice, Message}
@@ -23,7 +23,7 @@ use Rattle.law_1_machine.specs.Members as machine
 use Rattle.law_2_chains.specs.Chains.{Setup, Every, WasSent}
 use Rattle.law_2_chains.specs.Finished.{IsSaid, acknowledged, prepared, a_commit, a_start, a_checkpoint, a_statement}
 use Rattle.law_2_chains.proofs.Finishing.{sent_more}
-use Rattle.law_2_chains.specs.Safe.{run_outputs}
+use Rattle.vr_world.specs.Safe.{run_outputs}
 use Rattle.law_3_outputs.specs.Followed.{IsFrom, IsGoodEntry, IsSo, IsFollowed, by_then}
 use Rattle.law_3_outputs.proofs.Fitting.{writes_good}
 use Rattle.law_3_outputs.proofs.Sets.{get_in, in_left, in_right, every_at, in_get}

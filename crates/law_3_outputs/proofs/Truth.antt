@@ -4,9 +4,9 @@ use Rattle.vr_header.specs.Names.{root_header}
 use Rattle.vr_header.specs.NoCollision.{NoCollision}
 use Rattle.vr_msg.specs.declared.output.Output.{Output}
 use Rattle.vr_msg.specs.declared.output.Output.TheVariants as output
-use Rattle.law_2_chains.specs.Group.{Played}
+use Rattle.vr_world.specs.Group.{Played}
+use Rattle.vr_world.specs.Safe.{IsBacked, IsHashed, IsOutput, Safe}
 use Rattle.law_2_chains.specs.Chains.{Setup}
-use Rattle.law_2_chains.specs.Safe.{IsBacked, IsHashed, IsOutput, Safe}
 use Rattle.law_3_outputs.specs.Followed.{IsFollowed, IsSo, by_then}
 use Rattle.law_3_outputs.specs.Replied.{IsReplied}
 use Rattle.law_3_outputs.proofs.Sets.{get_in}

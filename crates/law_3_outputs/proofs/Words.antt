@@ -1,14 +1,14 @@
 -- Words and what they leave of the state, and what they reply.
 use Rattle.std.proofs.Common.{ℕ, zero, suc, ◌+◌, ◌≡◌, ◌∙◌, arith, refl, sym, ap, subst, Bool, true, false, cond, List, [], ◌∷◌, ◌++◌, map, take}
 use Rattle.vr_header.specs.Made.{Whole}
-use Rattle.vr_ckpt.specs.Folds.{state_after}
+use Rattle.vr_state.specs.Folds.{state_after}
 use Rattle.vr_msg.specs.declared.output.Output.{Output}
 use Rattle.vr_msg.specs.declared.output.Output.TheVariants as output
-use Rattle.law_2_chains.specs.Replica.{Replica}
-use Rattle.law_2_chains.specs.Steps.{Effect, Say, Step, Setting, Word, ◌⨾◌, quiet, change, does, says, by, naming, reading, times, each, outputs, after_all}
-use Rattle.law_2_chains.proofs.SendsScripts.{outputs_append, outputs_said}
+use Rattle.vr_rules.specs.Replica.{Replica}
+use Rattle.vr_rules.specs.Steps.{Effect, Say, Step, Setting, Word, ◌⨾◌, quiet, change, does, says, by, naming, reading, times, each, outputs, after_all}
+use Rattle.vr_rules.proofs.SendsScripts.{outputs_append, outputs_said}
 use Rattle.law_2_chains.specs.Chains.{Every}
-use Rattle.law_2_chains.specs.Commitment.{is_line_of}
+use Rattle.vr_world.specs.Commitment.{is_line_of}
 use Rattle.law_3_outputs.specs.Answering.{one_if, HasState, IsMute, lines, Lined, IsTold, Told, Leaves}
 
 -- ---- lists of outputs

@@ -2,20 +2,20 @@
 -- and machine's over those applied by then.
 use Rattle.std.specs.Prelude.{ℕ, ◌+◌, ◌-◌, ◌≡◌, ◌≢◌, ⊤, Bool, true, false, List, [], ◌∷◌, take, slice_get, Some, if◌then◌else◌}
 use Rattle.vr_header.specs.Made.{Whole}
-use Rattle.vr_ckpt.specs.Folds.{state_after}
+use Rattle.vr_state.specs.Folds.{state_after}
 use Rattle.vr_msg.specs.declared.output.Output.{Output}
 use Rattle.vr_msg.specs.declared.output.Output.TheVariants as output
-use Rattle.law_2_chains.specs.Replica.{Replica, is_frozen}
+use Rattle.vr_rules.specs.Replica.{Replica, is_frozen}
 use Rattle.vr_ckpt.specs.declared.name.Name.{Name}
 use Rattle.vr_msg.specs.declared.event.Event.{Event}
 use Rattle.vr_msg.specs.declared.event.Event.TheVariants as event
 use Rattle.vr_msg.specs.declared.frame.Frame.TheVariants as frame
 use Rattle.vr_msg.specs.declared.frame.GiveBlock.{GiveBlock}
-use Rattle.law_2_chains.specs.Deciding.{is_from, is_wanted}
-use Rattle.law_2_chains.specs.Rules.{put_block}
+use Rattle.vr_rules.specs.Deciding.{is_from, is_wanted}
+use Rattle.vr_rules.specs.Rules.{put_block}
 use Rattle.std.specs.List.{find}
-use Rattle.law_2_chains.specs.Steps.{Step, Setting, outputs}
-use Rattle.law_2_chains.specs.Commitment.{IsReplyOf, is_line_of}
+use Rattle.vr_rules.specs.Steps.{Step, Setting, outputs}
+use Rattle.vr_world.specs.Commitment.{IsReplyOf, is_line_of}
 use Rattle.law_2_chains.specs.Chains.{Every}
 
 abbrev pub one_if : Bool → ℕ

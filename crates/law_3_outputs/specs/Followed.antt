@@ -21,16 +21,16 @@ use Rattle.vr_msg.specs.Choice.{choice, named, top_commit, top_view}
 use Rattle.vr_msg.specs.Logs.{IsStatement}
 use Rattle.vr_base.specs.Groups.{quorums_of}
 use Rattle.vr_base.specs.declared.table.Quorums.{Quorums}
-use Rattle.law_2_chains.specs.Commitment.{Stored}
-use Rattle.law_2_chains.specs.Group.{Played, Run, fresh_group, made_in}
-use Rattle.law_2_chains.specs.Files.{IsOfFile}
-use Rattle.law_2_chains.specs.GroupFit.{IsFitMove}
-use Rattle.law_2_chains.specs.Opening.{AreKinds}
+use Rattle.vr_world.specs.Commitment.{Stored}
+use Rattle.vr_world.specs.Group.{Played, Run, fresh_group, made_in}
+use Rattle.vr_world.specs.Files.{IsOfFile}
+use Rattle.vr_world.specs.GroupFit.{IsFitMove}
+use Rattle.vr_rules.specs.Opening.{AreKinds}
 use Rattle.law_2_chains.specs.Lone.{vouch_for}
-use Rattle.law_2_chains.specs.Replica.{Replica, version}
-use Rattle.law_2_chains.specs.Steps.{outputs}
-use Rattle.law_2_chains.specs.Storing.{done_in, stored_from, stored_of, until_said}
-use Rattle.law_2_chains.specs.Words.{log_end}
+use Rattle.vr_rules.specs.Replica.{Replica, version}
+use Rattle.vr_rules.specs.Steps.{outputs}
+use Rattle.vr_world.specs.Storing.{done_in, stored_from, stored_of, until_said}
+use Rattle.vr_rules.specs.Words.{log_end}
 use Rattle.law_1_machine.specs.Basics.{In}
 use Rattle.law_1_machine.specs.Group.{Group, Made}
 use Rattle.law_1_machine.specs.Laws.{Committed}
@@ -41,7 +41,7 @@ use Rattle.law_2_chains.specs.Chains.{Setup, IsBackedLine, IsReached, WasSent}
 use Rattle.law_2_chains.specs.Choices.{told_if}
 use Rattle.law_2_chains.specs.Finished.{IsNumbered, IsSaid}
 use Rattle.law_2_chains.specs.Tables.{Fits}
-use Rattle.law_2_chains.specs.Safe.{IsHashed, actor, all_heard, event_of, heard_from}
+use Rattle.vr_world.specs.Safe.{IsHashed, actor, all_heard, event_of, heard_from}
 
 -- ---- a group of one
 

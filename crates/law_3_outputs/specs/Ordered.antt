@@ -5,14 +5,14 @@ use Rattle.vr_msg.specs.declared.event.Event.{Event}
 use Rattle.vr_msg.specs.declared.output.Committed.{Committed}
 use Rattle.vr_msg.specs.declared.output.Output.{Output}
 use Rattle.vr_msg.specs.declared.output.Output.TheVariants as output
-use Rattle.law_2_chains.specs.Laws.{HasNames, IsEvent}
-use Rattle.law_2_chains.specs.Replica.{Replica}
-use Rattle.law_2_chains.specs.Rules.{react}
-use Rattle.law_2_chains.specs.Sound.{IsSound}
-use Rattle.law_2_chains.specs.Steps.{Effect, Setting, Step, after_all, outputs}
+use Rattle.vr_rules.specs.Laws.{HasNames, IsEvent}
+use Rattle.vr_rules.specs.Replica.{Replica}
+use Rattle.vr_rules.specs.Rules.{react}
+use Rattle.vr_rules.specs.Sound.{IsSound}
+use Rattle.vr_rules.specs.Steps.{Effect, Setting, Step, after_all, outputs}
 use Rattle.law_1_machine.specs.Basics.{In}
 use Rattle.law_3_outputs.specs.Answering.{Jumps, one_if, lines}
-use Rattle.law_2_chains.specs.Commitment.{is_line_of}
+use Rattle.vr_world.specs.Commitment.{is_line_of}
 
 -- after m applied entries a commit line of replica i is of the next op
 abbrev pub IsInOrder : ℕ → ℕ → Output → Type 0

@@ -6,16 +6,16 @@ use Rattle.vr_msg.specs.declared.output.Chosen.{Chosen}
 use Rattle.vr_msg.specs.declared.output.Output.TheVariants as output
 use Rattle.vr_msg.specs.declared.reply.ReplyFields.{ReplyFields}
 use Rattle.vr_super.specs.Copies.{SuperValue}
-use Rattle.law_2_chains.specs.Opening.{blank, opening}
-use Rattle.law_2_chains.specs.Group.{Played}
-use Rattle.law_2_chains.specs.Replica.{Replica}
-use Rattle.law_2_chains.specs.Rules.{react}
-use Rattle.law_2_chains.specs.Steps.{Setting, outputs}
+use Rattle.vr_rules.specs.Opening.{blank, opening}
+use Rattle.vr_world.specs.Group.{Played}
+use Rattle.vr_rules.specs.Replica.{Replica}
+use Rattle.vr_rules.specs.Rules.{react}
+use Rattle.vr_rules.specs.Steps.{Setting, outputs}
 use Rattle.law_2_chains.specs.Chains.{Setup}
-use Rattle.law_2_chains.specs.Safe.{Safe}
+use Rattle.vr_world.specs.Safe.{Safe}
 use Rattle.law_3_outputs.specs.Followed.{IsFollowed}
 use Rattle.law_3_outputs.specs.Answering.{HasState, IsNumbered, Jumps, Leaves, Lined, PutsWell}
-use Rattle.law_2_chains.specs.Sound.{IsSound}
+use Rattle.vr_rules.specs.Sound.{IsSound}
 use Rattle.law_3_outputs.specs.Picked.{IsChosenBy}
 use Rattle.law_3_outputs.specs.Replied.{IsReplied}
 

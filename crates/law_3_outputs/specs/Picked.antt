@@ -8,10 +8,10 @@ use Rattle.vr_msg.specs.declared.event.Event.{Event}
 use Rattle.vr_msg.specs.declared.output.Chosen.{Chosen}
 use Rattle.vr_msg.specs.Choice.{choice, top_commit, top_view}
 use Rattle.vr_msg.specs.Logs.{IsStatement}
-use Rattle.law_2_chains.specs.Laws.{IsEvent}
-use Rattle.law_2_chains.specs.Replica.{Replica, version}
-use Rattle.law_2_chains.specs.Words.{log_end}
-use Rattle.law_2_chains.specs.Safe.{all_heard}
+use Rattle.vr_rules.specs.Laws.{IsEvent}
+use Rattle.vr_rules.specs.Replica.{Replica, version}
+use Rattle.vr_rules.specs.Words.{log_end}
+use Rattle.vr_world.specs.Safe.{all_heard}
 
 -- of a replica before a step, and its event
 pub record IsChosenBy (e : Event) (r : Replica) (l : Chosen) : Type 0 where

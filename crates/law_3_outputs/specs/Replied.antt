@@ -11,19 +11,19 @@ use Rattle.vr_msg.specs.declared.frame.SyncView.{SyncView}
 use Rattle.vr_msg.specs.declared.output.Sent.{Sent}
 use Rattle.vr_msg.specs.declared.reply.ReplyFields.{ReplyFields}
 use Rattle.vr_ckpt.specs.declared.name.Name.{Name}
-use Rattle.law_2_chains.specs.Checkpoints.{IsCheckpointOf}
+use Rattle.vr_world.specs.Checkpoints.{IsCheckpointOf}
 use Rattle.vr_super.specs.Copies.{SuperValue}
-use Rattle.law_2_chains.specs.Group.{Arrival, Member, Played, Runs, Recovers, Steps, mended, recovered, resumed, stepped}
+use Rattle.vr_world.specs.Group.{Arrival, Member, Played, Runs, Recovers, Steps, mended, recovered, resumed, stepped}
 use Rattle.vr_header.specs.Bodies.{operation_bytes}
 use Rattle.vr_header.specs.Names.{root_header}
 use Rattle.vr_header.specs.NoCollision.{NoCollision}
-use Rattle.law_2_chains.specs.Safe.{IsHashed}
-use Rattle.law_2_chains.specs.Replica.{Replica, is_frozen}
-use Rattle.law_2_chains.specs.Lying.{Lying, lying}
-use Rattle.law_2_chains.specs.Steps.{Step, ◌⨾◌, after_all, outputs, says}
-use Rattle.law_2_chains.specs.Opening.{leave_view}
-use Rattle.law_2_chains.specs.Outputs.{start_line}
-use Rattle.law_2_chains.specs.Words.{load}
+use Rattle.vr_world.specs.Safe.{IsHashed}
+use Rattle.vr_rules.specs.Replica.{Replica, is_frozen}
+use Rattle.vr_world.specs.Lying.{Lying, lying}
+use Rattle.vr_rules.specs.Steps.{Step, ◌⨾◌, after_all, outputs, says}
+use Rattle.vr_rules.specs.Opening.{leave_view}
+use Rattle.vr_rules.specs.Outputs.{start_line}
+use Rattle.vr_rules.specs.Words.{load}
 use Rattle.law_1_machine.specs.Basics.{In}
 use Rattle.law_1_machine.specs.Laws.{Committed}
 use Rattle.law_1_machine.specs.Members.{Message}

@@ -4,13 +4,13 @@ use Rattle.vr_header.specs.Made.{IsEntryHeader, Whole}
 use Rattle.vr_msg.specs.declared.event.Event.{Event}
 use Rattle.vr_msg.specs.declared.output.Committed.{Committed}
 use Rattle.vr_msg.specs.declared.output.Output.TheVariants as output
-use Rattle.law_2_chains.specs.Fit.{IsProgram, KnowsBlocks, ReadsWell}
-use Rattle.law_2_chains.specs.Group.{Played}
-use Rattle.law_2_chains.specs.Laws.{IsEvent, SavesRoots}
-use Rattle.law_2_chains.specs.Replica.{Replica}
-use Rattle.law_2_chains.specs.Rules.{react}
-use Rattle.law_2_chains.specs.Sound.{IsSound, IsSavable}
-use Rattle.law_2_chains.specs.Steps.{Effect, Write, Setting, outputs}
+use Rattle.vr_rules.specs.Fit.{IsProgram, KnowsBlocks, ReadsWell}
+use Rattle.vr_world.specs.Group.{Played}
+use Rattle.vr_rules.specs.Laws.{IsEvent, SavesRoots}
+use Rattle.vr_rules.specs.Replica.{Replica}
+use Rattle.vr_rules.specs.Rules.{react}
+use Rattle.vr_rules.specs.Sound.{IsSound, IsSavable}
+use Rattle.vr_rules.specs.Steps.{Effect, Write, Setting, outputs}
 use Rattle.law_1_machine.specs.Basics.{In}
 use Rattle.law_3_outputs.specs.Followed.{IsFitRun, IsGoodEntry}
 

@@ -11,11 +11,11 @@ use Rattle.vr_base.proofs.AreBytes.{AllBytes, IsBytes-append, IsBytes-bytes16, I
 use Rattle.vr_disk.specs.DiskState.{Sync}
 use Rattle.vr_disk.specs.Regions.{block_place}
 use Rattle.vr_header.specs.Spelling.{field_bytes, header_bytes, named_bytes}
+use Rattle.vr_state.specs.StateTexts.{key_payloads, payloads, session_payloads}
+use Rattle.vr_state.specs.declared.texts.Texts.{Texts}
 use Rattle.vr_ckpt.specs.Blocks.{Content, block_bytes, block_header, block_name, block_of, named}
 use Rattle.vr_ckpt.specs.Grid.{block_calls, put_calls}
 use Rattle.vr_ckpt.specs.declared.block.Block.{Block}
-use Rattle.vr_ckpt.specs.StateTexts.{key_payloads, payloads, session_payloads}
-use Rattle.vr_ckpt.specs.Texts.{Texts}
 use Rattle.vr_ckpt.specs.Places.{IsLower, first_place, grid_size, keys_places, other_place, place_of, root_place, sessions_places}
 use Rattle.vr_ckpt.specs.declared.places.Places.{Places}
 use Rattle.vr_ckpt.specs.Saves.{PayloadBlocks, blocks_calls, blocks_from, changed, data_content, goes_to, keys_run, names_bytes, payload_blocks, payload_blocks_at, payload_at, payloads_from, root_of, root_payload, save_calls, sessions_run, stays, table_of, written}
@@ -24,7 +24,7 @@ use Rattle.vr_ckpt.specs.declared.table.Payload.{Payload}
 use Rattle.vr_ckpt.specs.declared.table.PayloadTable.{PayloadTable}
 use Rattle.vr_ckpt.proofs.Placing.{AtPlace, at_within, block_inside, first_at, key_above, key_lower, other_at, root_at_place, root_lower, session_above, session_lower, twin_below, twin_later}
 use Rattle.vr_ckpt.proofs.Planning.{payload_short}
-use Rattle.vr_world.specs.Sound.{IsNameBytes}
+use Rattle.vr_rules.specs.Sound.{IsNameBytes}
 use Rattle.law_4_disks.specs.Stocks.{IsNamed}
 use Rattle.law_4_disks.proofs.Calls.{AreCalls, calls_append, writes_are}
 

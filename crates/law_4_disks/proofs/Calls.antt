@@ -4,7 +4,7 @@ use Rattle.std.specs.Prelude.{replicate}
 use Rattle.std.specs.List.{AllByRecursion, range_with_len}
 use Rattle.std.proofs.lemmas.List.{append_assoc, get_or-drop, length-drop, length-replicate}
 use Rattle.vr_base.specs.Bytes.{IsBytes, name_of, piece}
-use Rattle.vr_base.proofs.FieldLaws.{IsBytes-piece, length-piece}
+use Rattle.vr_base.proofs.FieldLaws.{IsBytes-piece, length-piece, length-name_of}
 use Rattle.vr_base.proofs.AreBytes.{AllBytes, IsBytes-append, IsBytes-bytes16, IsBytes-bytes32, IsBytes-bytes64, IsBytes-joined, IsBytes-name_of, IsBytes-none, IsBytes-one, IsBytes-zeros}
 use Rattle.vr_disk.specs.DiskState.{Call, Write, Sync, Face, IsContent}
 use Rattle.vr_disk.specs.Sectors.{has, writes}
@@ -15,19 +15,18 @@ use Rattle.vr_header.specs.declared.header.Header.{Header}
 use Rattle.vr_header.specs.Made.{Whole, entry_bytes}
 use Rattle.vr_header.specs.Spelling.{IsHeader, header_bytes}
 use Rattle.vr_header.proofs.AreBytes.{entry_bytes-are, header_bytes-are}
-use Rattle.vr_base.proofs.FieldLaws.{length-name_of}
 use Rattle.vr_base.specs.declared.kind.Kind.{Kind}
 use Rattle.vr_base.specs.declared.mode.Mode.{Mode}
 use Rattle.vr_base.specs.declared.mode.Mode.TheVariants.{Strict, Careful}
-use Rattle.vr_lie.specs.Copies.{IsFields, IsGood, SuperValue, copy_bytes, field_bytes, front_bytes, list_bytes, named_bytes, zeros, mode_byte}
-use Rattle.vr_lie.specs.Opens.{copy_reading}
-use Rattle.vr_lie.specs.Calls.{copy_calls, mend_calls, mend_copy, mend_from, mend_unless, save_from, write_calls}
-use Rattle.vr_lie.proofs.Format.{length-copy_bytes}
+use Rattle.vr_super.specs.Copies.{IsFields, IsGood, SuperValue, copy_bytes, field_bytes, front_bytes, list_bytes, named_bytes, zeros, mode_byte}
+use Rattle.vr_super.specs.Opens.{copy_reading}
+use Rattle.vr_super.specs.Calls.{copy_calls, mend_calls, mend_copy, mend_from, mend_unless, save_from, write_calls}
+use Rattle.vr_super.proofs.Format.{length-copy_bytes}
 use Rattle.vr_rings.specs.Calls.{again_calls, header_calls, new_calls, prepare_calls}
-use Rattle.vr_lie.specs.Slots.{IsWhole, prepare_bytes, sector_of, slot_of}
-use Rattle.vr_lie.proofs.Spelling.{length-prepare, length-sector}
-use Rattle.vr_world.specs.Opening.{first_value}
-use Rattle.vr_world.specs.Formatting.{format_calls, reserved_header, reserved_headers, zero_prepares, zero_sector}
+use Rattle.vr_rings.specs.Slots.{IsWhole, prepare_bytes, sector_of, slot_of}
+use Rattle.vr_rings.proofs.Spelling.{length-prepare, length-sector}
+use Rattle.vr_rules.specs.Opening.{first_value}
+use Rattle.vr_rules.specs.Formatting.{format_calls, reserved_header, reserved_headers, zero_prepares, zero_sector}
 
 abbrev pub AreCalls : List Call → Type 0
 AreCalls cs = AllByRecursion IsCall cs

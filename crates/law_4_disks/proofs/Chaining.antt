@@ -11,20 +11,20 @@ use Rattle.vr_msg.specs.declared.frame.Frame.{Frame}
 use Rattle.vr_msg.specs.declared.frame.SyncView.{SyncView}
 use Rattle.vr_msg.specs.declared.output.Output.{Output}
 use Rattle.vr_msg.specs.declared.statement.Statement.{Statement}
-use Rattle.vr_ckpt.specs.StateTexts.{state_decoded}
-use Rattle.vr_ckpt.specs.State.{State}
-use Rattle.vr_lie.specs.Copies.{SuperValue}
-use Rattle.vr_lie.specs.Opens.{file_kind}
+use Rattle.vr_state.specs.StateTexts.{state_decoded}
+use Rattle.vr_state.specs.declared.state.State.{State}
+use Rattle.vr_super.specs.Copies.{SuperValue}
+use Rattle.vr_super.specs.Opens.{file_kind}
 use Rattle.vr_ckpt.specs.declared.name.Name.{Name}
 use Rattle.vr_ckpt.specs.declared.found.Load.{Load}
 use Rattle.vr_ckpt.specs.declared.found.Load.TheVariants.{Loaded, Missing}
 use Rattle.vr_ckpt.specs.declared.saving.SavedCheckpoint as checkpoint
 use Rattle.vr_ckpt.specs.declared.table.PayloadTable.{PayloadTable}
-use Rattle.vr_world.specs.Replica.{Replica, version, forgetting, is_here, leads, part_at, with_part, is_primary, last_view}
-use Rattle.vr_world.specs.Steps.{Effect, Write, Rewrite, Save, Mend, Checkpoint, PutBlock, Say, Setting, Word, ◌⨾◌, quiet, change, does, says, by, naming, reading, when, times, each, after_all}
-use Rattle.vr_world.specs.Outputs.{applied_reply, commit_line, send_to_all, start_line, start_view_change, wait_line, to_primary, do_view_change}
-use Rattle.vr_world.specs.Words.{Log, accept, advance, advanced, apply, apply_entry, apply_next, applied, ask, ask_for, ask_peer, begin_view, checkpoint_of, checkpoints, chosen_log, choose_line, decided, enter, entered, entry_of, is_checkpoint, learn, learned, load, loaded_state, loads, lost, make_checkpoint, obey_choice, or_lost, prepare_again, resend, rested, save, speak, stated, stored, take, taken, try, try_log, turned, value_of, with_checkpoint, with_entry, with_entry_at, with_state, write, jump, jumped, mend_header, visit, visit_block, visit_place, visit_read, visit_slot, with_worn, usable}
-use Rattle.vr_world.specs.Opening.{announce, heard_itself, in_next_view, leave_view, resuming}
+use Rattle.vr_rules.specs.Replica.{Replica, version, forgetting, is_here, leads, part_at, with_part, is_primary, last_view}
+use Rattle.vr_rules.specs.Steps.{Effect, Write, Rewrite, Save, Mend, Checkpoint, PutBlock, Say, Setting, Word, ◌⨾◌, quiet, change, does, says, by, naming, reading, when, times, each, after_all}
+use Rattle.vr_rules.specs.Outputs.{applied_reply, commit_line, send_to_all, start_line, start_view_change, wait_line, to_primary, do_view_change}
+use Rattle.vr_rules.specs.Words.{Log, accept, advance, advanced, apply, apply_entry, apply_next, applied, ask, ask_for, ask_peer, begin_view, checkpoint_of, checkpoints, chosen_log, choose_line, decided, enter, entered, entry_of, is_checkpoint, learn, learned, load, loaded_state, loads, lost, make_checkpoint, obey_choice, or_lost, prepare_again, resend, rested, save, speak, stated, stored, take, taken, try, try_log, turned, value_of, with_checkpoint, with_entry, with_entry_at, with_state, write, jump, jumped, mend_header, visit, visit_block, visit_place, visit_read, visit_slot, with_worn, usable}
+use Rattle.vr_rules.specs.Opening.{announce, heard_itself, in_next_view, leave_view, resuming}
 use Rattle.law_4_disks.specs.Chains.{Chain}
 
 pub record Chained {F : Type 0} (w : Word F) : Type 0 where

@@ -14,16 +14,16 @@ use Rattle.vr_header.specs.declared.header.Header.{Header}
 use Rattle.vr_header.specs.Made.{Whole}
 use Rattle.vr_header.specs.Same.{same_header}
 use Rattle.vr_header.proofs.SameHeaders.{same_header_is}
-use Rattle.vr_lie.specs.Copies.{SuperValue}
-use Rattle.vr_lie.specs.Opens.{file_kind}
-use Rattle.vr_lie.specs.Calls.{mend_calls, write_calls}
-use Rattle.vr_lie.proofs.Keeping.{mend_law, write_law}
-use Rattle.vr_lie.specs.Held.{Stands, held_after_all, held_cut}
-use Rattle.vr_lie.specs.Slots.{IsWhole, prepare_bytes, slot_of}
-use Rattle.vr_lie.proofs.Cutting.{AllApart, apart_cut}
-use Rattle.vr_lie.proofs.Standing.{calls_stand}
+use Rattle.vr_super.specs.Copies.{SuperValue}
+use Rattle.vr_super.specs.Opens.{file_kind}
+use Rattle.vr_super.specs.Calls.{mend_calls, write_calls}
+use Rattle.vr_super.proofs.Keeping.{mend_law, write_law}
+use Rattle.vr_rings.specs.Held.{Stands, held_after_all, held_cut}
+use Rattle.vr_rings.specs.Slots.{IsWhole, prepare_bytes, slot_of}
+use Rattle.vr_rings.proofs.Cutting.{AllApart, apart_cut}
+use Rattle.vr_rings.proofs.Standing.{calls_stand}
 use Rattle.vr_lie.specs.Faults.{held_at}
-use Rattle.vr_world.specs.Steps.{Save, Mend}
+use Rattle.vr_rules.specs.Steps.{Save, Mend}
 use Rattle.vr_world.specs.Lying.{Lying, after_calls, cut_calls, each_slot}
 use Rattle.vr_world.specs.Group.{Member, begins, ends, kept_at, kept_under}
 use Rattle.law_4_disks.specs.Beside.{HoldsEntry, IsCalm, IsHeld, IsOff, IsOn, MayCome, Tells}

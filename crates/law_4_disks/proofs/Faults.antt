@@ -1,11 +1,9 @@
 -- A fault that is done leaves the disk beside the member.
-use Rattle.std.proofs.Common.{ℕ, ◌<◌, ◌≡◌, ◌≢◌, arith, refl, sym, ap, ◌∙◌, subst, true, false, List, length, get_or, Option, Some, None}
-use Rattle.std.specs.Prelude.{is_some, nat_eq}
+use Rattle.std.proofs.Common.{ℕ, ◌<◌, ◌≡◌, ◌≢◌, arith, refl, sym, ap, ◌∙◌, subst, true, false, List, length, get_or, Option, Some, None, inl, inr, length-set}
+use Rattle.std.specs.Prelude.{is_some, nat_eq, bit_xor}
 use Rattle.std.specs.Cmp.Lexicographic.{pointwise}
 use Rattle.std.specs.Option.{option_and_then, option_map_or}
 use Rattle.std.proofs.lemmas.Slice.Eq.{bytes_eq-Decides}
-use Rattle.std.specs.Prelude.{bit_xor}
-use Rattle.std.proofs.Common.{inl, inr, length-set}
 use Rattle.std.proofs.lemmas.Bool.{cases_lt}
 use Rattle.std.proofs.lemmas.List.{get_or-map, get_or_past, length-map}
 use Rattle.std.proofs.lemmas.List.Elements.{All-set}
@@ -16,14 +14,14 @@ use Rattle.vr_disk.specs.DiskState.{Face, IsCell, IsContent, IsFace, cell, damag
 use Rattle.vr_disk.proofs.Faces.{there}
 use Rattle.vr_disk.specs.Regions.{sectors}
 use Rattle.vr_header.specs.Made.{Whole}
-use Rattle.vr_lie.specs.Lies.{lied}
-use Rattle.vr_lie.specs.Copies.{SuperValue}
-use Rattle.vr_lie.specs.Opens.{mode_in, opens}
-use Rattle.vr_lie.specs.Held.{Holds, MayRead, entry_read, found, header_sector, is_header_sector, is_prepare, looked}
+use Rattle.vr_cells.specs.Lies.{lied}
+use Rattle.vr_super.specs.Copies.{SuperValue}
+use Rattle.vr_super.specs.Opens.{mode_in, opens}
+use Rattle.vr_rings.specs.Held.{Holds, MayRead, entry_read, found, header_sector, is_header_sector, is_prepare, looked}
 use Rattle.vr_rings.specs.Laws.{TellsPrepare}
-use Rattle.vr_lie.specs.Slots.{IsWhole, header_reading, prepare_bytes, prepare_reading, whole_in, whole_of}
-use Rattle.vr_lie.proofs.Spelling.{header_again, header_sector_is}
-use Rattle.vr_lie.proofs.Standing.{both_is, both_whole}
+use Rattle.vr_rings.specs.Slots.{IsWhole, header_reading, prepare_bytes, prepare_reading, whole_in, whole_of}
+use Rattle.vr_rings.proofs.Spelling.{header_again, header_sector_is}
+use Rattle.vr_rings.proofs.Standing.{both_is, both_whole}
 use Rattle.vr_lie.specs.declared.fault.Fault.{Fault}
 use Rattle.vr_lie.specs.declared.fault.Fault.TheVariants.{Damage, Stale, Unread, Misdirect}
 use Rattle.vr_lie.specs.Faults.{HeldLooked, IsFault, KeepsPremise, faulted, held_at}

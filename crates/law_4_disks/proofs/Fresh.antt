@@ -14,29 +14,29 @@ use Rattle.vr_disk.specs.Regions.{sectors}
 use Rattle.vr_disk.specs.Sectors.{together, writes}
 use Rattle.vr_disk.proofs.Together.{after_all_append, length_after_all, together_synced, together_written}
 use Rattle.vr_header.specs.declared.header.Header.{Header}
-use Rattle.vr_lie.specs.Seen.{copies}
-use Rattle.vr_lie.specs.Seen as mem
-use Rattle.vr_lie.specs.Copies.{IsGood, SuperValue, copy_bytes}
-use Rattle.vr_lie.specs.Opens.{copy_reading, good_copies, good_copy, opened, opens}
-use Rattle.vr_lie.specs.Calls.{copy_calls, save_from}
-use Rattle.vr_lie.proofs.Best.{opened_among, opened_some}
-use Rattle.vr_lie.proofs.Format.{length-copy_bytes, value_again}
-use Rattle.vr_lie.proofs.Keeping.{two_first}
-use Rattle.vr_lie.proofs.Readings.{copy_within, other_after}
-use Rattle.vr_lie.specs.Held.{Stands}
+use Rattle.vr_cells.specs.Seen.{copies}
+use Rattle.vr_cells.specs.Seen as mem
+use Rattle.vr_super.specs.Copies.{IsGood, SuperValue, copy_bytes}
+use Rattle.vr_super.specs.Opens.{copy_reading, good_copies, good_copy, opened, opens}
+use Rattle.vr_super.specs.Calls.{copy_calls, save_from}
+use Rattle.vr_super.proofs.Best.{opened_among, opened_some}
+use Rattle.vr_super.proofs.Format.{length-copy_bytes, value_again}
+use Rattle.vr_super.proofs.Keeping.{two_first}
+use Rattle.vr_super.proofs.Readings.{copy_within, other_after}
+use Rattle.vr_rings.specs.Held.{Stands}
 use Rattle.vr_lie.specs.Laws.{AllStand}
 use Rattle.vr_lie.proofs.Calls.{empty_at, new_table}
 use Rattle.vr_lie.proofs.Premise.{none_stands}
-use Rattle.vr_world.specs.Replica.{Replica}
-use Rattle.vr_world.specs.Opening.{AreKinds, IsKind, blank, first_value, fresh}
+use Rattle.vr_rules.specs.Replica.{Replica}
+use Rattle.vr_rules.specs.Opening.{AreKinds, IsKind, blank, first_value, fresh}
 use Rattle.vr_world.specs.Lying.{Lying, blank_lying, hazards, zero_cell, zero_face}
-use Rattle.vr_world.specs.Formatting.{format_calls, reserved_headers, zero_prepares, zero_sector}
+use Rattle.vr_rules.specs.Formatting.{format_calls, reserved_headers, zero_prepares, zero_sector}
 use Rattle.vr_world.specs.World as world
 use Rattle.vr_world.specs.Group as group
 use Rattle.vr_world.specs.Group.{fresh_group}
 use Rattle.law_4_disks.specs.Beside.{IsCalm, IsOn}
 use Rattle.law_4_disks.specs.Laws.{SchedulesBegin, WorldsBegin}
-use Rattle.vr_world.proofs.FitFresh.{fresh_fits}
+use Rattle.vr_rules.proofs.FitFresh.{fresh_fits}
 use Rattle.vr_world.proofs.FitGroups.{fresh_group_fits}
 use Rattle.law_4_disks.specs.Worlds.{AreBeside, Stands as Beside, first_host, first_world}
 use Rattle.law_4_disks.proofs.Calls.{format_are, format_is}

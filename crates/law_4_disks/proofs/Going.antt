@@ -3,23 +3,22 @@ use Rattle.std.proofs.Common.{arith, ℕ, ◌≡◌, refl, sym, ap, ◌∙◌, s
 use Rattle.vr_header.specs.declared.header.Header.{Header}
 use Rattle.vr_header.specs.Made.{Whole}
 use Rattle.vr_header.specs.declared.part.Part.{Part}
-use Rattle.vr_lie.specs.Copies.{SuperValue}
-use Rattle.vr_world.specs.Replica.{Replica, forgetting, with_part}
-use Rattle.vr_world.specs.Steps.{Effect, Write, Rewrite, Save, Mend, Checkpoint, PutBlock, Say, Setting, Word, ◌⨾◌, after_all, change, does, each, quiet, reading}
-use Rattle.vr_world.specs.Words.{entry_of}
+use Rattle.vr_super.specs.Copies.{SuperValue, IsGood}
+use Rattle.vr_rules.specs.Replica.{Replica, forgetting, with_part}
+use Rattle.vr_rules.specs.Steps.{Effect, Write, Rewrite, Save, Mend, Checkpoint, PutBlock, Say, Setting, Word, ◌⨾◌, after_all, change, does, each, quiet, reading}
+use Rattle.vr_rules.specs.Words.{entry_of}
 use Rattle.vr_recover.specs.declared.readings.Verdict.{Verdict}
 use Rattle.vr_recover.specs.declared.readings.Verdict.TheVariants as verdict
 use Rattle.std.specs.Prelude.{Option, Some, None}
-use Rattle.vr_world.specs.Opening.{Slot, blank, clouded, entry_header, mend_slot, old_headers, old_part, part_by, recover_old, recover_op, recover_parts, rewrite, slot_at, slot_verdict}
-use Rattle.vr_ckpt.specs.Folds.{empty}
+use Rattle.vr_rules.specs.Opening.{Slot, blank, clouded, entry_header, mend_slot, old_headers, old_part, part_by, recover_old, recover_op, recover_parts, rewrite, slot_at, slot_verdict}
+use Rattle.vr_state.specs.Folds.{empty}
 use Rattle.vr_ckpt.specs.Places as places
 use Rattle.vr_world.specs.Lying.{Lying, lying}
 use Rattle.vr_world.specs.Group.{Member, carried_out, keeps_all, keeps_found, found, mended, once_mended, recovered}
 use Rattle.law_4_disks.specs.Beside.{MayGo}
 use Rattle.std.specs.List.{AllByRecursion}
 use Rattle.vr_rings.specs.Calls.{again_calls, new_calls}
-use Rattle.vr_lie.specs.Slots.{IsWhole}
-use Rattle.vr_lie.specs.Copies.{IsGood}
+use Rattle.vr_rings.specs.Slots.{IsWhole}
 use Rattle.vr_world.proofs.FitGroups.{Known, known_first, known_rest}
 use Rattle.law_4_disks.specs.Stocks.{WritesBlocks}
 use Rattle.law_4_disks.proofs.Calls.{AreCalls, again_are, header_are, mend_are, new_are, save_are}

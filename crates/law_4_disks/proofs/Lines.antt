@@ -17,35 +17,32 @@ use Rattle.vr_msg.specs.declared.event.Event.{Event}
 use Rattle.vr_msg.specs.declared.output.Output.{Output}
 use Rattle.vr_msg.specs.declared.output.Output.TheVariants as output
 use Rattle.vr_msg.specs.declared.output.Sent.{Sent}
-use Rattle.vr_lie.specs.Copies.{SuperValue}
-use Rattle.vr_world.specs.Replica.{Replica, version}
-use Rattle.vr_world.specs.Fit.{IsAsked}
-use Rattle.vr_world.specs.Steps.{Effect, Mend, Step, after_all}
-use Rattle.vr_world.specs.Steps as steps
-use Rattle.vr_world.specs.Rules.{asked_block, react}
+use Rattle.vr_super.specs.Copies.{SuperValue, IsGood}
+use Rattle.vr_rules.specs.Replica.{Replica, version}
+use Rattle.vr_rules.specs.Fit.{IsAsked}
+use Rattle.vr_rules.specs.Steps.{Effect, Mend, Step, after_all}
+use Rattle.vr_rules.specs.Steps as steps
+use Rattle.vr_rules.specs.Rules.{asked_block, react}
 use Rattle.vr_msg.specs.declared.event.Event.TheVariants as event
 use Rattle.vr_msg.specs.declared.frame.Frame.TheVariants as frame
-use Rattle.vr_world.specs.Sectors.{script_calls}
+use Rattle.vr_rules.specs.Sectors.{script_calls}
 use Rattle.vr_world.specs.Lying.{Lying, cut_calls, hazards, lying}
 use Rattle.vr_world.specs.World as world
 use Rattle.vr_world.specs.World.{Acted, Happened, World, acts, halted, in_version, stays, went, went_or_halted, with_member}
-use Rattle.vr_world.specs.Outputs.{message_of, messages}
+use Rattle.vr_rules.specs.Outputs.{message_of, messages}
 use Rattle.vr_world.specs.Group as group
-use Rattle.vr_world.specs.Group.{Arrival, Asked, Group, IsArrival, Move, Moved, Moves, Played, Run, Runs, carried_out, cut_after, cut_short, finished, stepped, with_script}
+use Rattle.vr_world.specs.Group.{Arrival, Asked, Group, IsArrival, Move, Moved, Moves, Played, Run, Runs, carried_out, cut_after, cut_short, finished, stepped, with_script, made_in}
 use Rattle.vr_world.specs.Safe.{disks_of, run_outputs}
-use Rattle.law_4_disks.specs.Beside.{IsOff, IsOn, MayGo}
+use Rattle.law_4_disks.specs.Beside.{IsOff, IsOn, MayGo, TellsIn, begun_before}
 use Rattle.std.specs.List.{AllByRecursion}
 use Rattle.std.specs.Option.{option_map}
 use Rattle.vr_base.specs.Bytes.{IsBytes}
 use Rattle.vr_header.specs.NoCollision.{NoCollision}
-use Rattle.vr_lie.specs.Copies.{IsGood}
-use Rattle.vr_world.specs.Group.{made_in}
 use Rattle.vr_world.specs.Files.{IsFileAt, IsOfFile}
-use Rattle.vr_world.specs.Own.{IsAt}
+use Rattle.vr_rules.specs.Own.{IsAt}
 use Rattle.vr_world.specs.GroupFit.{IsFitArrival, IsFitGroup, IsFitMove}
 use Rattle.vr_world.proofs.FitLies.{lies_fit}
 use Rattle.vr_world.proofs.FitGroups.{Known, arrives, groups_fit, step_is}
-use Rattle.law_4_disks.specs.Beside.{TellsIn, begun_before}
 use Rattle.law_4_disks.specs.Naming.{IsHashedIn}
 use Rattle.law_4_disks.specs.Worlds.{IsOfBytes, AreBeside, IsMatchedBy, Said, Stands, Work, begun_by, begun_of, both, moved_once, none, aside, read_of, stepping, unmoved}
 use Rattle.law_4_disks.specs.Stocks.{IsGiven, IsGivenEvent, IsGivenOutput, IsStocked, IsStockedGroup, WritesBlocks}

@@ -8,7 +8,7 @@ use Rattle.std.proofs.lemmas.List.Elements.{All-nil, All-cons, All-head, All-tai
 use Rattle.vr_base.specs.Bytes.{IsBytes, number}
 use Rattle.vr_base.proofs.FieldLaws.{IsBytes-piece, length-piece}
 use Rattle.vr_disk.specs.DiskState.{Face, IsFace}
-use Rattle.vr_ckpt.specs.StateTexts.{key_payloads, payloads, session_payloads}
+use Rattle.vr_state.specs.StateTexts.{key_payloads, payloads, session_payloads}
 use Rattle.vr_ckpt.specs.declared.name.Name.{Name}
 use Rattle.vr_ckpt.specs.Blocks.{Content, named}
 use Rattle.vr_ckpt.specs.Grid.{block_reading, named_at}
@@ -24,10 +24,10 @@ use Rattle.std.specs.List.{AllByRecursion}
 use Rattle.vr_base.proofs.AreBytes.{IsBytes-append, IsBytes-none}
 use Rattle.vr_disk.specs.Regions.{block_place}
 use Rattle.vr_disk.proofs.Together.{together_bytes}
-use Rattle.vr_ckpt.specs.Texts.{Texts}
+use Rattle.vr_state.specs.declared.texts.Texts.{Texts}
 use Rattle.vr_ckpt.specs.declared.table.PayloadTable.{PayloadTable}
-use Rattle.vr_world.specs.Sectors.{block_in}
-use Rattle.vr_world.proofs.FitLoads.{given}
+use Rattle.vr_rules.specs.Sectors.{block_in}
+use Rattle.vr_rules.proofs.FitLoads.{given}
 use Rattle.law_4_disks.specs.Stocks.{IsNamed, IsPlaced}
 use Rattle.law_4_disks.proofs.Blocks.{Lowers, TableNamed, fewer_lowers, key_lowers, placed, session_lowers}
 

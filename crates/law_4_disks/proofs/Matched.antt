@@ -1,40 +1,35 @@
 -- Each line of a schedule is a move of the group, or none.
 use Rattle.std.proofs.Common.{◌∷◌, inl, inr, ℕ, ◌+◌, ◌-◌, ◌%◌, ◌<◌, ◌≡◌, refl, sym, ap, ◌∙◌, subst, Bool, true, false, cond, List, [], ◌++◌, length, take, Option, Some, None}
 use Rattle.std.specs.Prelude.{◌==◌, nat_le, slice_get}
-use Rattle.std.specs.Option.{option_map, option_map_or}
+use Rattle.std.specs.Option.{option_map, option_map_or, option_and_then}
 use Rattle.std.proofs.lemmas.Bool.{eq-eqb, eqb-true, leb-false, leb-true}
 use Rattle.vr_disk.specs.DiskState.{Fuse}
 use Rattle.vr_msg.specs.declared.event.Event.TheVariants as event
 use Rattle.vr_msg.specs.declared.output.Output.TheVariants as output
 use Rattle.vr_msg.specs.declared.output.Sent.{Sent}
-use Rattle.vr_lie.specs.Copies.{SuperValue}
-use Rattle.vr_lie.specs.Opens.{opens}
+use Rattle.vr_super.specs.Copies.{SuperValue, IsGood}
+use Rattle.vr_super.specs.Opens.{opens}
 use Rattle.vr_lie.specs.declared.fault.Fault.{Fault}
-use Rattle.vr_lie.specs.Faults.{faulted}
-use Rattle.vr_world.specs.Replica.{Replica}
-use Rattle.vr_world.specs.Steps.{Step, after_all}
-use Rattle.vr_world.specs.Steps as steps
-use Rattle.vr_world.specs.Opening.{blank, opened, opening}
-use Rattle.vr_world.specs.Sectors.{of_version, script_calls}
+use Rattle.vr_lie.specs.Faults.{faulted, IsFault}
+use Rattle.vr_rules.specs.Replica.{Replica}
+use Rattle.vr_rules.specs.Steps.{Step, after_all, Effect, Mend, Setting, Word, ◌⨾◌, change, does, each, quiet, reading}
+use Rattle.vr_rules.specs.Steps as steps
+use Rattle.vr_rules.specs.Opening.{blank, opened, opening, Slot, entry_header, mend_slot, recover_old, recover_op, recover_parts, resuming, rewrite}
+use Rattle.vr_rules.specs.Sectors.{of_version, script_calls}
 use Rattle.vr_world.specs.Lying.{Lying, cut_calls, hazards, keeps_premise, lied_to, lying, unless_kept_out}
 use Rattle.vr_world.specs.World as world
 use Rattle.vr_world.specs.World.{Acted, Happening, World, Begins, Asks, AsksInVersion, Arrives, Ticks, Stops, Starts, Migrates, Fuses, Lies, at_member, acts, delivered, halted, handles, if_first, lied, migrated_or_halted, migrated_with, migration_halted, movable_by, nothing, stays, went, went_or_halted, with_member}
-use Rattle.vr_world.specs.Outputs.{messages}
+use Rattle.vr_rules.specs.Outputs.{messages}
 use Rattle.vr_world.specs.Group as group
-use Rattle.vr_world.specs.Migrating.{migrated, migration_calls}
-use Rattle.vr_world.specs.Group.{Asked, Group, IsArrival, Message, Movable, Move, Moves, Opens, Time, carried_out, cut_after, cut_in_two, migration, move_cut, moved_over, found, keeps_all, mended, once_mended, opening_script, recovered, resumed, start_cut, started}
-use Rattle.vr_world.proofs.Halves.{after_both}
+use Rattle.vr_rules.specs.Migrating.{migrated, migration_calls}
+use Rattle.vr_world.specs.Group.{Asked, Group, IsArrival, Message, Movable, Move, Moves, Opens, Time, carried_out, cut_after, cut_in_two, migration, move_cut, moved_over, found, keeps_all, mended, once_mended, opening_script, recovered, resumed, start_cut, started, Arrival, made_in}
+use Rattle.vr_rules.proofs.Halves.{after_both}
 use Rattle.std.specs.List.{AllByRecursion}
-use Rattle.std.specs.Option.{option_and_then}
 use Rattle.vr_base.specs.Bytes.{IsBytes}
 use Rattle.vr_header.specs.NoCollision.{NoCollision}
 use Rattle.vr_msg.specs.declared.event.Event.{Event}
-use Rattle.vr_lie.specs.Copies.{IsGood}
-use Rattle.vr_lie.specs.Faults.{IsFault}
-use Rattle.vr_world.specs.Steps.{Effect, Mend}
-use Rattle.vr_world.specs.Group.{Arrival, made_in}
 use Rattle.vr_world.specs.GroupFit.{IsFitArrival, IsFitGroup}
-use Rattle.vr_world.specs.Own.{IsOwnValue}
+use Rattle.vr_rules.specs.Own.{IsOwnValue}
 use Rattle.vr_world.proofs.FitLies.{lies_fit, same_version}
 use Rattle.vr_world.proofs.FitGroups.{Known, good_value, groups_fit, known_right, start_is}
 use Rattle.law_4_disks.specs.Beside.{AreMade, Finds, IsOff, IsOn, MayGo, TellsIn}
@@ -49,15 +44,13 @@ use Rattle.law_4_disks.proofs.Going.{known_goes, mended_value, once_last, recove
 use Rattle.law_4_disks.proofs.Opening.{is_mended_of, openings_find}
 use Rattle.law_4_disks.proofs.Recovering.{go_both, values}
 use Rattle.law_4_disks.proofs.Scripts.{scripts_stay}
-use Rattle.vr_ckpt.specs.Kv.{IsKv}
-use Rattle.vr_ckpt.specs.Sessions.{IsSessions}
-use Rattle.vr_ckpt.specs.State.{State}
+use Rattle.vr_state.specs.Kv.{IsKv}
+use Rattle.vr_state.specs.Sessions.{IsSessions}
+use Rattle.vr_state.specs.declared.state.State.{State}
 use Rattle.vr_ckpt.specs.declared.table.PayloadTable.{PayloadTable}
 use Rattle.vr_header.specs.declared.header.Header.{Header}
 use Rattle.vr_recover.specs.declared.readings.Verdict.{Verdict}
 use Rattle.vr_recover.specs.declared.readings.Verdict.TheVariants as verdict
-use Rattle.vr_world.specs.Steps.{Setting, Word, ◌⨾◌, change, does, each, quiet, reading}
-use Rattle.vr_world.specs.Opening.{Slot, entry_header, mend_slot, recover_old, recover_op, recover_parts, resuming, rewrite}
 use Rattle.law_4_disks.specs.Stocks.{IsGivenEvent, IsNamed, IsStocked, IsStockedGroup, WritesBlocks}
 use Rattle.law_4_disks.proofs.States.{state_empty}
 use Rattle.law_4_disks.proofs.Stocking.{At, Leaves}

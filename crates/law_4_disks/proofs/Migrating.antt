@@ -18,19 +18,19 @@ use Rattle.vr_rings.specs.Moving.{Moves, is_movable, moved_of, moves, relocated}
 use Rattle.vr_rings.proofs.Moving.{all_within, moves_keep, within_apart}
 use Rattle.vr_rings.proofs.Relocated.{relocated_moved}
 use Rattle.vr_super.specs.Laws.{IsSaved, TellsApart}
-use Rattle.vr_lie.specs.Calls.{mend_calls, write_calls}
-use Rattle.vr_lie.specs.Copies.{IsGood, SuperValue}
+use Rattle.vr_super.specs.Calls.{mend_calls, write_calls}
+use Rattle.vr_super.specs.Copies.{IsGood, SuperValue}
 use Rattle.vr_lie.specs.Faults.{held_at}
-use Rattle.vr_lie.specs.Held.{Stands, held_after_all, looked}
-use Rattle.vr_lie.specs.Opens.{opens}
-use Rattle.vr_lie.specs.Slots.{prepare_reading}
-use Rattle.vr_lie.proofs.Cutting.{AllApart, Rests, apart_cut}
-use Rattle.vr_lie.proofs.Keeping.{opens_on, write_law}
-use Rattle.vr_lie.proofs.Standing.{calls_stand, stands_look}
+use Rattle.vr_rings.specs.Held.{Stands, held_after_all, looked}
+use Rattle.vr_super.specs.Opens.{opens}
+use Rattle.vr_rings.specs.Slots.{prepare_reading}
+use Rattle.vr_rings.proofs.Cutting.{AllApart, Rests, apart_cut}
+use Rattle.vr_super.proofs.Keeping.{opens_on, write_law}
+use Rattle.vr_rings.proofs.Standing.{calls_stand, stands_look}
 use Rattle.vr_world.specs.Group.{Member, MayOpen, begins, carried_out, cut_after, ends, migration}
 use Rattle.vr_world.specs.Lying.{Lying, after_calls, cut_calls, settled}
-use Rattle.vr_world.specs.Migrating.{migrated, migration_calls, slot_calls}
-use Rattle.vr_world.specs.Steps.{Mend, Save}
+use Rattle.vr_rules.specs.Migrating.{migrated, migration_calls, slot_calls}
+use Rattle.vr_rules.specs.Steps.{Mend, Save}
 use Rattle.law_4_disks.specs.Beside.{IsCalm, IsHeld, IsOff, IsOn, MayCome, Tells}
 use Rattle.law_4_disks.specs.Naming.{IsHashedBy, IsHashedMigrating, IsMet, mended_on, moved_on}
 use Rattle.law_4_disks.proofs.Calls.{AreCalls, calls_append, mend_are, save_are, writes_are}

@@ -7,19 +7,19 @@ use Rattle.std.proofs.lemmas.List.Folds.{list_any-from_Any}
 use Rattle.vr_header.specs.declared.header.Header.{Header}
 use Rattle.vr_header.specs.declared.part.Part.{Part}
 use Rattle.vr_header.specs.declared.part.Part.TheVariants as part
-use Rattle.vr_msg.specs.Logs.{header_of}
-use Rattle.vr_lie.specs.Copies.{IsGood, SuperValue}
-use Rattle.vr_lie.specs.Slots.{slot_of}
+use Rattle.vr_header.specs.Parts.{header_of}
+use Rattle.vr_super.specs.Copies.{IsGood, SuperValue}
+use Rattle.vr_rings.specs.Slots.{slot_of}
 use Rattle.vr_lie.specs.Faults.{held_at}
-use Rattle.vr_world.specs.Replica.{Replica, forgetting, part_at}
-use Rattle.vr_world.specs.Steps.{Mend, ◌⨾◌, change, does, each, after_all}
-use Rattle.vr_world.specs.Opening.{blank, clouded, clouded_at, clouded_part, first_listed, old_headers, recover_old, recover_op, recover_parts, slot_at, stored_above, was_stored}
+use Rattle.vr_rules.specs.Replica.{Replica, forgetting, part_at}
+use Rattle.vr_rules.specs.Steps.{Mend, ◌⨾◌, change, does, each, after_all}
+use Rattle.vr_rules.specs.Opening.{blank, clouded, clouded_at, clouded_part, first_listed, old_headers, recover_old, recover_op, recover_parts, slot_at, stored_above, was_stored}
 use Rattle.vr_world.specs.Lying.{Lying, lying}
 use Rattle.vr_world.specs.Group.{AreSound, IsFoundAbove, IsUndenied, Member, begins, carried_out, ends, found, keeps_all, keeps_found, kept_at, mended, once_mended, recovered, with_kept}
-use Rattle.vr_world.proofs.Heads.{Spans, forgetting_at, forgetting_checkpoint, forgetting_spans, head_within, known_within, knows_some, part_within, remade_at, remade_spans}
-use Rattle.vr_world.proofs.Slots.{Value, value_is}
+use Rattle.vr_rules.proofs.Heads.{Spans, forgetting_at, forgetting_checkpoint, forgetting_spans, head_within, known_within, knows_some, part_within, remade_at, remade_spans}
+use Rattle.vr_rules.proofs.Slots.{Value, value_is}
 use Rattle.law_4_disks.specs.Beside.{AreMade, HoldsEntry, IsCalm, IsHeld, IsOff, IsOn, MayGo}
-use Rattle.vr_lie.proofs.Keeping.{opens_on}
+use Rattle.vr_super.proofs.Keeping.{opens_on}
 use Rattle.law_4_disks.specs.Laws.{OpeningsFind}
 use Rattle.law_4_disks.proofs.Calls.{mend_are}
 use Rattle.law_4_disks.proofs.Effects.{mend_opens, slot_less, written_held, set_other}

@@ -14,20 +14,20 @@ use Rattle.vr_header.specs.declared.header.Header.{Header}
 use Rattle.vr_header.specs.Made.{Whole}
 use Rattle.vr_header.specs.Spelling.{IsHeader}
 use Rattle.vr_rings.specs.Calls.{again_calls, header_calls, new_calls, prepare_calls}
-use Rattle.vr_lie.specs.Held.{Stands, entry_of_both, entry_read, header_sector, held_cut, is_prepare}
+use Rattle.vr_rings.specs.Held.{Stands, entry_of_both, entry_read, header_sector, held_cut, is_prepare}
 use Rattle.vr_rings.specs.Laws.{AgainLeaves, HeaderLeaves, LastsIn, NewLeaves, TellsPrepare, TellsUpTo}
-use Rattle.vr_lie.specs.Slots.{IsWhole, Takes, header_reading, padded, prepare_bytes, prepare_reading, sector_of, slot_of, whole_in}
-use Rattle.vr_lie.proofs.Keeping.{opens_on}
-use Rattle.vr_lie.proofs.Leaving.{again_leaves, header_leaves, new_leaves}
-use Rattle.vr_lie.proofs.Standing.{calls_stand, prepare_other}
-use Rattle.vr_lie.proofs.Spelling.{header_sector_is, whole_again}
+use Rattle.vr_rings.specs.Slots.{IsWhole, Takes, header_reading, padded, prepare_bytes, prepare_reading, sector_of, slot_of, whole_in}
+use Rattle.vr_super.proofs.Keeping.{opens_on}
+use Rattle.vr_rings.proofs.Leaving.{again_leaves, header_leaves, new_leaves}
+use Rattle.vr_rings.proofs.Standing.{calls_stand, prepare_other}
+use Rattle.vr_rings.proofs.Spelling.{header_sector_is, whole_again}
 use Rattle.vr_ckpt.specs.Grid.{block_calls, put_calls}
-use Rattle.vr_ckpt.specs.Texts.{Texts}
+use Rattle.vr_state.specs.declared.texts.Texts.{Texts}
 use Rattle.vr_ckpt.specs.declared.table.PayloadTable.{PayloadTable}
 use Rattle.vr_ckpt.specs.Saves.{blocks_calls, save_calls, written}
 use Rattle.vr_lie.specs.Faults.{held_at}
-use Rattle.vr_world.specs.Steps as effect
-use Rattle.vr_world.specs.Steps.{Rewrite, Save, Mend, Checkpoint, PutBlock, Say}
+use Rattle.vr_rules.specs.Steps as effect
+use Rattle.vr_rules.specs.Steps.{Rewrite, Save, Mend, Checkpoint, PutBlock, Say}
 use Rattle.vr_world.specs.Lying.{Lying, after_calls}
 use Rattle.vr_world.specs.Group.{Member, begins, ends, kept_at, kept_under}
 use Rattle.law_4_disks.specs.Beside.{IsOff, IsOn, MayCome}

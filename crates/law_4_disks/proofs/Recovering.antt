@@ -9,20 +9,20 @@ use Rattle.vr_header.specs.declared.part.Part.TheVariants as part
 use Rattle.vr_header.specs.Made.{Whole}
 use Rattle.vr_recover.specs.declared.readings.Verdict.{Verdict}
 use Rattle.vr_recover.specs.declared.readings.Verdict.TheVariants as verdict
-use Rattle.vr_lie.specs.Copies.{SuperValue}
+use Rattle.vr_super.specs.Copies.{SuperValue}
 use Rattle.vr_rings.specs.Calls.{header_calls}
-use Rattle.vr_lie.specs.Held.{entry_read}
-use Rattle.vr_lie.specs.Slots.{header_in, header_reading, prepare_bytes, prepare_reading, slot_of, sector_of, whole_in}
+use Rattle.vr_rings.specs.Held.{entry_read}
+use Rattle.vr_rings.specs.Slots.{header_in, header_reading, prepare_bytes, prepare_reading, slot_of, sector_of, whole_in}
 use Rattle.vr_lie.specs.Faults.{held_at}
-use Rattle.vr_world.specs.Replica.{Replica, part_at, with_part}
-use Rattle.vr_world.specs.Steps.{Effect, Rewrite, Word, ◌⨾◌, quiet, change, does, reading, each, after_all}
-use Rattle.vr_world.specs.Words.{entry_of}
-use Rattle.vr_world.specs.Opening.{Slot, entry_header, first_listed, may_be, mend_slot, old_part, part_by, recover_old, recover_op, rewrite, slot_at, slot_verdict, some_part}
+use Rattle.vr_rules.specs.Replica.{Replica, part_at, with_part}
+use Rattle.vr_rules.specs.Steps.{Effect, Rewrite, Word, ◌⨾◌, quiet, change, does, reading, each, after_all}
+use Rattle.vr_rules.specs.Words.{entry_of}
+use Rattle.vr_rules.specs.Opening.{Slot, entry_header, first_listed, may_be, mend_slot, old_part, part_by, recover_old, recover_op, rewrite, slot_at, slot_verdict, some_part}
 use Rattle.vr_world.specs.Lying.{Lying, lying}
 use Rattle.vr_world.specs.Group.{Member, begins, carried_out, ends, kept_at, kept_under}
-use Rattle.vr_world.proofs.Halves.{after_both}
-use Rattle.vr_world.proofs.Heads.{with_part_at, with_part_other}
-use Rattle.vr_world.proofs.Slots.{Value}
+use Rattle.vr_rules.proofs.Halves.{after_both}
+use Rattle.vr_rules.proofs.Heads.{with_part_at, with_part_other}
+use Rattle.vr_rules.proofs.Slots.{Value}
 use Rattle.law_4_disks.specs.Beside.{HoldsEntry, IsOn, MayCome, MayGo, value_after}
 use Rattle.law_4_disks.proofs.Calls.{header_are}
 use Rattle.law_4_disks.proofs.Slots.{apart_alike}

@@ -9,19 +9,19 @@ use Rattle.vr_disk.proofs.Places.{behind_headers, grid_apart, in_order}
 use Rattle.vr_disk.proofs.Together.{Within, writes_within}
 use Rattle.vr_header.specs.declared.header.Header.{Header}
 use Rattle.vr_header.specs.Made.{Whole}
-use Rattle.vr_lie.specs.Copies.{SuperValue, copy_bytes}
-use Rattle.vr_lie.specs.Opens.{copy_reading}
-use Rattle.vr_lie.specs.Calls.{copy_calls, mend_calls, mend_copy, mend_from, mend_unless, save_from, write_calls}
-use Rattle.vr_lie.proofs.Readings.{copy_within, mend_within}
+use Rattle.vr_super.specs.Copies.{SuperValue, copy_bytes}
+use Rattle.vr_super.specs.Opens.{copy_reading}
+use Rattle.vr_super.specs.Calls.{copy_calls, mend_calls, mend_copy, mend_from, mend_unless, save_from, write_calls}
+use Rattle.vr_super.proofs.Readings.{copy_within, mend_within}
 use Rattle.vr_rings.specs.Calls.{again_calls, header_calls, new_calls, prepare_calls}
-use Rattle.vr_lie.specs.Slots.{prepare_bytes, slot_of}
-use Rattle.vr_lie.proofs.Cutting.{AllApart}
+use Rattle.vr_rings.specs.Slots.{prepare_bytes, slot_of}
+use Rattle.vr_rings.proofs.Cutting.{AllApart}
 use Rattle.vr_ckpt.specs.Grid.{block_calls, put_calls}
 use Rattle.vr_ckpt.specs.declared.block.Block.{Block}
 use Rattle.vr_ckpt.specs.Saves.{blocks_calls, save_calls, written}
-use Rattle.vr_ckpt.specs.Texts.{Texts}
+use Rattle.vr_state.specs.declared.texts.Texts.{Texts}
 use Rattle.vr_ckpt.specs.declared.table.PayloadTable.{PayloadTable}
-use Rattle.vr_world.proofs.FitDisks.{grid_behind}
+use Rattle.vr_rules.proofs.FitDisks.{grid_behind}
 use Rattle.law_4_disks.proofs.Slots.{apart_append, within_low}
 use Rattle.law_4_disks.proofs.Supers.{From, from_append, writes_from}
 

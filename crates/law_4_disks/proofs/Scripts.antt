@@ -5,13 +5,13 @@ use Rattle.std.proofs.lemmas.List.{length-append}
 use Rattle.vr_disk.specs.DiskState.{Call, Face, IsFace}
 use Rattle.vr_disk.specs.DiskState as disk
 use Rattle.vr_disk.proofs.Stopping.{cuts_both}
-use Rattle.vr_lie.specs.Copies.{SuperValue}
-use Rattle.vr_lie.specs.Opens.{opens}
-use Rattle.vr_lie.specs.Held.{Stands, held_after_all, held_cut}
-use Rattle.vr_lie.proofs.Cutting.{held_both}
+use Rattle.vr_super.specs.Copies.{SuperValue}
+use Rattle.vr_super.specs.Opens.{opens}
+use Rattle.vr_rings.specs.Held.{Stands, held_after_all, held_cut}
+use Rattle.vr_rings.proofs.Cutting.{held_both}
 use Rattle.vr_lie.specs.Faults.{held_at}
-use Rattle.vr_world.specs.Steps.{Effect, Write, Rewrite, Save, Mend, Checkpoint, PutBlock, Say, after_all}
-use Rattle.vr_world.specs.Sectors.{calls_by, script_calls}
+use Rattle.vr_rules.specs.Steps.{Effect, Write, Rewrite, Save, Mend, Checkpoint, PutBlock, Say, after_all}
+use Rattle.vr_rules.specs.Sectors.{calls_by, script_calls}
 use Rattle.vr_world.specs.Lying.{Lying, after_calls, cut_calls, lying}
 use Rattle.vr_world.specs.Group.{Member, begins, carried_out, cut_after, ends}
 use Rattle.law_4_disks.specs.Beside.{IsCutAt, IsOff, MayGo, begun_before, value_after}

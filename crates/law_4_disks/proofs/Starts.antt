@@ -6,17 +6,17 @@ use Rattle.vr_disk.specs.DiskState as disk
 use Rattle.vr_disk.specs.DiskState.{Call, Face}
 use Rattle.vr_disk.proofs.Together.{after_all_append}
 use Rattle.vr_disk.proofs.Stopping.{cuts_both}
-use Rattle.vr_lie.specs.Copies.{SuperValue}
-use Rattle.vr_lie.specs.Held.{held_after, held_after_all, held_cut}
-use Rattle.vr_lie.proofs.Cutting.{held_both}
+use Rattle.vr_super.specs.Copies.{SuperValue}
+use Rattle.vr_rings.specs.Held.{held_after, held_after_all, held_cut}
+use Rattle.vr_rings.proofs.Cutting.{held_both}
 use Rattle.vr_lie.specs.Faults.{held_at}
-use Rattle.vr_world.specs.Steps.{Effect, Mend, Step, ◌⨾◌, after_all, does}
-use Rattle.vr_world.specs.Opening.{blank, opening, recover_parts}
-use Rattle.vr_world.specs.Sectors.{calls_by, script_calls}
+use Rattle.vr_rules.specs.Steps.{Effect, Mend, Step, ◌⨾◌, after_all, does}
+use Rattle.vr_rules.specs.Opening.{blank, opening, recover_parts}
+use Rattle.vr_rules.specs.Sectors.{calls_by, script_calls}
+use Rattle.vr_rules.proofs.Halves.{openings_go_on}
 use Rattle.vr_world.specs.Lying.{Lying, cut_calls, lying}
 use Rattle.vr_world.specs.Group.{Member, carried_out, cut_after, cut_in_two, found, keeps_all, mended, once_mended, opening_script, resumed}
 use Rattle.vr_world.proofs.FitLies.{same_version}
-use Rattle.vr_world.proofs.Halves.{openings_go_on}
 use Rattle.law_4_disks.specs.Beside.{IsCutAt, IsOff, IsOn, MayGo, TellsIn, begun_before}
 use Rattle.law_4_disks.proofs.Effects.{at_slot}
 use Rattle.law_4_disks.proofs.Scripts.{Same, openings_cut, same_off, scripts_cut}

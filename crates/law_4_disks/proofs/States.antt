@@ -5,6 +5,7 @@ use Rattle.std.specs.List.{AllByRecursion, flat_map}
 use Rattle.std.specs.Option.{option_map_or}
 use Rattle.std.specs.Ordering.{eq_by_cmp, nat_cmp}
 use Rattle.std.proofs.lemmas.Bool.{cond_both, ltb-true, ltb-false}
+use Rattle.std.specs.FinMap.Entries.{find, put}
 use Rattle.vr_base.specs.Versions.{session_limit, value_limit}
 use Rattle.vr_base.proofs.Versions.{more}
 use Rattle.vr_base.specs.Bytes.{IsBytes, bytes16, bytes32, bytes64}
@@ -18,27 +19,27 @@ use Rattle.vr_header.specs.declared.outcome.Outcome.{Outcome}
 use Rattle.vr_header.specs.declared.outcome.Outcome.TheVariants as outcome
 use Rattle.vr_header.proofs.AreBytes.{text-are}
 use Rattle.vr_header.proofs.BodyLaws.{text_limit, text_more}
-use Rattle.vr_ckpt.specs.Finite.{byte_order, find, put}
-use Rattle.vr_ckpt.specs.Table.{table_text}
-use Rattle.vr_ckpt.specs.Kv as kv
-use Rattle.vr_ckpt.specs.Kv.{IsKv}
-use Rattle.vr_ckpt.specs.Pairs as pairs
-use Rattle.vr_ckpt.specs.Pairs.{kv_decoded, kv_text, pair_text}
-use Rattle.vr_ckpt.proofs.KvSteps.{IsKv-deleting, IsKv-empty, IsKv-putting}
-use Rattle.vr_ckpt.proofs.KvTexts.{kv_found, length-kv_text}
-use Rattle.vr_ckpt.specs.Sessions as sess
-use Rattle.vr_ckpt.specs.Sessions.{IsSessions, OutcomeFits, oldest}
-use Rattle.vr_ckpt.specs.Effects.{stored}
-use Rattle.vr_ckpt.specs.SessionTexts.{session_text, sessions_decoded, sessions_text}
-use Rattle.vr_ckpt.specs.Session.{Session}
-use Rattle.vr_ckpt.specs.SessionAnswer.TheVariants as answer
-use Rattle.vr_ckpt.proofs.SessionSteps.{evicted_applied, evicted_held, full_has_oldest, room_applied, room_held, there_applied, there_held}
-use Rattle.vr_ckpt.proofs.Spelled.{length-sessions_text, sessions_found}
-use Rattle.vr_ckpt.specs.Folds.{applied, answered, empty, asked, check, executed}
-use Rattle.vr_ckpt.specs.StateTexts.{both_read, key_payloads, payloads, session_payloads, state_decoded, texts_of}
-use Rattle.vr_ckpt.specs.Texts.{Texts}
-use Rattle.vr_ckpt.specs.State.{State}
-use Rattle.vr_lie.specs.Slots.{IsWhole}
+use Rattle.vr_state.specs.Finite.{byte_order}
+use Rattle.vr_state.specs.Table.{table_text}
+use Rattle.vr_state.specs.Kv as kv
+use Rattle.vr_state.specs.Kv.{IsKv}
+use Rattle.vr_state.specs.Pairs as pairs
+use Rattle.vr_state.specs.Pairs.{kv_decoded, kv_text, pair_text}
+use Rattle.vr_state.proofs.KvSteps.{IsKv-deleting, IsKv-empty, IsKv-putting}
+use Rattle.vr_state.proofs.KvTexts.{kv_found, length-kv_text}
+use Rattle.vr_state.specs.Sessions as sess
+use Rattle.vr_state.specs.Sessions.{IsSessions, OutcomeFits, oldest}
+use Rattle.vr_state.specs.Effects.{stored}
+use Rattle.vr_state.specs.SessionTexts.{session_text, sessions_decoded, sessions_text}
+use Rattle.vr_state.specs.declared.session.Session.{Session}
+use Rattle.vr_state.specs.declared.session.SessionAnswer.TheVariants as answer
+use Rattle.vr_state.proofs.SessionSteps.{evicted_applied, evicted_held, full_has_oldest, room_applied, room_held, there_applied, there_held}
+use Rattle.vr_state.proofs.Spelled.{length-sessions_text, sessions_found}
+use Rattle.vr_state.specs.Folds.{applied, answered, empty, asked, check, executed}
+use Rattle.vr_state.specs.StateTexts.{both_read, key_payloads, payloads, session_payloads, state_decoded, texts_of}
+use Rattle.vr_state.specs.declared.texts.Texts.{Texts}
+use Rattle.vr_state.specs.declared.state.State.{State}
+use Rattle.vr_rings.specs.Slots.{IsWhole}
 
 pub record IsState (s : State) : Type 0 where
   pub sessions : IsSessions s.sessions

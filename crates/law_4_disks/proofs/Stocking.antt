@@ -1,10 +1,9 @@
 -- What writes of blocks words make, and what a replica keeps of which its checkpoints are written.
-use Rattle.std.proofs.Common.{◌≡◌, refl, sym, ◌∙◌, subst, ℕ, zero, suc, Bool, true, false, cond, List, [], ◌∷◌, ◌++◌, map, Option, Some, None, Ok}
+use Rattle.std.proofs.Common.{◌≡◌, refl, sym, ◌∙◌, subst, ℕ, zero, suc, Bool, true, false, cond, List, [], ◌∷◌, ◌++◌, map, Option, Some, None, Ok, arith}
 use Rattle.std.specs.Prelude.{◌%◌}
 use Rattle.std.specs.Option.{option_and_then}
-use Rattle.std.proofs.Common.{arith}
-use Rattle.vr_ckpt.specs.Kv.{IsKv}
-use Rattle.vr_ckpt.specs.Sessions.{IsSessions}
+use Rattle.vr_state.specs.Kv.{IsKv}
+use Rattle.vr_state.specs.Sessions.{IsSessions}
 use Rattle.std.specs.List.{AllByRecursion}
 use Rattle.vr_disk.specs.DiskState.{IsFace}
 use Rattle.vr_disk.proofs.Faces.{face_after_all}
@@ -13,29 +12,29 @@ use Rattle.vr_header.specs.declared.part.Part.{Part}
 use Rattle.vr_header.specs.declared.part.Part.TheVariants.{Here}
 use Rattle.vr_header.specs.Made.{Whole}
 use Rattle.vr_header.specs.Same.{same_header}
-use Rattle.vr_lie.specs.Slots.{IsWhole, whole_in}
-use Rattle.vr_lie.specs.Copies.{IsGood, SuperValue}
+use Rattle.vr_rings.specs.Slots.{IsWhole, whole_in}
+use Rattle.vr_super.specs.Copies.{IsGood, SuperValue}
 use Rattle.vr_ckpt.specs.declared.name.Name.{Name}
 use Rattle.vr_ckpt.specs.declared.found.Load.{Load}
 use Rattle.vr_ckpt.specs.declared.found.Load.TheVariants.{Loaded, Missing}
 use Rattle.vr_ckpt.specs.Loads.{loaded}
 use Rattle.vr_ckpt.specs.declared.table.PayloadTable.{PayloadTable}
-use Rattle.vr_ckpt.specs.Texts.{Texts}
-use Rattle.vr_ckpt.specs.State.{State}
-use Rattle.vr_ckpt.specs.Folds as applying
-use Rattle.vr_ckpt.specs.StateTexts.{state_decoded, texts_of}
+use Rattle.vr_state.specs.declared.texts.Texts.{Texts}
+use Rattle.vr_state.specs.declared.state.State.{State}
+use Rattle.vr_state.specs.Folds as applying
+use Rattle.vr_state.specs.StateTexts.{state_decoded, texts_of}
 use Rattle.vr_msg.specs.declared.choice.Choice.{Choice}
 use Rattle.vr_msg.specs.declared.choice.Choice.TheVariants.{Ends, WaitsAt, TooFew}
 use Rattle.vr_msg.specs.declared.frame.Frame.{Frame}
 use Rattle.vr_msg.specs.declared.frame.SyncView.{SyncView}
 use Rattle.vr_msg.specs.declared.output.Output.{Output}
 use Rattle.vr_msg.specs.declared.statement.Statement.{Statement}
-use Rattle.vr_world.specs.Replica.{Replica, version, leads, part_at, forgetting, with_part}
-use Rattle.vr_world.specs.Outputs.{applied_reply, asker_of, kind_of, others, prepare, replies, send, send_to_all, start_view, start_view_change}
-use Rattle.vr_world.specs.Steps.{Effect, Write, Rewrite, Save, Mend, Checkpoint, PutBlock, Say, Setting, Word, ◌⨾◌, quiet, change, does, says, by, naming, reading, when, times, each, after_all}
-use Rattle.vr_world.specs.Words.{Log, save, enter, entered, write, stored, accept, entry_of, lost, or_lost, with_entry, with_entry_at, with_checkpoint, make_checkpoint, checkpoints, checkpoint_at, checkpoint_of, apply_entry, apply_next, apply, applied, advanced, advance, learn, taken, take, prepare_again, begin_view, try_log, stated, decided, obey_choice, try, speak, resend, ask_peer, ask_for, ask, with_state, loaded_state, loads, load, jump, jumped, usable}
+use Rattle.vr_rules.specs.Replica.{Replica, version, leads, part_at, forgetting, with_part}
+use Rattle.vr_rules.specs.Outputs.{applied_reply, asker_of, kind_of, others, prepare, replies, send, send_to_all, start_view, start_view_change}
+use Rattle.vr_rules.specs.Steps.{Effect, Write, Rewrite, Save, Mend, Checkpoint, PutBlock, Say, Setting, Word, ◌⨾◌, quiet, change, does, says, by, naming, reading, when, times, each, after_all}
+use Rattle.vr_rules.specs.Words.{Log, save, enter, entered, write, stored, accept, entry_of, lost, or_lost, with_entry, with_entry_at, with_checkpoint, make_checkpoint, checkpoints, checkpoint_at, checkpoint_of, apply_entry, apply_next, apply, applied, advanced, advance, learn, taken, take, prepare_again, begin_view, try_log, stated, decided, obey_choice, try, speak, resend, ask_peer, ask_for, ask, with_state, loaded_state, loads, load, jump, jumped, usable}
 use Rattle.vr_world.specs.Lying.{Lying, lying}
-use Rattle.vr_world.proofs.Wording.{usable_is}
+use Rattle.vr_rules.proofs.Wording.{usable_is}
 use Rattle.vr_world.proofs.FitLies.{same_version}
 use Rattle.vr_world.proofs.FitGroups.{Known, known_first, known_left, known_rest, known_right}
 use Rattle.law_4_disks.specs.Chains.{Chain, GoesWell, Rewrites}

@@ -1,6 +1,6 @@
 -- What writes of blocks steps and openings make.
-use Rattle.std.proofs.Common.{◌+◌, ◌≡◌, refl, ℕ, Bool, true, List, [], ◌∷◌, Option, Some, None}
-use Rattle.std.specs.Prelude.{find, ◌==◌}
+use Rattle.std.proofs.Common.{◌+◌, ◌≡◌, refl, ℕ, Bool, true, List, [], ◌∷◌, Option, Some, None, ap, false, subst, cond, ◌<◌}
+use Rattle.std.specs.Prelude.{find, ◌==◌, is_some, ⊤}
 use Rattle.std.specs.Option.{option_map_or}
 use Rattle.std.proofs.lemmas.Bool.{and_parts}
 use Rattle.vr_header.specs.declared.header.Header.{Header}
@@ -24,29 +24,27 @@ use Rattle.vr_msg.specs.declared.frame.StartView.{StartView}
 use Rattle.vr_msg.specs.declared.frame.StartViewChange.{StartViewChange}
 use Rattle.vr_msg.specs.declared.frame.SyncView.{SyncView}
 use Rattle.vr_msg.specs.declared.request.RequestFields.{RequestFields}
-use Rattle.vr_ckpt.specs.SessionAnswer.{SessionAnswer}
-use Rattle.vr_ckpt.specs.SessionAnswer.TheVariants as answer
-use Rattle.vr_world.specs.Replica.{Replica, header_at}
-use Rattle.vr_world.specs.Steps.{PutBlock, Word, ◌⨾◌, by, quiet, change, does, reading, says, when}
+use Rattle.vr_state.specs.declared.session.SessionAnswer.{SessionAnswer}
+use Rattle.vr_state.specs.declared.session.SessionAnswer.TheVariants as answer
+use Rattle.vr_rules.specs.Replica.{Replica, header_at}
+use Rattle.vr_rules.specs.Steps.{PutBlock, Word, ◌⨾◌, by, quiet, change, does, reading, says, when}
 use Rattle.vr_world.proofs.FitGroups.{Known as IsKnown}
-use Rattle.vr_world.specs.Outputs.{commit_message, prepare, send_to_all, start_line, start_view_change}
-use Rattle.vr_world.specs.Own.{IsAt}
-use Rattle.vr_world.specs.Sound.{IsSound}
-use Rattle.vr_world.proofs.Combining.{keeps_by, keeps_says, keeps_when}
-use Rattle.vr_world.proofs.Wording.{keeps_prepare_again}
-use Rattle.vr_world.proofs.Trying.{keeps_speak}
-use Rattle.vr_world.proofs.Reacting.{keeps_idler}
-use Rattle.vr_world.proofs.OwnWords.{owned_again, owned_by, owned_change, owned_says, owned_speak, owned_when}
-use Rattle.vr_world.specs.Asker.{Asker}
-use Rattle.vr_world.specs.Words.{load, rested, speak}
+use Rattle.vr_rules.specs.Outputs.{commit_message, prepare, send_to_all, start_line, start_view_change}
+use Rattle.vr_rules.specs.Own.{IsAt}
+use Rattle.vr_rules.specs.Sound.{IsSound}
+use Rattle.vr_rules.proofs.Combining.{keeps_by, keeps_says, keeps_when}
+use Rattle.vr_rules.proofs.Wording.{keeps_prepare_again}
+use Rattle.vr_rules.proofs.Trying.{keeps_speak}
+use Rattle.vr_rules.proofs.Reacting.{keeps_idler}
+use Rattle.vr_rules.proofs.OwnWords.{owned_again, owned_by, owned_change, owned_says, owned_speak, owned_when}
+use Rattle.vr_rules.specs.declared.asker.Asker.{Asker}
+use Rattle.vr_rules.specs.Words.{load, rested, speak}
 use Rattle.vr_world.specs.Lying.{Lying, lying}
-use Rattle.vr_world.specs.Deciding.{Hash, first_of, commit_table, do_view_change_table, get_block_table, get_prepare_table, get_sync_table, get_view_table, give_block_table, give_prepare_table, is_wanted, prepare_ok_table, prepare_table, session_answer, start_view_change_table, start_view_table, sync_view_table}
-use Rattle.vr_world.specs.Rule.{Rule}
-use Rattle.vr_world.specs.Rule.TheVariants.{Redirected, Behind, Answered, Full, Made, PreparedLater, Past, Beyond, Known, Next, Ahead, Other, Counted, CommitLater, CommitHeard, ChangeLater, ChangeHeard, ChangeDone, StatedLate, Stated, Taken, ViewGiven, EntryGiven, EntryTaken, BlockGiven, BlockTaken, BlockMended, TickedPrimary, TickedBackup, TickedChanging, SyncAsked, SyncGiven, Jumped}
-use Rattle.vr_world.specs.Rules as rules
-use Rattle.vr_world.specs.Opening.{announce, heard_itself, in_next_view, leave_view, resuming}
-use Rattle.std.proofs.Common.{ap, false, subst, cond, ◌<◌}
-use Rattle.std.specs.Prelude.{is_some, ⊤}
+use Rattle.vr_rules.specs.Deciding.{Hash, first_of, commit_table, do_view_change_table, get_block_table, get_prepare_table, get_sync_table, get_view_table, give_block_table, give_prepare_table, is_wanted, prepare_ok_table, prepare_table, session_answer, start_view_change_table, start_view_table, sync_view_table}
+use Rattle.vr_rules.specs.declared.rule.Rule.{Rule}
+use Rattle.vr_rules.specs.declared.rule.Rule.TheVariants.{Redirected, Behind, Answered, Full, Made, PreparedLater, Past, Beyond, Known, Next, Ahead, Other, Counted, CommitLater, CommitHeard, ChangeLater, ChangeHeard, ChangeDone, StatedLate, Stated, Taken, ViewGiven, EntryGiven, EntryTaken, BlockGiven, BlockTaken, BlockMended, TickedPrimary, TickedBackup, TickedChanging, SyncAsked, SyncGiven, Jumped}
+use Rattle.vr_rules.specs.Rules as rules
+use Rattle.vr_rules.specs.Opening.{announce, heard_itself, in_next_view, leave_view, resuming}
 use Rattle.vr_disk.specs.DiskState.{IsFace}
 use Rattle.vr_base.specs.Bytes.{IsBytes}
 use Rattle.vr_ckpt.specs.Blocks.{named}

@@ -6,19 +6,19 @@ use Rattle.vr_header.specs.declared.part.Part.{Part}
 use Rattle.vr_header.specs.declared.part.Part.TheVariants.{Here, Lost, Wanted, Unknown, Nothing}
 use Rattle.vr_header.specs.Made.{Whole}
 use Rattle.vr_header.specs.Same.{same_header}
-use Rattle.vr_lie.specs.Slots.{slot_of, whole_in}
+use Rattle.vr_rings.specs.Slots.{slot_of, whole_in}
 use Rattle.vr_ckpt.specs.declared.name.Name.{Name}
-use Rattle.vr_msg.specs.Logs.{header_of}
-use Rattle.vr_world.specs.Replica.{Replica, version, part_at, with_part}
-use Rattle.vr_world.specs.Steps.{Mend, Rewrite, Word, ◌⨾◌, by, change, does, quiet, reading, when, after_all}
-use Rattle.vr_world.specs.Words.{ask, blocks_of, entry_of, header_read, is_loaded, lost, mend_header, op_of_slot, or_lost, place_now, visit, visit_block, visit_place, visit_read, visit_slot, with_cursor, with_entry, with_entry_at, with_worn}
+use Rattle.vr_header.specs.Parts.{header_of}
+use Rattle.vr_rules.specs.Replica.{Replica, version, part_at, with_part}
+use Rattle.vr_rules.specs.Steps.{Mend, Rewrite, Word, ◌⨾◌, by, change, does, quiet, reading, when, after_all}
+use Rattle.vr_rules.specs.Words.{ask, blocks_of, entry_of, header_read, is_loaded, lost, mend_header, op_of_slot, or_lost, place_now, visit, visit_block, visit_place, visit_read, visit_slot, with_cursor, with_entry, with_entry_at, with_worn}
 use Rattle.vr_world.specs.Lying.{Lying, lying}
-use Rattle.vr_world.specs.Own.{IsAt}
-use Rattle.vr_world.specs.Sound.{IsSound}
-use Rattle.vr_world.proofs.Combining.{Keeps}
+use Rattle.vr_rules.specs.Own.{IsAt}
+use Rattle.vr_rules.specs.Sound.{IsSound}
+use Rattle.vr_rules.proofs.Combining.{Keeps}
 use Rattle.vr_world.proofs.FitGroups.{Known, known_left, known_right}
-use Rattle.vr_world.proofs.FitWords.{read_here}
-use Rattle.vr_world.proofs.OwnWords.{Owned}
+use Rattle.vr_rules.proofs.FitWords.{read_here}
+use Rattle.vr_rules.proofs.OwnWords.{Owned}
 use Rattle.law_4_disks.proofs.Chaining.{Chained, c_by, c_then, c_visit_place}
 use Rattle.law_4_disks.proofs.Stocking.{At, Leaves, Stocking, at_next, b_ask, b_change, b_quiet, leaves_both, moved}
 

@@ -13,19 +13,19 @@ use Rattle.vr_header.proofs.BodyLaws.{operation_again}
 use Rattle.vr_header.specs.Made.{Whole, entry_bytes}
 use Rattle.vr_header.specs.Spelling.{header_bytes}
 use Rattle.std.specs.List.{AllByRecursion}
-use Rattle.vr_lie.specs.Copies.{SuperValue, named_bytes}
+use Rattle.vr_super.specs.Copies.{SuperValue, named_bytes}
 use Rattle.vr_super.specs.Laws.{TellsApart}
 use Rattle.vr_rings.specs.Laws.{TellsPrepare}
 use Rattle.vr_header.specs.NoCollision.{NoCollision}
 use Rattle.vr_lie.specs.declared.fault.Fault.{Fault}
 use Rattle.vr_lie.specs.Faults.{faulted, held_at}
-use Rattle.vr_world.specs.Steps as effect
-use Rattle.vr_world.specs.Steps.{Effect, Rewrite, Save, Mend, Checkpoint, PutBlock, Say}
-use Rattle.vr_world.specs.Sectors.{calls_by}
+use Rattle.vr_rules.specs.Steps as effect
+use Rattle.vr_rules.specs.Steps.{Effect, Rewrite, Save, Mend, Checkpoint, PutBlock, Say}
+use Rattle.vr_rules.specs.Sectors.{calls_by}
 use Rattle.vr_world.specs.Lying.{Lying, lying}
-use Rattle.vr_lie.specs.Held.{header_sector}
-use Rattle.vr_lie.specs.Slots.{IsWhole, header_of, prepare_bytes, prepare_reading, sector_of, slot_of, whole_in, whole_of}
-use Rattle.vr_lie.proofs.Spelling.{header_again, header_sector_is}
+use Rattle.vr_rings.specs.Held.{header_sector}
+use Rattle.vr_rings.specs.Slots.{IsWhole, header_of, prepare_bytes, prepare_reading, sector_of, slot_of, whole_in, whole_of}
+use Rattle.vr_rings.proofs.Spelling.{header_again, header_sector_is}
 use Rattle.law_4_disks.specs.Beside.{IsInPlay, MayCome, MayGo, Tells, TellsEntry, TellsIn, value_after}
 use Rattle.law_4_disks.proofs.Effects.{slot_less}
 use Rattle.law_4_disks.specs.Naming.{EntriesTell, IsCopyText, IsHashedBy, IsHashedIn, IsHashedAfter, IsMet, IsNear, NamesTell, ValuesTell}

@@ -11,7 +11,7 @@ use Rattle.vr_header.specs.Made.{Whole, is_entry_header}
 use Rattle.vr_header.specs.Same.{same_header}
 use Rattle.vr_header.proofs.EntryLaws.{is_entry_header_of}
 use Rattle.vr_header.proofs.SameHeaders.{same_header_is, same_header_of}
-use Rattle.vr_msg.specs.Logs.{header_of}
+use Rattle.vr_header.specs.Parts.{header_of}
 use Rattle.vr_recover.specs.declared.readings.HeaderReading.TheVariants as header
 use Rattle.vr_recover.specs.declared.readings.PrepareReading.{PrepareReading}
 use Rattle.vr_recover.specs.declared.readings.PrepareReading.TheVariants as prepare
@@ -22,15 +22,15 @@ use Rattle.vr_base.specs.Bytes.{is_zeros}
 use Rattle.vr_base.specs.declared.mode.Mode.{Mode}
 use Rattle.vr_base.specs.declared.mode.Mode.TheVariants.{Strict, Careful}
 use Rattle.vr_disk.specs.DiskState.{Face, IsFace}
-use Rattle.vr_lie.specs.Copies.{SuperValue}
-use Rattle.vr_lie.specs.Held.{MayRead, Stands, header_sector, is_header_sector, is_prepare}
-use Rattle.vr_lie.specs.Slots.{IsWhole, header_in, header_of as header_from, is_blank, prepare_bytes, prepare_reading, sector_of, whole_in, whole_of}
-use Rattle.vr_lie.proofs.Spelling.{header_again, header_sector_is, whole_again}
+use Rattle.vr_super.specs.Copies.{SuperValue}
+use Rattle.vr_rings.specs.Held.{MayRead, Stands, header_sector, is_header_sector, is_prepare}
+use Rattle.vr_rings.specs.Slots.{IsWhole, header_in, header_of as header_from, is_blank, prepare_bytes, prepare_reading, sector_of, whole_in, whole_of}
+use Rattle.vr_rings.proofs.Spelling.{header_again, header_sector_is, whole_again}
 use Rattle.vr_lie.specs.Faults.{held_at}
-use Rattle.vr_world.specs.Opening.{Slot, clouded_part, entry_fits, entry_header, entry_kind, first_listed, header_kind, kind_of, is_listed, is_right, known_header, listed, may_be, part_by, slot_at, slot_verdict, some_part}
+use Rattle.vr_rules.specs.Opening.{Slot, clouded_part, entry_fits, entry_header, entry_kind, first_listed, header_kind, kind_of, is_listed, is_right, known_header, listed, may_be, part_by, slot_at, slot_verdict, some_part}
 use Rattle.vr_world.specs.Group.{Counts, IsFoundAbove, IsMadeFor, IsUndenied}
 use Rattle.vr_world.specs.Lying.{Lying, lying}
-use Rattle.vr_world.proofs.Slots.{Value}
+use Rattle.vr_rules.proofs.Slots.{Value}
 use Rattle.law_4_disks.specs.Beside.{HoldsEntry}
 use Rattle.law_4_disks.proofs.Found.{read_header}
 

@@ -7,16 +7,16 @@ use Rattle.vr_base.specs.declared.mode.Mode.{Mode}
 use Rattle.vr_disk.specs.DiskState as disk
 use Rattle.vr_disk.specs.DiskState.{Face, IsFace}
 use Rattle.vr_disk.specs.Stops.{IsCall}
-use Rattle.vr_lie.specs.Copies.{SuperValue, IsGood}
-use Rattle.vr_lie.specs.Opens.{file_kind, opens}
+use Rattle.vr_super.specs.Copies.{SuperValue, IsGood}
+use Rattle.vr_super.specs.Opens.{file_kind, opens}
 use Rattle.vr_super.specs.Laws.{TellsApart}
 use Rattle.vr_rings.specs.Laws.{TellsPrepare, TellsUpTo}
-use Rattle.vr_lie.specs.Slots.{IsWhole, header_in, prepare_bytes, slot_of, whole_in}
+use Rattle.vr_rings.specs.Slots.{IsWhole, header_in, prepare_bytes, slot_of, whole_in}
 use Rattle.vr_lie.specs.Faults.{held_at}
 use Rattle.vr_lie.specs.Laws.{AllStand}
-use Rattle.vr_world.specs.Steps.{Effect, Write, Rewrite, Save, Mend, Checkpoint, PutBlock, Say, after_all}
-use Rattle.vr_world.specs.Sectors.{calls_by}
-use Rattle.vr_world.specs.Opening.{may_be}
+use Rattle.vr_rules.specs.Steps.{Effect, Write, Rewrite, Save, Mend, Checkpoint, PutBlock, Say, after_all}
+use Rattle.vr_rules.specs.Sectors.{calls_by}
+use Rattle.vr_rules.specs.Opening.{may_be}
 use Rattle.vr_world.specs.Lying.{Lying, lying}
 use Rattle.vr_world.specs.Group.{AreSound, Member, MayOpen, cut_after, kept_at, mended, once_mended, recovered}
 

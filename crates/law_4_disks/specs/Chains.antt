@@ -3,18 +3,16 @@ use Rattle.std.specs.Prelude.{ℕ, ◌≤◌, ◌≡◌, ⊤, List, [], ◌∷�
 use Rattle.std.specs.List.{AllByRecursion}
 use Rattle.vr_disk.specs.Stops.{IsCall}
 use Rattle.vr_msg.specs.declared.event.Event.{Event}
-use Rattle.vr_lie.specs.Copies.{IsGood}
+use Rattle.vr_super.specs.Copies.{IsGood, SuperValue}
 use Rattle.vr_header.specs.Made.{Whole}
-use Rattle.vr_lie.specs.Opens.{file_kind}
-use Rattle.vr_lie.specs.Slots.{IsWhole, slot_of, whole_in}
-use Rattle.vr_world.specs.Replica.{Replica}
-use Rattle.vr_world.specs.Steps.{Setting}
-use Rattle.vr_world.specs.Rules.{react}
-use Rattle.vr_world.specs.Opening.{resuming}
-use Rattle.vr_world.specs.Sectors.{calls_by}
+use Rattle.vr_super.specs.Opens.{file_kind}
+use Rattle.vr_rings.specs.Slots.{IsWhole, slot_of, whole_in}
+use Rattle.vr_rules.specs.Replica.{Replica}
+use Rattle.vr_rules.specs.Steps.{Setting, Effect, Write, Rewrite, Save, Mend, Checkpoint, PutBlock, Say}
+use Rattle.vr_rules.specs.Rules.{react}
+use Rattle.vr_rules.specs.Opening.{resuming}
+use Rattle.vr_rules.specs.Sectors.{calls_by}
 use Rattle.vr_world.specs.Lying.{Lying, lying}
-use Rattle.vr_lie.specs.Copies.{SuperValue}
-use Rattle.vr_world.specs.Steps.{Effect, Write, Rewrite, Save, Mend, Checkpoint, PutBlock, Say}
 
 -- from one value to another: each is saved over the one before it, in a file of its kind, and what is mended is the last one
 abbrev pub Chain : SuperValue → List Effect → SuperValue → Type 0

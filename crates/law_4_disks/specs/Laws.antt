@@ -1,11 +1,11 @@
 -- What stands of each effect.
 use Rattle.std.specs.Prelude.{ℕ, ◌^◌, ◌≤◌, ◌<◌, ◌≡◌, List, ◌∷◌, length}
 use Rattle.vr_base.specs.declared.kind.Kind.{Kind}
-use Rattle.vr_world.specs.Opening.{AreKinds}
+use Rattle.vr_rules.specs.Opening.{AreKinds}
 use Rattle.vr_header.specs.declared.header.Header.{Header}
-use Rattle.vr_lie.specs.Copies.{SuperValue}
-use Rattle.vr_world.specs.Steps.{Effect, Mend, after_all}
-use Rattle.vr_world.specs.Sectors.{calls_by, script_calls}
+use Rattle.vr_super.specs.Copies.{SuperValue}
+use Rattle.vr_rules.specs.Steps.{Effect, Mend, after_all}
+use Rattle.vr_rules.specs.Sectors.{calls_by, script_calls}
 use Rattle.vr_world.specs.Lying.{Lying, cut_calls, hazards, lying}
 use Rattle.vr_world.specs.Group.{Group, Member, fresh_group, begins, carried_out, ends}
 use Rattle.vr_world.specs.World.{World, Happening, fresh_world, happens}

@@ -1,21 +1,21 @@
 -- What tells prepares and copies apart: names that don't collide, of what was read, held and written where a script was cut.
-use Rattle.vr_world.specs.Migrating.{migrated, slot_calls}
-use Rattle.vr_lie.specs.Calls.{mend_calls}
+use Rattle.vr_rules.specs.Migrating.{migrated, slot_calls}
+use Rattle.vr_super.specs.Calls.{mend_calls}
 use Rattle.std.specs.Prelude.{ℕ, suc, ◌-◌, ◌≤◌, ◌<◌, ◌≡◌, ◌⊎◌, Bool, List, [], ◌∷◌, Some, drop, length, take, ◌+◌}
 use Rattle.vr_disk.specs.DiskState as disk
 use Rattle.vr_disk.specs.DiskState.{Face, IsFace}
 use Rattle.vr_header.specs.Bodies.{operation_bytes}
 use Rattle.vr_header.specs.Made.{Whole}
 use Rattle.vr_header.specs.NoCollision.{NoCollision}
-use Rattle.vr_lie.specs.Copies.{SuperValue, named_bytes}
+use Rattle.vr_super.specs.Copies.{SuperValue, named_bytes}
 use Rattle.vr_super.specs.Laws.{TellsApart}
-use Rattle.vr_lie.specs.Opens.{copy_reading}
+use Rattle.vr_super.specs.Opens.{copy_reading}
 use Rattle.vr_rings.specs.Laws.{TellsPrepare}
-use Rattle.vr_lie.specs.Slots.{IsWhole, prepare_bytes, whole_in}
+use Rattle.vr_rings.specs.Slots.{IsWhole, prepare_bytes, whole_in}
 use Rattle.vr_lie.specs.declared.fault.Fault.{Fault}
 use Rattle.vr_lie.specs.Faults.{faulted, held_at}
-use Rattle.vr_world.specs.Steps.{Effect, Mend, Save, Write}
-use Rattle.vr_world.specs.Sectors.{calls_by}
+use Rattle.vr_rules.specs.Steps.{Effect, Mend, Save, Write}
+use Rattle.vr_rules.specs.Sectors.{calls_by}
 use Rattle.vr_world.specs.Lying.{Lying, lying, after_calls}
 use Rattle.law_4_disks.specs.Beside.{IsInPlay}
 

@@ -10,20 +10,20 @@ use Rattle.vr_msg.specs.declared.frame.Frame.TheVariants as frame
 use Rattle.vr_msg.specs.declared.output.Output.{Output}
 use Rattle.vr_msg.specs.declared.output.Output.TheVariants as output
 use Rattle.vr_msg.specs.declared.output.Sent.{Sent}
-use Rattle.vr_ckpt.specs.Kv.{IsKv}
-use Rattle.vr_ckpt.specs.Sessions.{IsSessions}
-use Rattle.vr_ckpt.specs.StateTexts.{texts_of}
-use Rattle.vr_ckpt.specs.Texts.{Texts}
-use Rattle.vr_ckpt.specs.State.{State}
+use Rattle.vr_state.specs.Kv.{IsKv}
+use Rattle.vr_state.specs.Sessions.{IsSessions}
+use Rattle.vr_state.specs.StateTexts.{texts_of}
+use Rattle.vr_state.specs.declared.texts.Texts.{Texts}
+use Rattle.vr_state.specs.declared.state.State.{State}
 use Rattle.vr_ckpt.specs.Grid.{put_calls}
 use Rattle.vr_ckpt.specs.Places.{grid_size}
 use Rattle.vr_ckpt.specs.declared.name.Name.{Name}
 use Rattle.vr_ckpt.specs.declared.table.PayloadTable.{PayloadTable}
 use Rattle.vr_ckpt.specs.Saves.{save_calls}
 use Rattle.vr_ckpt.specs.declared.table.Payload.{Payload}
-use Rattle.vr_world.specs.Replica.{Replica}
-use Rattle.vr_world.specs.Sound.{IsNameBytes}
-use Rattle.vr_world.specs.Steps.{Effect, Checkpoint, PutBlock, Say}
+use Rattle.vr_rules.specs.Replica.{Replica}
+use Rattle.vr_rules.specs.Sound.{IsNameBytes}
+use Rattle.vr_rules.specs.Steps.{Effect, Checkpoint, PutBlock, Say}
 use Rattle.vr_world.specs.Group.{Group, Member}
 
 -- the name of a payload's block

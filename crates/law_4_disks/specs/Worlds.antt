@@ -1,6 +1,6 @@
 -- A world of disks that lie, beside a group.
 use Rattle.vr_msg.specs.declared.request.RequestFields.{RequestFields}
-use Rattle.vr_lie.specs.Calls.{mend_calls}
+use Rattle.vr_super.specs.Calls.{mend_calls}
 use Rattle.std.specs.Prelude.{ℕ, ◌%◌, ◌^◌, ◌<◌, ◌≡◌, ◌⊎◌, ⊤, List, [], ◌∷◌, ◌++◌, length, map, slice_get, All, Option, Some, None, nat_lt, if◌then◌else◌}
 use Rattle.std.specs.List.{range_with_len}
 use Rattle.std.specs.Option.{option_and_then, option_map}
@@ -13,16 +13,16 @@ use Rattle.vr_msg.specs.declared.event.Event.TheVariants as event
 use Rattle.vr_msg.specs.declared.output.Output.{Output}
 use Rattle.vr_msg.specs.declared.output.Output.TheVariants as output
 use Rattle.vr_msg.specs.declared.output.Sent.{Sent}
-use Rattle.vr_lie.specs.Copies.{SuperValue}
-use Rattle.vr_lie.specs.Opens.{opens}
+use Rattle.vr_super.specs.Copies.{SuperValue}
+use Rattle.vr_super.specs.Opens.{opens}
 use Rattle.vr_lie.specs.Faults.{IsFault}
-use Rattle.vr_world.specs.Replica.{Replica, version}
-use Rattle.vr_world.specs.Steps.{Effect, Mend, Step}
-use Rattle.vr_world.specs.Rules.{react}
-use Rattle.vr_world.specs.Opening.{fresh, opened}
+use Rattle.vr_rules.specs.Replica.{Replica, version}
+use Rattle.vr_rules.specs.Steps.{Effect, Mend, Step}
+use Rattle.vr_rules.specs.Rules.{react}
+use Rattle.vr_rules.specs.Opening.{fresh, opened}
 use Rattle.vr_world.specs.Lying.{Lying, hazards, lying}
 use Rattle.vr_world.specs.World.{World, Host, Happening, Happened, Begins, Asks, AsksInVersion, Arrives, Ticks, Stops, Starts, Migrates, Fuses, Lies, in_version, movable}
-use Rattle.vr_world.specs.Fit.{IsAsked}
+use Rattle.vr_rules.specs.Fit.{IsAsked}
 use Rattle.vr_world.specs.Group.{Crashes, Cuts, Group, Member, Migrates as MoveMigrates, MigratesCut, Move, Played, Recovers, RecoversCut, Run, Steps, made_in, migration}
 use Rattle.vr_world.specs.Files.{IsOfFile}
 use Rattle.vr_world.specs.GroupFit.{IsFitGroup, IsFitMove}

@@ -3,8 +3,8 @@ use Rattle.std.proofs.Common.{ℕ, ◌+◌, ◌-◌, ◌<◌, ◌≤◌, ◌≡�
 use Rattle.std.specs.List.{AllByRecursion, flat_map}
 use Rattle.std.proofs.lemmas.Bool.{cases_lt}
 use Rattle.std.proofs.lemmas.List.{get_or-append_right, get_or_append_left, length-append}
-use Rattle.vr_ckpt.specs.Sessions.{Map}
-use Rattle.vr_ckpt.specs.SessionTexts.{session_text}
+use Rattle.vr_state.specs.Sessions.{Map}
+use Rattle.vr_state.specs.SessionTexts.{session_text}
 
 behind_first : (xs ys : List ℕ) (k : ℕ) → get_or (xs ++ ys) (length xs + k) 0 ≡ get_or ys k 0
 behind_first xs ys k = let back : length xs + k - length xs ≡ k = omega arith in get_or-append_right xs ys (length xs) (length xs + k) 0 refl (omega arith) ∙ ap (λ n. get_or ys n 0) back

@@ -13,6 +13,8 @@ use Rattle.vr_disk.specs.Regions.{block_place}
 use Rattle.vr_disk.specs.Sectors.{writes}
 use Rattle.vr_disk.specs.Stops.{IsCall}
 use Rattle.vr_header.specs.Spelling.{Spells, header_bytes}
+use Rattle.vr_state.specs.Kv as kv
+use Rattle.vr_state.specs.Pairs.{Fits, kv_text, pair_text}
 use Rattle.vr_ckpt.specs.Blocks.{Content, block_bytes, block_header, block_of}
 use Rattle.vr_ckpt.specs.Grid.{block_calls}
 use Rattle.vr_ckpt.specs.declared.block.Block.{Block}
@@ -20,8 +22,6 @@ use Rattle.vr_ckpt.specs.Places.{first_place, other_place, place_of}
 use Rattle.vr_ckpt.specs.Saves.{blocks_calls, blocks_from, data_content, goes_to, payload_at, payload_blocks, payload_blocks_at, stays}
 use Rattle.vr_ckpt.specs.declared.plan.Run.{Run}
 use Rattle.vr_ckpt.specs.declared.table.Payload.{Payload}
-use Rattle.vr_ckpt.specs.Kv as kv
-use Rattle.vr_ckpt.specs.Pairs.{Fits, kv_text, pair_text}
 use Rattle.law_5_seals.specs.Seals.{IsHeadless, PutsHeadless}
 use Rattle.law_5_seals.proofs.Keys.{keys_at, pairs_clear}
 use Rattle.law_5_seals.proofs.Marks.{HasNames, Marked, command_at, front_marks, header_long, turned_marks}

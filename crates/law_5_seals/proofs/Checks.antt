@@ -3,12 +3,12 @@ use Rattle.std.proofs.Common.{ℕ, ◌≡◌, refl, sym, ap, ◌∙◌, subst, L
 use Rattle.std.specs.List.{AllByRecursion}
 use Rattle.vr_disk.specs.DiskState.{Sync}
 use Rattle.vr_disk.specs.Stops.{IsCall}
-use Rattle.vr_ckpt.specs.StateTexts.{payloads}
+use Rattle.vr_state.specs.StateTexts.{payloads}
+use Rattle.vr_state.specs.Pairs.{kv_text}
 use Rattle.vr_ckpt.specs.Blocks.{block_of}
 use Rattle.vr_ckpt.specs.Grid.{block_calls}
 use Rattle.vr_ckpt.specs.declared.block.Block.{Block}
 use Rattle.vr_ckpt.specs.Saves.{blocks_calls, changed, keys_run, root_of, save_calls, sessions_run, table_of, written}
-use Rattle.vr_ckpt.specs.Pairs.{kv_text}
 use Rattle.law_5_seals.specs.Seals.{PutsHeadless}
 use Rattle.law_5_seals.proofs.Blocks.{IsLaterMarkless, blocks_headless, calls_left, calls_right, headless_both, keys_markless}
 use Rattle.law_5_seals.specs.Laws.{CheckpointsAreHeadless}

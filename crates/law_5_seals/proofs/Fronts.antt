@@ -3,8 +3,8 @@ use Rattle.std.proofs.Common.{ℕ, ◌+◌, ◌-◌, ◌<◌, ◌≤◌, ◌≡�
 use Rattle.std.specs.List.{AllByRecursion, flat_map}
 use Rattle.std.proofs.lemmas.Bool.{cases_lt}
 use Rattle.std.proofs.lemmas.List.{get_or_past}
-use Rattle.vr_ckpt.specs.Sessions.{Map}
-use Rattle.vr_ckpt.specs.SessionTexts.{session_text}
+use Rattle.vr_state.specs.Sessions.{Map}
+use Rattle.vr_state.specs.SessionTexts.{session_text}
 use Rattle.law_5_seals.proofs.Begins.{Begins, Covers, covers, first, prior}
 use Rattle.law_5_seals.proofs.Keys.{IsPrinted}
 use Rattle.law_5_seals.proofs.Marks.{IsLow}

@@ -9,9 +9,9 @@ use Rattle.vr_base.specs.Versions.{value_limit}
 use Rattle.vr_header.specs.Text.{is_printable, is_text}
 use Rattle.vr_header.proofs.BodyLaws.{text_limit}
 use Rattle.vr_header.proofs.Truths.{both}
-use Rattle.vr_ckpt.specs.Table.{table_text}
-use Rattle.vr_ckpt.specs.Pairs.{Fits, kv_text, pair_text}
-use Rattle.vr_ckpt.specs.Kv as kv
+use Rattle.vr_state.specs.Table.{table_text}
+use Rattle.vr_state.specs.Pairs.{Fits, kv_text, pair_text}
+use Rattle.vr_state.specs.Kv as kv
 
 -- ---- a text's bytes
 

@@ -1,6 +1,6 @@
 -- The laws.
-use Rattle.vr_lie.specs.Copies.{copy_bytes}
-use Rattle.vr_lie.specs.Calls.{mend_calls, save_from}
+use Rattle.vr_super.specs.Copies.{copy_bytes}
+use Rattle.vr_super.specs.Calls.{mend_calls, save_from}
 use Rattle.std.proofs.Common.{arith}
 use Rattle.law_5_seals.specs.Seals.{IsSealed}
 use Rattle.law_5_seals.specs.Laws.{SealsLast, SlotsAreSealed, ValuesAreSealed}

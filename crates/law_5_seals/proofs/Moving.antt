@@ -15,7 +15,7 @@ use Rattle.vr_disk.specs.Sectors.{behind, together, writes}
 use Rattle.vr_disk.proofs.Places.{inside}
 use Rattle.vr_disk.proofs.Together.{together_cons}
 use Rattle.vr_header.specs.declared.header.Header.{Header}
-use Rattle.vr_lie.specs.Slots.{padded}
+use Rattle.vr_rings.specs.Slots.{padded}
 use Rattle.vr_rings.specs.Moving.{is_movable, moved_of, moves, relocated}
 use Rattle.law_5_seals.specs.Laws.{MovesAreSealed}
 use Rattle.law_5_seals.specs.Seals.{HasSectors, IsSealed, Puts}

@@ -22,13 +22,13 @@ use Rattle.vr_header.specs.Text.{is_printable, is_text}
 use Rattle.vr_header.proofs.HeaderLaws.{length-header_bytes}
 use Rattle.vr_header.proofs.Truths.{both}
 use Rattle.law_1_machine.specs.Basics.{In}
-use Rattle.vr_lie.specs.Copies.{IsGood, SuperValue, copy_bytes, count_at, fields_at, first_op, good_fields, is_named, is_closed, is_sealed, list_at, list_bytes, value_of, zeros}
-use Rattle.vr_lie.specs.Calls.{copy_calls, mend_calls, mend_copy, mend_from, mend_unless, save_from}
-use Rattle.vr_lie.specs.Opens.{copy_reading}
-use Rattle.vr_lie.proofs.Format.{behind_copy, length-copy_bytes, length-list_bytes, tail_bytes, value_again}
+use Rattle.vr_super.specs.Copies.{IsGood, SuperValue, copy_bytes, count_at, fields_at, first_op, good_fields, is_named, is_closed, is_sealed, list_at, list_bytes, value_of, zeros}
+use Rattle.vr_super.specs.Calls.{copy_calls, mend_calls, mend_copy, mend_from, mend_unless, save_from}
+use Rattle.vr_super.specs.Opens.{copy_reading}
+use Rattle.vr_super.proofs.Format.{behind_copy, length-copy_bytes, length-list_bytes, tail_bytes, value_again}
 use Rattle.vr_rings.specs.Calls.{again_calls, header_calls, new_calls, prepare_calls}
-use Rattle.vr_lie.specs.Slots.{IsWhole, prepare_bytes, sector_of, slot_of}
-use Rattle.vr_lie.proofs.Spelling.{prepare_spells, sector_spells}
+use Rattle.vr_rings.specs.Slots.{IsWhole, prepare_bytes, sector_of, slot_of}
+use Rattle.vr_rings.proofs.Spelling.{prepare_spells, sector_spells}
 use Rattle.vr_disk.specs.Regions.{prepare_place, prepare_sectors, sectors}
 use Rattle.vr_disk.proofs.Places.{counted, inside}
 use Rattle.law_5_seals.specs.Seals.{IsSealed, Puts, spelled_from}

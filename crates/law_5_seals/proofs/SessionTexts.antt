@@ -9,9 +9,9 @@ use Rattle.vr_header.specs.Bodies.{outcome_bytes}
 use Rattle.vr_header.specs.declared.outcome.Outcome.{Outcome}
 use Rattle.vr_header.specs.declared.outcome.Outcome.TheVariants as outcome
 use Rattle.vr_header.proofs.BodyLaws.{text_limit}
-use Rattle.vr_ckpt.specs.Sessions.{Fits, Map, OutcomeFits}
-use Rattle.vr_ckpt.specs.SessionTexts.{session_text}
-use Rattle.vr_ckpt.specs.Session.{Session}
+use Rattle.vr_state.specs.Sessions.{Fits, Map, OutcomeFits}
+use Rattle.vr_state.specs.SessionTexts.{session_text}
+use Rattle.vr_state.specs.declared.session.Session.{Session}
 use Rattle.law_5_seals.specs.Laws.{IsOfEntry}
 use Rattle.law_5_seals.proofs.Fronts.{IsComeForm, IsForm}
 use Rattle.law_5_seals.proofs.Keys.{IsPrinted, text_printed, text_some}

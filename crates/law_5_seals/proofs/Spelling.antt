@@ -6,14 +6,14 @@ use Rattle.vr_base.specs.Bytes.{bytes16, piece}
 use Rattle.vr_disk.specs.DiskState.{IsContent}
 use Rattle.vr_disk.specs.Stops.{IsCall}
 use Rattle.vr_header.specs.declared.header.Header.{Header}
+use Rattle.vr_state.specs.StateTexts.{payloads}
+use Rattle.vr_state.specs.Sessions as sess
+use Rattle.vr_state.specs.Sessions.{Map}
+use Rattle.vr_state.specs.SessionTexts.{session_text, sessions_text}
+use Rattle.vr_state.specs.Table.{table_text}
 use Rattle.vr_ckpt.specs.Blocks.{Content, block_bytes}
-use Rattle.vr_ckpt.specs.StateTexts.{payloads}
 use Rattle.vr_ckpt.specs.Saves.{blocks_calls, changed, payload_at, sessions_run}
 use Rattle.vr_ckpt.specs.declared.table.Payload.{Payload}
-use Rattle.vr_ckpt.specs.Sessions as sess
-use Rattle.vr_ckpt.specs.Sessions.{Map}
-use Rattle.vr_ckpt.specs.SessionTexts.{session_text, sessions_text}
-use Rattle.vr_ckpt.specs.Table.{table_text}
 use Rattle.law_5_seals.specs.Seals.{IsHeadless, PutsHeadless}
 use Rattle.law_5_seals.specs.Laws.{IsOfEntry, SessionsAreHeadless}
 use Rattle.law_5_seals.proofs.Blocks.{IsMarkless, all_headless, first_markless, later_at, markless, payload_byte, payloads_so}

@@ -5,27 +5,27 @@ use Rattle.vr_base.specs.Bytes.{IsBytes}
 use Rattle.vr_disk.specs.DiskState.{Call, Face, IsContent, after_all, cut}
 use Rattle.vr_disk.specs.Stops.{IsCall}
 use Rattle.vr_ckpt.specs.Places.{grid_size}
-use Rattle.vr_ckpt.specs.Texts.{Texts}
+use Rattle.vr_state.specs.declared.texts.Texts.{Texts}
 use Rattle.vr_ckpt.specs.Saves.{blocks_calls, changed, save_calls, sessions_run, table_of}
 use Rattle.vr_ckpt.specs.declared.table.Payload.{Payload}
 use Rattle.vr_ckpt.specs.declared.table.PayloadTable.{PayloadTable}
-use Rattle.vr_ckpt.specs.Kv as kv
-use Rattle.vr_ckpt.specs.Pairs.{Fits, kv_text}
+use Rattle.vr_state.specs.Kv as kv
+use Rattle.vr_state.specs.Pairs.{Fits, kv_text}
 use Rattle.vr_header.specs.declared.header.Header.{Header}
 use Rattle.vr_header.specs.Made.{Whole}
 use Rattle.vr_header.specs.declared.outcome.Outcome.TheVariants as outcome
 use Rattle.vr_lie.specs.declared.fault.Fault.{Fault}
 use Rattle.vr_lie.specs.Faults.{IsFault, faulted}
 use Rattle.law_1_machine.specs.Basics.{In}
-use Rattle.vr_lie.specs.Copies.{IsGood, SuperValue, copy_bytes}
-use Rattle.vr_lie.specs.Calls.{write_calls}
+use Rattle.vr_super.specs.Copies.{IsGood, SuperValue, copy_bytes}
+use Rattle.vr_super.specs.Calls.{write_calls}
 use Rattle.vr_rings.specs.Calls.{again_calls, header_calls, new_calls}
 use Rattle.vr_rings.specs.Moving.{move_calls, relocated}
-use Rattle.vr_lie.specs.Slots.{IsWhole, prepare_bytes, sector_of}
-use Rattle.vr_ckpt.specs.Sessions as sess
-use Rattle.vr_ckpt.specs.Sessions.{Map}
-use Rattle.vr_ckpt.specs.SessionTexts.{sessions_text}
-use Rattle.vr_ckpt.specs.Session.{Session}
+use Rattle.vr_rings.specs.Slots.{IsWhole, prepare_bytes, sector_of}
+use Rattle.vr_state.specs.Sessions as sess
+use Rattle.vr_state.specs.Sessions.{Map}
+use Rattle.vr_state.specs.SessionTexts.{sessions_text}
+use Rattle.vr_state.specs.declared.session.Session.{Session}
 use Rattle.law_5_seals.specs.Seals.{HasSectors, IsSealed, Puts, PutsHeadless}
 
 -- what holds of the bytes of each sector, and of such bytes with each bit turned, lasts: after calls that write such bytes, in each

@@ -8,15 +8,15 @@ use Rattle.vr_disk.specs.DiskState as disk
 use Rattle.vr_disk.specs.DiskState.{Call, Write, Sync, Face, Fuse}
 use Rattle.vr_disk.specs.Stops.{IsCall}
 use Rattle.vr_header.specs.declared.header.Header.{Header}
-use Rattle.vr_lie.specs.Copies.{SuperValue}
-use Rattle.law_3_outputs.specs.Steps.{Effect, Rewrite, Save, Mend, Checkpoint, PutBlock, Say}
-use Rattle.law_3_outputs.specs.Steps as effect
-use Rattle.law_3_outputs.specs.Sectors.{calls_by}
-use Rattle.law_3_outputs.specs.Group.{made_in}
-use Rattle.law_3_outputs.specs.Lying.{Lying}
+use Rattle.vr_super.specs.Copies.{SuperValue}
+use Rattle.vr_rules.specs.Steps.{Effect, Rewrite, Save, Mend, Checkpoint, PutBlock, Say}
+use Rattle.vr_rules.specs.Steps as effect
+use Rattle.vr_rules.specs.Sectors.{calls_by}
+use Rattle.vr_world.specs.Group.{made_in}
+use Rattle.vr_world.specs.Lying.{Lying}
 use Rattle.law_1_machine.specs.Basics.{In}
 use Rattle.law_4_disks.specs.Beside.{begun_before}
-use Rattle.vr_ckpt.specs.Texts.{Texts}
+use Rattle.vr_state.specs.declared.texts.Texts.{Texts}
 use Rattle.vr_ckpt.specs.Saves.{blocks_calls, changed, keys_run, root_of, save_calls, sessions_run, table_of, written}
 use Rattle.vr_ckpt.specs.Blocks.{block_of}
 use Rattle.vr_ckpt.specs.declared.block.Block.{Block}

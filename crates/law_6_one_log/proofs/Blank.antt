@@ -18,21 +18,21 @@ use Rattle.vr_header.specs.Made.{Whole}
 use Rattle.vr_header.specs.Spelling.{Spells, decoded}
 use Rattle.vr_header.proofs.Faults.{sound}
 use Rattle.vr_header.proofs.HeaderLaws.{decoded_again}
-use Rattle.vr_lie.specs.Copies.{copy_bytes}
-use Rattle.vr_lie.specs.Calls.{save_from}
-use Rattle.vr_lie.specs.Slots.{padded, sector_of, whole_in, whole_of}
-use Rattle.vr_lie.proofs.Spelling.{one_spelling, prepare_spells}
+use Rattle.vr_super.specs.Copies.{copy_bytes}
+use Rattle.vr_super.specs.Calls.{save_from}
+use Rattle.vr_rings.specs.Slots.{padded, sector_of, whole_in, whole_of}
+use Rattle.vr_rings.proofs.Spelling.{one_spelling, prepare_spells}
 use Rattle.vr_ckpt.specs.Blocks.{Content}
 use Rattle.vr_ckpt.specs.Grid.{block_reading, named_at}
 use Rattle.vr_ckpt.specs.declared.name.Name.{Name}
 use Rattle.vr_ckpt.proofs.Contents.{named_found, read_of}
 use Rattle.vr_ckpt.proofs.Placing.{block_inside}
-use Rattle.law_3_outputs.specs.Opening.{first_value}
-use Rattle.law_3_outputs.specs.Formatting.{format_calls, reserved_header, reserved_headers, zero_prepares, zero_sector}
-use Rattle.law_3_outputs.specs.Lying.{hazards, zero_cell, zero_face}
-use Rattle.law_3_outputs.specs.Safe as safe
-use Rattle.law_3_outputs.specs.Safe.{IsRead}
-use Rattle.law_3_outputs.proofs.FitDisks.{grid_behind, save_spares}
+use Rattle.vr_rules.specs.Opening.{first_value}
+use Rattle.vr_rules.specs.Formatting.{format_calls, reserved_header, reserved_headers, zero_prepares, zero_sector}
+use Rattle.vr_world.specs.Lying.{hazards, zero_cell, zero_face}
+use Rattle.vr_world.specs.Safe as safe
+use Rattle.vr_world.specs.Safe.{IsRead}
+use Rattle.vr_rules.proofs.FitDisks.{grid_behind, save_spares}
 use Rattle.law_3_outputs.proofs.SlotCalls.{together_past}
 use Rattle.law_4_disks.proofs.Calls.{format_is, prepares_fit}
 use Rattle.law_5_seals.specs.Seals.{HasCell, HasSectors, Puts}

@@ -10,11 +10,10 @@ use Rattle.vr_base.proofs.FieldLaws.{length-name_of}
 use Rattle.vr_header.specs.Spelling.{named_bytes}
 use Rattle.vr_header.specs.NoCollision.{NoCollision}
 use Rattle.vr_disk.specs.DiskState.{Face}
-use Rattle.vr_ckpt.specs.StateTexts.{FitsPayloads, key_payloads, payloads, session_payloads}
-use Rattle.vr_ckpt.specs.Texts.{Texts}
-use Rattle.vr_ckpt.specs.Blocks.{Content, block_header, block_name, block_of}
+use Rattle.vr_state.specs.StateTexts.{FitsPayloads, key_payloads, payloads, session_payloads}
+use Rattle.vr_state.specs.declared.texts.Texts.{Texts}
+use Rattle.vr_ckpt.specs.Blocks.{Content, block_header, block_name, block_of, named}
 use Rattle.vr_ckpt.specs.Grid.{block_reading, named_at}
-use Rattle.vr_ckpt.specs.Blocks.{named}
 use Rattle.vr_ckpt.specs.declared.block.Block.{Block}
 use Rattle.vr_ckpt.specs.declared.name.Name.{Name}
 use Rattle.vr_ckpt.proofs.Contents.{named_found}

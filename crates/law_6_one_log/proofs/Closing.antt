@@ -1,7 +1,7 @@
 -- Every run of a group that was just made is followed, and its replies rest on its log.
 use Rattle.std.specs.Prelude.{ℕ, List}
-use Rattle.law_3_outputs.specs.Group.{Played}
-use Rattle.law_3_outputs.specs.Safe.{Safe}
+use Rattle.vr_world.specs.Group.{Played}
+use Rattle.vr_world.specs.Safe.{Safe}
 use Rattle.law_3_outputs.specs.Followed.{IsFitRun}
 use Rattle.law_3_outputs.proofs.Truth.{safe}
 use Rattle.law_6_one_log.proofs.Following.{follows_it}

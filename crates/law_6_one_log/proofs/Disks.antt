@@ -15,10 +15,10 @@ use Rattle.vr_disk.proofs.Places.{grid_apart}
 use Rattle.vr_disk.proofs.Together.{after_all_append, length_after_all, spares_append, together_same, together_synced, together_written, within_spares}
 use Rattle.vr_header.specs.declared.header.Header.{Header}
 use Rattle.vr_header.specs.Made.{Whole}
-use Rattle.vr_lie.specs.Copies.{copy_bytes}
-use Rattle.vr_lie.specs.Calls.{mend_calls, save_from, write_calls}
+use Rattle.vr_super.specs.Copies.{copy_bytes}
+use Rattle.vr_super.specs.Calls.{mend_calls, save_from, write_calls}
 use Rattle.vr_rings.specs.Calls.{again_calls, header_calls, new_calls, prepare_calls}
-use Rattle.vr_lie.specs.Slots.{slot_of}
+use Rattle.vr_rings.specs.Slots.{slot_of}
 use Rattle.vr_ckpt.specs.Blocks.{Content, content_of, named}
 use Rattle.vr_ckpt.specs.Places.{grid_size}
 use Rattle.vr_ckpt.specs.Grid.{block_calls, block_reading, named_at, put_calls}
@@ -26,12 +26,11 @@ use Rattle.vr_ckpt.specs.declared.name.Name.{Name}
 use Rattle.vr_ckpt.proofs.Contents.{named_found}
 use Rattle.vr_ckpt.proofs.Placing.{blocks_apart}
 use Rattle.vr_ckpt.proofs.Puts.{block_within, name_fits}
-use Rattle.law_3_outputs.specs.Lying.{Lying, lying}
-use Rattle.law_3_outputs.specs.Safe as safe
-use Rattle.law_3_outputs.specs.Safe.{IsWritten}
-use Rattle.law_3_outputs.specs.Steps.{Effect, Write, Rewrite, Save, Mend, Checkpoint, PutBlock, Say}
-use Rattle.law_3_outputs.proofs.FitDisks.{grid_behind, header_spares, mend_spares, save_spares}
-use Rattle.law_3_outputs.proofs.FitDisks.{prepare_spares, slot_below}
+use Rattle.vr_world.specs.Lying.{Lying, lying}
+use Rattle.vr_world.specs.Safe as safe
+use Rattle.vr_world.specs.Safe.{IsWritten}
+use Rattle.vr_rules.specs.Steps.{Effect, Write, Rewrite, Save, Mend, Checkpoint, PutBlock, Say}
+use Rattle.vr_rules.proofs.FitDisks.{grid_behind, header_spares, mend_spares, save_spares, prepare_spares, slot_below}
 use Rattle.law_3_outputs.proofs.SlotCalls.{together_past}
 use Rattle.law_6_one_log.specs.Hashed.{IsHashedBlock, ReadsHashed}
 

@@ -3,7 +3,8 @@ use Rattle.vr_base.specs.Kinds.{strict}
 use Rattle.std.proofs.Common.{ℕ, ◌≡◌, arith, inl, inr, refl, sym, ap, ◌∙◌, subst, List, [], ◌∷◌, get_or, Option, Some, None}
 use Rattle.std.specs.Prelude.{Contains, slice_get, ⊤}
 use Rattle.std.specs.List.{AllByRecursion}
-use Rattle.vr_base.specs.Bytes.{sha256, first_words, schedule, rounds, compress, hash_after, digest_bytes, bytes16, bytes32, bytes64, name_of}
+use Rattle.sha2.specs.Sha256.{sha256, first_words, schedule, rounds, compress, hash_after, digest_bytes}
+use Rattle.vr_base.specs.Bytes.{bytes16, bytes32, bytes64, name_of}
 use Rattle.vr_disk.specs.DiskState.{IsFace}
 use Rattle.vr_header.specs.Bodies.{operation_bytes}
 use Rattle.vr_header.specs.Made.{Whole}
@@ -12,25 +13,25 @@ use Rattle.vr_header.specs.NoCollision.{NoCollision}
 use Rattle.vr_header.specs.Spelling.{named_bytes}
 use Rattle.vr_header.specs.declared.operation.Operation.TheVariants.{Register}
 use Rattle.vr_msg.specs.declared.event.Event.TheVariants as event
-use Rattle.vr_ckpt.specs.Sessions.{checked}
-use Rattle.law_3_outputs.specs.Outputs.{send_to_all}
-use Rattle.law_3_outputs.specs.Replica.{Replica, forgetting, head, part_at, with_part}
-use Rattle.law_3_outputs.specs.Deciding.{first_of, is_in_flight}
-use Rattle.law_3_outputs.specs.Group.{fresh_group}
-use Rattle.law_3_outputs.specs.Steps.{Effect, Say, Write, ◌⨾◌, after_all, by, change, does, naming, quiet, says, times}
-use Rattle.law_3_outputs.specs.Rules as rules
-use Rattle.law_3_outputs.specs.Words.{advance, advanced, apply, write}
-use Rattle.law_3_outputs.specs.Opening.{blank, fresh}
-use Rattle.law_3_outputs.specs.Lying.{Lying, hazards, lying}
-use Rattle.law_3_outputs.specs.World.{Asks, World, fresh_host, fresh_world}
-use Rattle.law_3_outputs.specs.Safe as safe
-use Rattle.law_3_outputs.specs.Safe.{IsRead, IsWritten}
+use Rattle.vr_state.specs.Sessions.{checked}
+use Rattle.vr_rules.specs.Outputs.{send_to_all}
+use Rattle.vr_rules.specs.Replica.{Replica, forgetting, head, part_at, with_part}
+use Rattle.vr_rules.specs.Deciding.{first_of, is_in_flight}
+use Rattle.vr_world.specs.Group.{fresh_group}
+use Rattle.vr_rules.specs.Steps.{Effect, Say, Write, ◌⨾◌, after_all, by, change, does, naming, quiet, says, times}
+use Rattle.vr_rules.specs.Rules as rules
+use Rattle.vr_rules.specs.Words.{advance, advanced, apply, write}
+use Rattle.vr_rules.specs.Opening.{blank, fresh}
+use Rattle.vr_world.specs.Lying.{Lying, hazards, lying}
+use Rattle.vr_world.specs.World.{Asks, World, fresh_host, fresh_world}
+use Rattle.vr_world.specs.Safe as safe
+use Rattle.vr_world.specs.Safe.{IsRead, IsWritten}
 use Rattle.law_1_machine.specs.Basics.{In}
 use Rattle.law_4_disks.specs.Worlds.{AreBeside, IsHashedCut, Work, begun_in, begun_of, read_in, read_of, stepping, work_of}
 use Rattle.law_4_disks.proofs.Fresh.{fresh_beside, schedules_begin}
 use Rattle.law_6_one_log.specs.Schedules.{IsHashed}
 use Rattle.law_6_one_log.proofs.Blank.{reads_nothing}
-use Rattle.law_3_outputs.proofs.StoredLists.{contains_in}
+use Rattle.law_2_chains.proofs.StoredLists.{contains_in}
 use Rattle.law_6_one_log.specs.ScheduleLaws.{SomeEntryMay, registers}
 
 -- the replica of a group of two that is asked

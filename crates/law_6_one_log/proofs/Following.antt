@@ -10,31 +10,31 @@ use Rattle.vr_msg.specs.declared.output.Committed.{Committed}
 use Rattle.vr_msg.specs.declared.output.Output.{Output}
 use Rattle.vr_msg.specs.declared.output.Output.TheVariants as output
 use Rattle.vr_msg.specs.declared.output.Sent.{Sent}
-use Rattle.law_3_outputs.proofs.Finishing.{committed_more}
-use Rattle.law_3_outputs.specs.Group as group
-use Rattle.law_3_outputs.specs.Group.{Played, Run, fresh_group}
-use Rattle.law_3_outputs.specs.GroupFit.{IsFitGroup}
-use Rattle.law_3_outputs.specs.Safe.{IsHashed}
+use Rattle.law_2_chains.proofs.Finishing.{committed_more}
+use Rattle.vr_world.specs.Group as group
+use Rattle.vr_world.specs.Group.{Played, Run, fresh_group}
+use Rattle.vr_world.specs.GroupFit.{IsFitGroup}
+use Rattle.vr_world.specs.Safe.{IsHashed}
 use Rattle.law_1_machine.specs.Basics.{In}
 use Rattle.law_1_machine.specs.Group.{Group}
 use Rattle.law_1_machine.specs.Laws as law
 use Rattle.law_1_machine.specs.Members.{Message}
 use Rattle.law_1_machine.proofs.Moves.{reached_good}
-use Rattle.law_3_outputs.specs.Chains.{AsksNothing, Setup, IsReached}
-use Rattle.law_3_outputs.specs.Finished.{IsTrue}
-use Rattle.law_3_outputs.specs.Reflecting.{entries_by}
-use Rattle.law_3_outputs.specs.Tables.{Fits}
-use Rattle.law_3_outputs.specs.Bridge.{Bridges, Chained, Follows, FollowsFresh, IsOwnVouch, ServesWell}
-use Rattle.law_3_outputs.proofs.Waking.{fresh_runs_so}
-use Rattle.law_3_outputs.specs.Commitment.{Stored}
-use Rattle.law_3_outputs.specs.Steps.{Effect}
-use Rattle.law_3_outputs.specs.Storing.{done_in, stored_from, stored_of, until_said}
+use Rattle.law_2_chains.specs.Chains.{AsksNothing, Setup, IsReached}
+use Rattle.law_2_chains.specs.Finished.{IsTrue}
+use Rattle.law_2_chains.specs.Reflecting.{entries_by}
+use Rattle.law_2_chains.specs.Tables.{Fits}
+use Rattle.law_2_chains.specs.Bridge.{Bridges, Chained, Follows, FollowsFresh, IsOwnVouch, ServesWell}
+use Rattle.law_2_chains.proofs.Waking.{fresh_runs_so}
+use Rattle.vr_world.specs.Commitment.{Stored}
+use Rattle.vr_rules.specs.Steps.{Effect}
+use Rattle.vr_world.specs.Storing.{done_in, stored_from, stored_of, until_said}
 use Rattle.law_3_outputs.specs.Followed.{IsCarried, IsChoiceLine, IsFitRun, IsFollowed, IsFrom, IsSo, by_then, own_vouches, stored_until}
 use Rattle.law_3_outputs.proofs.Fitting.{file_at, fit_at, move_of}
-use Rattle.law_3_outputs.proofs.Grounds.{rests_on}
+use Rattle.law_2_chains.proofs.Grounds.{rests_on}
 use Rattle.law_3_outputs.proofs.Machine.{number_is}
 use Rattle.law_3_outputs.proofs.Placing.{placed_at}
-use Rattle.law_3_outputs.proofs.StoredLists.{contains_in, in_contains}
+use Rattle.law_2_chains.proofs.StoredLists.{contains_in, in_contains}
 use Rattle.law_3_outputs.proofs.Sets.{every_at, get_in, in_left, in_right}
 use Rattle.law_3_outputs.proofs.Stored.{own_in, own_more, own_of, until_all}
 use Rattle.law_3_outputs.proofs.Then.{backed_more, then_more, true_by_more, true_free}

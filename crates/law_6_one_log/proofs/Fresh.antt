@@ -11,21 +11,21 @@ use Rattle.std.proofs.lemmas.Option.{slice_get_within, slice_get-get_or}
 use Rattle.vr_disk.specs.DiskState.{Call, Write, Sync}
 use Rattle.vr_disk.specs.Regions.{header_place, prepare_place, prepare_sectors, sectors}
 use Rattle.vr_header.specs.Made.{is_entry_header}
-use Rattle.vr_lie.specs.Copies.{copy_bytes}
-use Rattle.vr_lie.specs.Calls.{save_from}
-use Rattle.vr_lie.specs.Slots.{sector_of}
-use Rattle.law_3_outputs.specs.Opening.{AreKinds, IsKind, first_value}
-use Rattle.law_3_outputs.specs.Lying.{Lying, hazards, zero_cell, zero_face}
-use Rattle.law_3_outputs.specs.Formatting.{format_calls, reserved_header, reserved_headers, zero_prepares, zero_sector}
-use Rattle.law_3_outputs.specs.World as world
-use Rattle.law_3_outputs.specs.World.{World, happen}
-use Rattle.law_3_outputs.specs.Group.{Group, Played, Run, fresh_group}
-use Rattle.law_3_outputs.specs.Files.{IsOfFile}
-use Rattle.law_3_outputs.specs.GroupFit.{IsFitMove}
-use Rattle.law_3_outputs.specs.Safe as safe
+use Rattle.vr_super.specs.Copies.{copy_bytes}
+use Rattle.vr_super.specs.Calls.{save_from}
+use Rattle.vr_rings.specs.Slots.{sector_of}
+use Rattle.vr_rules.specs.Opening.{AreKinds, IsKind, first_value}
+use Rattle.vr_world.specs.Lying.{Lying, hazards, zero_cell, zero_face}
+use Rattle.vr_rules.specs.Formatting.{format_calls, reserved_header, reserved_headers, zero_prepares, zero_sector}
+use Rattle.vr_world.specs.World as world
+use Rattle.vr_world.specs.World.{World, happen}
+use Rattle.vr_world.specs.Group.{Group, Played, Run, fresh_group}
+use Rattle.vr_world.specs.Files.{IsOfFile}
+use Rattle.vr_world.specs.GroupFit.{IsFitMove}
+use Rattle.vr_world.specs.Safe as safe
 use Rattle.vr_header.specs.Names.{root_header}
-use Rattle.law_3_outputs.proofs.FitFresh.{fresh_fits}
-use Rattle.law_3_outputs.proofs.FitGroups.{fresh_group_fits}
+use Rattle.vr_rules.proofs.FitFresh.{fresh_fits}
+use Rattle.vr_world.proofs.FitGroups.{fresh_group_fits}
 use Rattle.law_1_machine.specs.Basics.{In}
 use Rattle.law_4_disks.proofs.Calls.{copy_are, format_is, prepares_fit, reserved_is, sector_content, zero_content}
 use Rattle.law_4_disks.proofs.Fresh.{fresh_beside, group_stocked, none_made, schedules_begin, some_world}

@@ -10,14 +10,14 @@ use Rattle.vr_header.specs.NoCollision.{NoCollision}
 use Rattle.vr_msg.specs.declared.frame.SyncView.{SyncView}
 use Rattle.vr_msg.specs.declared.output.Output.{Output}
 use Rattle.vr_msg.specs.Choice.{ops}
-use Rattle.law_3_outputs.specs.Deciding.{Hash}
-use Rattle.law_3_outputs.specs.Lying.{Lying, lying}
-use Rattle.law_3_outputs.specs.Replica.{Replica, forgetting, header_at, is_here, part_at}
-use Rattle.law_3_outputs.specs.Rules.{acknowledge, acknowledge_stored}
-use Rattle.law_3_outputs.specs.Steps.{Step, Word, ◌⨾◌, after_all, by, change, does, each, quiet, says, times, when}
-use Rattle.law_3_outputs.specs.Words.{apply, apply_entry, apply_next, is_loaded, jump, jumped, save, value_of, with_entry_at}
-use Rattle.law_3_outputs.specs.Chains.{Every}
-use Rattle.law_3_outputs.proofs.Scripts.{every_append}
+use Rattle.vr_rules.specs.Deciding.{Hash}
+use Rattle.vr_rules.specs.Replica.{Replica, forgetting, header_at, is_here, part_at}
+use Rattle.vr_rules.specs.Rules.{acknowledge, acknowledge_stored}
+use Rattle.vr_rules.specs.Steps.{Step, Word, ◌⨾◌, after_all, by, change, does, each, quiet, says, times, when}
+use Rattle.vr_rules.specs.Words.{apply, apply_entry, apply_next, is_loaded, jump, jumped, save, value_of, with_entry_at}
+use Rattle.vr_world.specs.Lying.{Lying, lying}
+use Rattle.law_2_chains.specs.Chains.{Every}
+use Rattle.law_2_chains.proofs.Scripts.{every_append}
 use Rattle.law_6_one_log.proofs.Values.{Core, IsOffered, Rests, Stands, core}
 use Rattle.law_6_one_log.proofs.Walk.{IsBorne, IsOther, Settles, calm_bears, said_borne}
 use Rattle.law_6_one_log.proofs.Words.{S}

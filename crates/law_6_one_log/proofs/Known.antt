@@ -3,18 +3,18 @@ use Rattle.std.proofs.Common.{ℕ, suc, ◌≤◌, ◌<◌, ◌≡◌, ◌∙◌
 use Rattle.std.proofs.lemmas.Option.{slice_get_within}
 use Rattle.vr_header.specs.declared.header.Header.{Header}
 use Rattle.vr_header.specs.Bodies.{operation_bytes}
-use Rattle.law_3_outputs.specs.Group as group
-use Rattle.law_3_outputs.specs.Group.{Member, Played, Runs}
-use Rattle.law_3_outputs.specs.Replica.{Replica, header_at, part_at}
+use Rattle.vr_world.specs.Group as group
+use Rattle.vr_world.specs.Group.{Member, Played, Runs}
+use Rattle.vr_rules.specs.Replica.{Replica, header_at, part_at}
 use Rattle.law_1_machine.specs.Group.{Group}
 use Rattle.law_1_machine.specs.Laws.{Backed}
 use Rattle.law_1_machine.specs.Parts.{header}
 use Rattle.law_1_machine.proofs.Laws.{agreement}
 use Rattle.law_1_machine.proofs.Moves.{reached_good}
-use Rattle.law_3_outputs.specs.Chains.{Setup}
-use Rattle.law_3_outputs.specs.Reflecting.{entries_by}
-use Rattle.law_3_outputs.proofs.Writing.{told_header}
-use Rattle.law_3_outputs.specs.Bridge.{Bridges}
+use Rattle.law_2_chains.specs.Chains.{Setup}
+use Rattle.law_2_chains.specs.Reflecting.{entries_by}
+use Rattle.law_2_chains.proofs.Writing.{told_header}
+use Rattle.law_2_chains.specs.Bridge.{Bridges}
 use Rattle.law_3_outputs.specs.Followed.{IsFitRun, IsFollowed}
 use Rattle.law_3_outputs.specs.Replied.{HasEntry}
 use Rattle.law_3_outputs.proofs.Backed.{at_end, one_whole}

@@ -9,17 +9,17 @@ use Rattle.vr_header.specs.NoCollision.{NoCollision}
 use Rattle.vr_msg.specs.declared.output.Committed.{Committed}
 use Rattle.vr_msg.specs.declared.output.Output.{Output}
 use Rattle.vr_msg.specs.declared.output.Output.TheVariants as output
-use Rattle.vr_lie.specs.Slots.{IsWhole}
-use Rattle.law_3_outputs.specs.Commitment.{is_line_of}
-use Rattle.law_3_outputs.specs.Group.{Played}
-use Rattle.law_3_outputs.specs.Lying.{Lying, lying}
-use Rattle.law_3_outputs.specs.Safe as safe
-use Rattle.law_3_outputs.specs.Safe.{IsHashed}
-use Rattle.law_3_outputs.specs.Steps.{Effect, Write, Rewrite, Save, Mend, Checkpoint, PutBlock, Say, output_of, outputs, after_all}
-use Rattle.law_3_outputs.proofs.Halves.{after_both}
+use Rattle.vr_rings.specs.Slots.{IsWhole}
+use Rattle.vr_world.specs.Commitment.{is_line_of}
+use Rattle.vr_world.specs.Group.{Played}
+use Rattle.vr_world.specs.Lying.{Lying, lying}
+use Rattle.vr_world.specs.Safe as safe
+use Rattle.vr_world.specs.Safe.{IsHashed}
+use Rattle.vr_rules.specs.Steps.{Effect, Write, Rewrite, Save, Mend, Checkpoint, PutBlock, Say, output_of, outputs, after_all}
+use Rattle.vr_rules.proofs.Halves.{after_both}
 use Rattle.law_1_machine.specs.Basics.{In}
-use Rattle.law_3_outputs.specs.Chains.{IsBackedLine, Setup}
-use Rattle.law_3_outputs.specs.Reflecting.{entries_by}
+use Rattle.law_2_chains.specs.Chains.{IsBackedLine, Setup}
+use Rattle.law_2_chains.specs.Reflecting.{entries_by}
 use Rattle.law_3_outputs.specs.Answering.{one_if, lines}
 use Rattle.law_3_outputs.specs.Followed.{IsFollowed}
 use Rattle.law_3_outputs.specs.Ordered.{AreInOrder, IsInOrder}

@@ -3,11 +3,11 @@ use Rattle.std.proofs.Common.{ℕ, zero, suc, ◌+◌, ◌≡◌, subst, List, [
 use Rattle.vr_header.specs.Made.{Whole}
 use Rattle.vr_header.specs.declared.part.Part.{Part}
 use Rattle.vr_header.specs.declared.part.Part.TheVariants.{Here, Lost, Wanted, Unknown, Nothing}
-use Rattle.vr_lie.specs.Copies.{SuperValue}
-use Rattle.law_3_outputs.specs.Group.{Member, begins, carried_out, cut_after, ends, keeps_all, keeps_found}
-use Rattle.law_3_outputs.specs.Lying.{Lying, lying}
-use Rattle.law_3_outputs.specs.Steps.{Effect, Write, Rewrite, Save, Mend, Checkpoint, PutBlock, Say, output_of}
-use Rattle.law_3_outputs.specs.Chains.{Every}
+use Rattle.vr_super.specs.Copies.{SuperValue}
+use Rattle.vr_rules.specs.Steps.{Effect, Write, Rewrite, Save, Mend, Checkpoint, PutBlock, Say, output_of}
+use Rattle.vr_world.specs.Group.{Member, begins, carried_out, cut_after, ends, keeps_all, keeps_found}
+use Rattle.vr_world.specs.Lying.{Lying, lying}
+use Rattle.law_2_chains.specs.Chains.{Every}
 use Rattle.law_3_outputs.specs.Answering.{lines}
 use Rattle.law_6_one_log.proofs.Values.{IsRooted}
 use Rattle.law_6_one_log.proofs.Walk.{AllMay, Bears, IsBorne}

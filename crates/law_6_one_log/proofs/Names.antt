@@ -6,14 +6,14 @@ use Rattle.std.proofs.lemmas.List.{append-nil}
 use Rattle.vr_header.specs.declared.header.Header.{Header}
 use Rattle.vr_header.specs.Names.{root_header}
 use Rattle.vr_header.specs.Spelling.{named_bytes}
-use Rattle.law_3_outputs.specs.Group.{Played}
-use Rattle.law_3_outputs.specs.Lying.{Lying, hazards}
-use Rattle.law_3_outputs.specs.Safe as safe
-use Rattle.law_3_outputs.specs.Safe.{disks_of, given, read, wrote}
-use Rattle.law_3_outputs.specs.Steps.{Effect}
-use Rattle.law_3_outputs.specs.World.{Happening, World, happens}
+use Rattle.vr_world.specs.Group.{Played}
+use Rattle.vr_world.specs.Lying.{Lying, hazards}
+use Rattle.vr_world.specs.Safe as safe
+use Rattle.vr_world.specs.Safe.{disks_of, given, read, wrote}
+use Rattle.vr_rules.specs.Steps.{Effect}
+use Rattle.vr_world.specs.World.{Happening, World, happens}
 use Rattle.law_4_disks.specs.Worlds.{IsOneMove, begun_in, moved_once, read_in, unmoved}
-use Rattle.law_3_outputs.proofs.StoredLists.{contains_in, in_contains}
+use Rattle.law_2_chains.proofs.StoredLists.{contains_in, in_contains}
 use Rattle.law_3_outputs.proofs.Traces.{in_either}
 use Rattle.law_6_one_log.specs.Schedules.{IsHashedOf, IsUsedAt}
 

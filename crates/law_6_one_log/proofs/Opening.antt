@@ -4,25 +4,25 @@ use Rattle.std.specs.Prelude.{is_some, nat_lt}
 use Rattle.vr_header.specs.declared.header.Header.{Header}
 use Rattle.vr_header.specs.Made.{Whole}
 use Rattle.vr_header.specs.NoCollision.{NoCollision}
-use Rattle.vr_ckpt.specs.Folds.{empty}
+use Rattle.vr_state.specs.Folds.{empty}
 use Rattle.vr_msg.specs.declared.output.Output.{Output}
 use Rattle.vr_msg.specs.declared.output.Output.TheVariants as output
-use Rattle.vr_lie.specs.Copies.{SuperValue}
+use Rattle.vr_super.specs.Copies.{SuperValue}
 use Rattle.vr_ckpt.specs.Blocks.{named}
 use Rattle.vr_ckpt.specs.Places as places
 use Rattle.vr_ckpt.specs.declared.name.Name.{Name}
 use Rattle.vr_recover.specs.declared.readings.Verdict.{Verdict}
 use Rattle.vr_recover.specs.declared.readings.Verdict.TheVariants as verdict
-use Rattle.law_3_outputs.specs.Group.{mended}
-use Rattle.law_3_outputs.specs.Checkpoints.{state_at, table_at}
-use Rattle.law_3_outputs.specs.Lying.{Lying, lying}
-use Rattle.law_3_outputs.specs.Opening.{Slot, announce, blank, clouded, entry_header, going_on, heard_itself, in_next_view, leave_view, mend_slot, mending, old_headers, old_part, part_by, recover_old, recover_op, recover_parts, resuming, rewrite, slot_at, slot_verdict}
-use Rattle.law_3_outputs.specs.Outputs.{start_line, start_view_change}
-use Rattle.law_3_outputs.specs.Replica.{Replica, forgetting, is_spent, leads, with_part}
-use Rattle.law_3_outputs.specs.Steps.{Effect, Write, Rewrite, Save, Mend, Checkpoint, PutBlock, Say, Setting, Word, ◌⨾◌, quiet, change, does, says, by, reading, when, each, after_all, output_of}
-use Rattle.law_3_outputs.specs.Rules.{put_block, without}
-use Rattle.law_3_outputs.specs.Words.{apply, checkpoint_at, entry_of, is_loaded, load, loads, save}
-use Rattle.law_3_outputs.specs.Chains.{Every}
+use Rattle.vr_world.specs.Group.{mended}
+use Rattle.vr_world.specs.Checkpoints.{state_at, table_at}
+use Rattle.vr_world.specs.Lying.{Lying, lying}
+use Rattle.vr_rules.specs.Opening.{Slot, announce, blank, clouded, entry_header, going_on, heard_itself, in_next_view, leave_view, mend_slot, mending, old_headers, old_part, part_by, recover_old, recover_op, recover_parts, resuming, rewrite, slot_at, slot_verdict}
+use Rattle.vr_rules.specs.Outputs.{start_line, start_view_change}
+use Rattle.vr_rules.specs.Replica.{Replica, forgetting, is_spent, leads, with_part}
+use Rattle.vr_rules.specs.Steps.{Effect, Write, Rewrite, Save, Mend, Checkpoint, PutBlock, Say, Setting, Word, ◌⨾◌, quiet, change, does, says, by, reading, when, each, after_all, output_of}
+use Rattle.vr_rules.specs.Rules.{put_block, without}
+use Rattle.vr_rules.specs.Words.{apply, checkpoint_at, entry_of, is_loaded, load, loads, save}
+use Rattle.law_2_chains.specs.Chains.{Every}
 use Rattle.law_3_outputs.specs.Answering.{lines}
 use Rattle.law_6_one_log.specs.Hashed.{ReadsHashed}
 use Rattle.law_6_one_log.proofs.Disks.{Begun, IsBeside, beside_hashed}

@@ -4,8 +4,8 @@ use Rattle.std.specs.Prelude.{slice_get}
 use Rattle.std.proofs.lemmas.List.{append_assoc}
 use Rattle.vr_msg.specs.declared.output.Output.{Output}
 use Rattle.law_1_machine.specs.Basics.{In}
-use Rattle.law_3_outputs.specs.Group.{Played}
-use Rattle.law_3_outputs.specs.Safe.{IsOutput, before, run_outputs}
+use Rattle.vr_world.specs.Group.{Played}
+use Rattle.vr_world.specs.Safe.{IsOutput, before, run_outputs}
 use Rattle.law_4_disks.specs.Worlds.{IsAside, Said}
 use Rattle.law_4_disks.specs.Worlds as worlds
 use Rattle.law_3_outputs.proofs.Sets.{in_left, in_right}

@@ -27,19 +27,19 @@ use Rattle.vr_msg.specs.declared.frame.StartView.{StartView}
 use Rattle.vr_msg.specs.declared.frame.StartViewChange.{StartViewChange}
 use Rattle.vr_msg.specs.declared.frame.SyncView.{SyncView}
 use Rattle.vr_msg.specs.declared.request.RequestFields.{RequestFields}
-use Rattle.vr_ckpt.specs.SessionAnswer.{SessionAnswer}
-use Rattle.vr_ckpt.specs.SessionAnswer.TheVariants as answer
-use Rattle.law_3_outputs.specs.Asker.{Asker}
-use Rattle.law_3_outputs.specs.Rule.{Rule}
-use Rattle.law_3_outputs.specs.Rule.TheVariants.{Redirected, Behind, Answered, Full, Made, PreparedLater, Past, Beyond, Known, Next, Ahead, Other, Counted, CommitLater, CommitHeard, ChangeLater, ChangeHeard, ChangeDone, StatedLate, Stated, Taken, ViewGiven, EntryGiven, EntryTaken, BlockGiven, BlockTaken, BlockMended, TickedPrimary, TickedBackup, TickedChanging, SyncAsked}
-use Rattle.law_3_outputs.specs.Deciding.{Hash, first_of, get_sync_table, give_block_table, is_from, is_wanted, reaches_down, session_answer, sync_view_table}
-use Rattle.law_3_outputs.specs.Group.{stepped}
-use Rattle.law_3_outputs.specs.Lying.{Lying, lying}
-use Rattle.law_3_outputs.specs.Replica.{Replica, header_at, is_frozen, leads, run_start}
-use Rattle.law_3_outputs.specs.Rules as rules
-use Rattle.law_3_outputs.proofs.Ruling.{by_rows}
-use Rattle.law_3_outputs.specs.Steps.{Effect, PutBlock, Word, ◌⨾◌, quiet, change, does, by, naming, reading, when}
-use Rattle.law_3_outputs.specs.Words.{apply, rested, speak}
+use Rattle.vr_state.specs.declared.session.SessionAnswer.{SessionAnswer}
+use Rattle.vr_state.specs.declared.session.SessionAnswer.TheVariants as answer
+use Rattle.vr_rules.specs.declared.asker.Asker.{Asker}
+use Rattle.vr_rules.specs.declared.rule.Rule.{Rule}
+use Rattle.vr_rules.specs.declared.rule.Rule.TheVariants.{Redirected, Behind, Answered, Full, Made, PreparedLater, Past, Beyond, Known, Next, Ahead, Other, Counted, CommitLater, CommitHeard, ChangeLater, ChangeHeard, ChangeDone, StatedLate, Stated, Taken, ViewGiven, EntryGiven, EntryTaken, BlockGiven, BlockTaken, BlockMended, TickedPrimary, TickedBackup, TickedChanging, SyncAsked}
+use Rattle.vr_rules.specs.Deciding.{Hash, first_of, get_sync_table, give_block_table, is_from, is_wanted, reaches_down, session_answer, sync_view_table}
+use Rattle.vr_world.specs.Group.{stepped}
+use Rattle.vr_world.specs.Lying.{Lying, lying}
+use Rattle.vr_rules.specs.Replica.{Replica, header_at, is_frozen, leads, run_start}
+use Rattle.vr_rules.specs.Rules as rules
+use Rattle.vr_rules.proofs.Ruling.{by_rows}
+use Rattle.vr_rules.specs.Steps.{Effect, PutBlock, Word, ◌⨾◌, quiet, change, does, by, naming, reading, when}
+use Rattle.vr_rules.specs.Words.{apply, rested, speak}
 use Rattle.law_6_one_log.specs.Hashed.{ReadsHashed}
 use Rattle.law_6_one_log.proofs.Jumping.{jump_at}
 use Rattle.law_6_one_log.proofs.Values.{IsOffered, Stands, core}

@@ -15,16 +15,16 @@ use Rattle.vr_header.specs.Made.{Whole, is_entry_header}
 use Rattle.vr_header.specs.Spelling.{IsHeader, Spells}
 use Rattle.vr_header.proofs.EntryLaws.{is_entry_header_of}
 use Rattle.vr_header.proofs.HeaderLaws.{decoded_again}
-use Rattle.vr_lie.specs.Copies.{SuperValue}
-use Rattle.vr_lie.specs.Slots.{header_in, padded, prepare_bytes, sector_of, whole_in}
-use Rattle.vr_lie.proofs.Spelling.{prepare_spells, sector_spells}
+use Rattle.vr_super.specs.Copies.{SuperValue}
+use Rattle.vr_rings.specs.Slots.{header_in, padded, prepare_bytes, sector_of, whole_in}
+use Rattle.vr_rings.proofs.Spelling.{prepare_spells, sector_spells}
 use Rattle.vr_ckpt.specs.Blocks.{named}
 use Rattle.vr_ckpt.specs.Places.{grid_size}
 use Rattle.vr_ckpt.specs.Grid.{block_reading, named_at}
 use Rattle.vr_ckpt.specs.declared.name.Name.{Name}
 use Rattle.vr_ckpt.proofs.Placing.{block_inside}
-use Rattle.law_3_outputs.specs.Opening.{is_right, may_be}
-use Rattle.law_3_outputs.specs.Sectors.{block_in}
+use Rattle.vr_rules.specs.Opening.{is_right, may_be}
+use Rattle.vr_rules.specs.Sectors.{block_in}
 use Rattle.law_1_machine.specs.Basics.{In}
 use Rattle.law_4_disks.specs.Beside.{AreMade}
 use Rattle.law_4_disks.proofs.Found.{read_header, read_whole}

@@ -6,21 +6,21 @@ use Rattle.vr_header.specs.Made.{Whole}
 use Rattle.vr_header.specs.Names.{root_header}
 use Rattle.vr_header.specs.NoCollision.{NoCollision}
 use Rattle.vr_msg.specs.declared.event.Event.{Event}
-use Rattle.vr_lie.specs.Copies.{SuperValue}
+use Rattle.vr_super.specs.Copies.{SuperValue}
 use Rattle.vr_ckpt.specs.Blocks.{named}
-use Rattle.law_3_outputs.specs.Deciding.{is_wanted}
-use Rattle.law_3_outputs.specs.Fit.{ReadsWell}
-use Rattle.law_3_outputs.specs.Group as group
-use Rattle.law_3_outputs.specs.Group.{Arrival, Group, Member, Move, Moved, Moves, Opens, Played, Recovers, Runs, Steps, fresh_group, recovered, stepped}
-use Rattle.law_3_outputs.specs.Files.{IsOfFile}
-use Rattle.law_3_outputs.specs.GroupFit.{IsFitMove}
-use Rattle.law_3_outputs.specs.Lying.{Lying, lying}
-use Rattle.law_3_outputs.specs.Replica.{Replica}
-use Rattle.law_3_outputs.specs.Safe.{IsHashed, disks_of}
-use Rattle.law_3_outputs.specs.Steps.{PutBlock}
+use Rattle.vr_rules.specs.Deciding.{is_wanted}
+use Rattle.vr_rules.specs.Fit.{ReadsWell}
+use Rattle.vr_world.specs.Group as group
+use Rattle.vr_world.specs.Group.{Arrival, Group, Member, Move, Moved, Moves, Opens, Played, Recovers, Runs, Steps, fresh_group, recovered, stepped}
+use Rattle.vr_world.specs.Files.{IsOfFile}
+use Rattle.vr_world.specs.GroupFit.{IsFitMove}
+use Rattle.vr_world.specs.Lying.{Lying, lying}
+use Rattle.vr_rules.specs.Replica.{Replica}
+use Rattle.vr_world.specs.Safe.{IsHashed, disks_of}
+use Rattle.vr_rules.specs.Steps.{PutBlock}
 use Rattle.law_1_machine.specs.Basics.{In}
-use Rattle.law_3_outputs.specs.Chains.{Setup}
-use Rattle.law_3_outputs.specs.Bridge.{Bridges}
+use Rattle.law_2_chains.specs.Chains.{Setup}
+use Rattle.law_2_chains.specs.Bridge.{Bridges}
 use Rattle.law_3_outputs.specs.Answering.{HasState, PutsWell}
 use Rattle.law_3_outputs.specs.Followed.{IsFollowed}
 use Rattle.law_3_outputs.specs.Replied.{IsLogOf, has_loaded}

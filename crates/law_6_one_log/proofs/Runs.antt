@@ -15,38 +15,38 @@ use Rattle.vr_msg.specs.declared.output.Committed.{Committed}
 use Rattle.vr_msg.specs.declared.output.Output.{Output}
 use Rattle.vr_msg.specs.declared.output.Output.TheVariants as output
 use Rattle.vr_msg.specs.declared.output.Sent.{Sent}
-use Rattle.vr_lie.specs.Copies.{IsGood, SuperValue}
-use Rattle.law_3_outputs.specs.Commitment.{is_line_of}
-use Rattle.law_3_outputs.specs.Fit.{ReadsWell}
-use Rattle.law_3_outputs.specs.Group as group
-use Rattle.law_3_outputs.specs.Group.{Arrival, Group, IsArrival, MayOpen, Member, Move, Moved, Moves, Opens, Played, Run, Runs, carried_out, cut_after, cut_in_two, ended, found, fresh_group, fresh_member, goes, keeps_all, mended, migration, once_mended, opening_script, recovered, resumed, stepped}
-use Rattle.law_3_outputs.specs.Files.{IsFileAt}
-use Rattle.law_3_outputs.specs.GroupFit.{IsFitArrival, IsFitGroup, IsFitMember, IsFitReplica, IsFitValue}
-use Rattle.law_3_outputs.specs.Laws.{IsEvent}
-use Rattle.law_3_outputs.specs.Lying.{Lying, lying}
-use Rattle.law_3_outputs.specs.Opening.{blank, fresh, mending}
-use Rattle.law_3_outputs.specs.Own.{IsAt}
-use Rattle.law_3_outputs.specs.Replica.{Replica, is_frozen, is_spent, last_view}
-use Rattle.law_3_outputs.specs.Rules.{react}
-use Rattle.law_3_outputs.specs.Safe as safe
-use Rattle.law_3_outputs.specs.Safe.{IsHashed, disks_of, read, wrote}
-use Rattle.law_3_outputs.specs.Steps.{Effect, Write, Rewrite, Save, Mend, Checkpoint, PutBlock, Say, Step, by, outputs, quiet, says}
-use Rattle.law_3_outputs.specs.Outputs.{messages}
-use Rattle.law_3_outputs.proofs.FitLies.{lies_fit, same_version}
-use Rattle.law_3_outputs.proofs.FitGroups.{fresh_at, good_value, start_is, step_is}
-use Rattle.law_3_outputs.proofs.SendsScripts.{outputs_append}
+use Rattle.vr_super.specs.Copies.{IsGood, SuperValue}
+use Rattle.vr_world.specs.Commitment.{is_line_of}
+use Rattle.vr_rules.specs.Fit.{ReadsWell}
+use Rattle.vr_world.specs.Group as group
+use Rattle.vr_world.specs.Group.{Arrival, Group, IsArrival, MayOpen, Member, Move, Moved, Moves, Opens, Played, Run, Runs, carried_out, cut_after, cut_in_two, ended, found, fresh_group, fresh_member, goes, keeps_all, mended, migration, once_mended, opening_script, recovered, resumed, stepped}
+use Rattle.vr_world.specs.Files.{IsFileAt}
+use Rattle.vr_world.specs.GroupFit.{IsFitArrival, IsFitGroup, IsFitMember, IsFitReplica, IsFitValue}
+use Rattle.vr_rules.specs.Laws.{IsEvent}
+use Rattle.vr_world.specs.Lying.{Lying, lying}
+use Rattle.vr_rules.specs.Opening.{blank, fresh, mending}
+use Rattle.vr_rules.specs.Own.{IsAt}
+use Rattle.vr_rules.specs.Replica.{Replica, is_frozen, is_spent, last_view}
+use Rattle.vr_rules.specs.Rules.{react}
+use Rattle.vr_world.specs.Safe as safe
+use Rattle.vr_world.specs.Safe.{IsHashed, disks_of, read, wrote}
+use Rattle.vr_rules.specs.Steps.{Effect, Write, Rewrite, Save, Mend, Checkpoint, PutBlock, Say, Step, by, outputs, quiet, says}
+use Rattle.vr_rules.specs.Outputs.{messages}
+use Rattle.vr_world.proofs.FitLies.{lies_fit, same_version}
+use Rattle.vr_world.proofs.FitGroups.{fresh_at, good_value, start_is, step_is}
+use Rattle.vr_rules.proofs.SendsScripts.{outputs_append}
 use Rattle.law_1_machine.specs.Basics.{In}
-use Rattle.law_3_outputs.specs.Chains.{Every, IsBackedLine, Setup}
-use Rattle.law_3_outputs.specs.Bridge.{Bridges}
+use Rattle.law_2_chains.specs.Chains.{Every, IsBackedLine, Setup}
+use Rattle.law_2_chains.specs.Bridge.{Bridges}
 use Rattle.law_3_outputs.specs.Answering.{one_if}
 use Rattle.law_3_outputs.specs.Followed.{IsFollowed}
 use Rattle.law_3_outputs.specs.Ordered.{AreInOrder}
-use Rattle.law_3_outputs.specs.Replied.{IsLogOf}
+use Rattle.law_3_outputs.specs.Replied.{IsLogOf, root_told}
 use Rattle.law_3_outputs.proofs.Fitting.{arrives, file_at, fit_at, move_of, opening_of}
 use Rattle.law_3_outputs.proofs.Ordering.{come_in_order}
 use Rattle.law_3_outputs.proofs.Reading.{opening_reads, reads_good}
 use Rattle.law_3_outputs.proofs.Resuming.{on_disk, resumed_order, said_right}
-use Rattle.law_3_outputs.proofs.StoredLists.{in_contains}
+use Rattle.law_2_chains.proofs.StoredLists.{in_contains}
 use Rattle.law_3_outputs.proofs.Sets.{every_at, get_in, in_left, in_right}
 use Rattle.law_3_outputs.proofs.SlotCalls.{IsTaken, member_taken, read_or_written}
 use Rattle.law_6_one_log.specs.Hashed.{ReadsHashed}
@@ -55,10 +55,9 @@ use Rattle.law_6_one_log.proofs.Lines.{lines_may}
 use Rattle.law_6_one_log.proofs.Members.{Values, bears_front, borne_all, carried_values, cut_values, every_front, kept_values}
 use Rattle.law_6_one_log.proofs.Opening.{L, all_calm, live_at, mending_at, mending_calm, spent_at}
 use Rattle.law_6_one_log.proofs.Reacting.{IsTrueEvent, react_at}
-use Rattle.law_3_outputs.specs.Checkpoints.{IsCheckpointOf}
+use Rattle.vr_world.specs.Checkpoints.{IsCheckpointOf}
 use Rattle.vr_msg.specs.declared.frame.Frame.TheVariants as frame
 use Rattle.vr_msg.specs.declared.frame.SyncView.{SyncView}
-use Rattle.law_3_outputs.specs.Replied.{root_told}
 use Rattle.law_6_one_log.proofs.Values.{IsRooted, Rests, Stands, core, first_table, offered_is}
 use Rattle.law_6_one_log.proofs.Walk.{AllMay, Bears, IsBorne, IsTrueFrame, IsTrueOutput, Settles, WellAt}
 use Rattle.law_6_one_log.proofs.Words.{S}

@@ -14,25 +14,25 @@ use Rattle.vr_msg.specs.declared.output.Committed.{Committed}
 use Rattle.vr_msg.specs.declared.output.Output.{Output}
 use Rattle.vr_msg.specs.declared.output.Output.TheVariants as output
 use Rattle.vr_msg.specs.declared.output.Sent.{Sent}
-use Rattle.law_3_outputs.specs.Group.{Member, Group, Move, Moved, Moves, Played, mended, opening_script, resumed, stepped}
-use Rattle.law_3_outputs.specs.Group as group
-use Rattle.law_3_outputs.specs.Files.{IsOfFile}
-use Rattle.law_3_outputs.specs.GroupFit.{IsFitGroup, IsFitMove}
-use Rattle.law_3_outputs.specs.Laws.{Answers, IsPresent, IsPresentOutput}
-use Rattle.law_3_outputs.specs.Lying.{Lying, lying}
-use Rattle.law_3_outputs.specs.Opening.{blank}
-use Rattle.law_3_outputs.specs.Replica.{Replica}
-use Rattle.law_3_outputs.specs.Safe.{IsHashed, actor, disks_of}
-use Rattle.law_3_outputs.specs.Safe as safe
-use Rattle.law_3_outputs.specs.Steps.{Effect, Step, Write, after_all, outputs}
-use Rattle.law_3_outputs.proofs.FitLies.{lies_fit}
-use Rattle.law_3_outputs.proofs.FitGroups.{good_value, start_is, step_is}
-use Rattle.law_3_outputs.proofs.SendsScripts.{outputs_append}
+use Rattle.vr_world.specs.Group.{Member, Group, Move, Moved, Moves, Played, mended, opening_script, resumed, stepped}
+use Rattle.vr_world.specs.Group as group
+use Rattle.vr_world.specs.Files.{IsOfFile}
+use Rattle.vr_world.specs.GroupFit.{IsFitGroup, IsFitMove}
+use Rattle.vr_rules.specs.Laws.{Answers, IsPresent, IsPresentOutput}
+use Rattle.vr_world.specs.Lying.{Lying, lying}
+use Rattle.vr_rules.specs.Opening.{blank}
+use Rattle.vr_rules.specs.Replica.{Replica}
+use Rattle.vr_world.specs.Safe.{IsHashed, actor, disks_of}
+use Rattle.vr_world.specs.Safe as safe
+use Rattle.vr_rules.specs.Steps.{Effect, Step, Write, after_all, outputs}
+use Rattle.vr_world.proofs.FitLies.{lies_fit}
+use Rattle.vr_world.proofs.FitGroups.{good_value, start_is, step_is}
+use Rattle.vr_rules.proofs.SendsScripts.{outputs_append}
 use Rattle.law_1_machine.specs.Basics.{In}
 use Rattle.law_1_machine.specs.Members.{Choice}
-use Rattle.law_3_outputs.specs.Chains.{Setup}
-use Rattle.law_3_outputs.proofs.Scripts.{after_append}
-use Rattle.law_3_outputs.specs.Bridge.{ChoosesWell}
+use Rattle.law_2_chains.specs.Chains.{Setup}
+use Rattle.law_2_chains.proofs.Scripts.{after_append}
+use Rattle.law_2_chains.specs.Bridge.{ChoosesWell}
 use Rattle.law_3_outputs.specs.Followed.{IsChoiceLine, IsFrom}
 use Rattle.law_3_outputs.proofs.Carrying.{choice_line, from_is}
 use Rattle.law_3_outputs.proofs.Fitting.{arrives, opening_of}
@@ -41,7 +41,7 @@ use Rattle.law_3_outputs.proofs.Orders.{IsOther}
 use Rattle.law_3_outputs.proofs.Picking.{chosen_by}
 use Rattle.law_3_outputs.proofs.Placing.{ArePlaced, opening_present, step_present}
 use Rattle.law_3_outputs.proofs.Resuming.{quiet_mending, resumed_order}
-use Rattle.law_3_outputs.proofs.StoredLists.{in_contains}
+use Rattle.law_2_chains.proofs.StoredLists.{in_contains}
 use Rattle.law_3_outputs.proofs.Sets.{in_left}
 use Rattle.law_3_outputs.proofs.SlotCalls.{IsTaken, member_taken, read_or_written}
 use Rattle.law_3_outputs.proofs.Traces.{every_in, in_either}

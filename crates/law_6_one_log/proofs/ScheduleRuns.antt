@@ -7,15 +7,15 @@ use Rattle.std.proofs.lemmas.List.Elements.{All-append, All-head, All-nil, All-t
 use Rattle.vr_header.specs.Names.{root_header}
 use Rattle.vr_header.specs.NoCollision.{NoCollision}
 use Rattle.vr_msg.specs.declared.output.Output.{Output}
-use Rattle.law_3_outputs.specs.Files.{IsOfFile}
-use Rattle.law_3_outputs.specs.GroupFit.{IsFitGroup, IsFitMove}
-use Rattle.law_3_outputs.proofs.FitGroups.{groups_fit}
-use Rattle.law_3_outputs.specs.Lying.{Lying, hazards}
-use Rattle.law_3_outputs.specs.Steps.{Effect}
-use Rattle.law_3_outputs.specs.World.{Happening, World, happen, happens}
-use Rattle.law_3_outputs.specs.Group.{Group, Played, Run, fresh_group}
-use Rattle.law_3_outputs.specs.Safe as safe
-use Rattle.law_3_outputs.specs.Safe.{run_outputs}
+use Rattle.vr_rules.specs.Steps.{Effect}
+use Rattle.vr_world.specs.Files.{IsOfFile}
+use Rattle.vr_world.specs.GroupFit.{IsFitGroup, IsFitMove}
+use Rattle.vr_world.proofs.FitGroups.{groups_fit}
+use Rattle.vr_world.specs.Lying.{Lying, hazards}
+use Rattle.vr_world.specs.World.{Happening, World, happen, happens}
+use Rattle.vr_world.specs.Group.{Group, Played, Run, fresh_group}
+use Rattle.vr_world.specs.Safe as safe
+use Rattle.vr_world.specs.Safe.{run_outputs}
 use Rattle.law_4_disks.specs.Worlds.{IsOfBytes, AreBeside, IsHashedAt, IsMatched, IsMatchedBy, IsOneMove, Said, aside, begun_in, both, left, moved_once, none, read_in, unmoved}
 use Rattle.law_4_disks.proofs.Matched.{lines_are_moves}
 use Rattle.law_6_one_log.specs.Bridged.{IsBridged, IsLed}

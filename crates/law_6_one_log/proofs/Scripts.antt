@@ -13,16 +13,16 @@ use Rattle.vr_disk.specs.Stops.{IsCall}
 use Rattle.vr_disk.proofs.Faces.{face_after_all}
 use Rattle.vr_disk.proofs.Stopping.{cuts_both}
 use Rattle.vr_header.specs.declared.header.Header.{Header}
-use Rattle.vr_lie.specs.Copies.{IsGood, SuperValue, copy_bytes}
-use Rattle.vr_lie.specs.Calls.{mend_calls, save_from}
-use Rattle.vr_lie.specs.Slots.{slot_of}
-use Rattle.vr_lie.proofs.Spelling.{length-prepare}
+use Rattle.vr_super.specs.Copies.{IsGood, SuperValue, copy_bytes}
+use Rattle.vr_super.specs.Calls.{mend_calls, save_from}
+use Rattle.vr_rings.specs.Slots.{slot_of}
+use Rattle.vr_rings.proofs.Spelling.{length-prepare}
 use Rattle.vr_ckpt.specs.Grid.{block_calls, put_calls}
 use Rattle.vr_ckpt.specs.Saves.{save_calls}
-use Rattle.law_3_outputs.specs.Steps.{Effect, Rewrite, Save, Mend, Checkpoint, PutBlock, Say, after_all}
-use Rattle.law_3_outputs.specs.Steps as effect
-use Rattle.law_3_outputs.specs.Sectors.{calls_by, script_calls}
-use Rattle.law_3_outputs.specs.Lying.{Lying, lying}
+use Rattle.vr_rules.specs.Steps.{Effect, Rewrite, Save, Mend, Checkpoint, PutBlock, Say, after_all}
+use Rattle.vr_rules.specs.Steps as effect
+use Rattle.vr_rules.specs.Sectors.{calls_by, script_calls}
+use Rattle.vr_world.specs.Lying.{Lying, lying}
 use Rattle.law_1_machine.specs.Basics.{In}
 use Rattle.law_4_disks.specs.Beside.{MayCome, MayGo, begun_before, value_after}
 use Rattle.law_4_disks.proofs.Found.{read_whole}

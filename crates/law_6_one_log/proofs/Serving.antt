@@ -5,29 +5,29 @@ use Rattle.std.proofs.lemmas.List.Elements.{All-contains}
 use Rattle.vr_header.specs.declared.header.Header.{Header}
 use Rattle.vr_msg.specs.declared.event.Event.{Event}
 use Rattle.vr_msg.specs.declared.output.Output.TheVariants as output
-use Rattle.law_3_outputs.specs.Replica.{Replica}
-use Rattle.law_3_outputs.specs.Lying.{Lying, lying}
-use Rattle.law_3_outputs.specs.Laws.{Answers, IsPlaced, IsPresentOutput}
-use Rattle.law_3_outputs.specs.Steps.{outputs}
-use Rattle.law_3_outputs.specs.Group as group
-use Rattle.law_3_outputs.specs.Group.{Arrival, IsArrival, Member, Move, Moved, Moves, Played, Runs, Steps, fresh_group, stepped}
-use Rattle.law_3_outputs.specs.GroupFit.{IsFitArrival, IsFitGroup, IsFitMove}
+use Rattle.vr_rules.specs.Replica.{Replica}
+use Rattle.vr_world.specs.Lying.{Lying, lying}
+use Rattle.vr_rules.specs.Laws.{Answers, IsPlaced, IsPresentOutput}
+use Rattle.vr_rules.specs.Steps.{outputs}
+use Rattle.vr_world.specs.Group as group
+use Rattle.vr_world.specs.Group.{Arrival, IsArrival, Member, Move, Moved, Moves, Played, Runs, Steps, fresh_group, stepped}
+use Rattle.vr_world.specs.GroupFit.{IsFitArrival, IsFitGroup, IsFitMove}
 use Rattle.law_1_machine.specs.Group.{Group}
 use Rattle.law_1_machine.specs.Laws.{Backed}
-use Rattle.law_3_outputs.specs.Chains.{Setup}
-use Rattle.law_3_outputs.specs.Reflecting.{entries_by}
-use Rattle.law_3_outputs.specs.Tables.{Fits}
-use Rattle.law_3_outputs.proofs.Finishing.{counted}
-use Rattle.law_3_outputs.specs.Bridge.{Bridges}
-use Rattle.law_3_outputs.proofs.Bridging.{local, mid_of}
+use Rattle.law_2_chains.specs.Chains.{Setup}
+use Rattle.law_2_chains.specs.Reflecting.{entries_by}
+use Rattle.law_2_chains.specs.Tables.{Fits}
+use Rattle.law_2_chains.proofs.Finishing.{counted}
+use Rattle.law_2_chains.specs.Bridge.{Bridges}
+use Rattle.law_2_chains.proofs.Bridging.{local, mid_of}
 use Rattle.law_3_outputs.specs.Followed.{IsFollowed}
 use Rattle.law_3_outputs.specs.Replied.{IsServed, IsStepped}
 use Rattle.law_3_outputs.proofs.Fitting.{arrives, fit_at, move_of}
-use Rattle.law_3_outputs.proofs.FitLies.{lies_fit}
+use Rattle.vr_world.proofs.FitLies.{lies_fit}
 use Rattle.law_3_outputs.proofs.Placing.{placed_at, step_present}
-use Rattle.law_3_outputs.proofs.Reacting.{steps_stay_sound}
-use Rattle.law_3_outputs.proofs.Rising.{steps_rise}
-use Rattle.law_3_outputs.proofs.StoredLists.{in_contains}
+use Rattle.vr_rules.proofs.Reacting.{steps_stay_sound}
+use Rattle.vr_rules.proofs.Rising.{steps_rise}
+use Rattle.law_2_chains.proofs.StoredLists.{in_contains}
 
 module _ (u : Setup) (fits : Fits u) (hash : u.hash ≡ lying.hash) (g : group.Group) (s : Group Header) (fit : IsFitGroup u.cluster g) (bridge : Bridges u g s) where
   served_now : (at : ℕ) (m : Member) (r : Replica) → Runs g at m r → IsServed u s.sent r

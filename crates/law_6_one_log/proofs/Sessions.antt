@@ -5,7 +5,7 @@ use Rattle.std.specs.List.{AllByRecursion}
 use Rattle.std.specs.Option.{option_map_or}
 use Rattle.std.specs.Ordering.{nat_cmp}
 use Rattle.std.specs.declared.cmp.Ordering.TheVariants.{Less, Equal, Greater}
-use Rattle.std.specs.FinMap.Entries.{by_order, where_key}
+use Rattle.std.specs.FinMap.Entries.{by_order, where_key, find, put}
 use Rattle.std.proofs.lemmas.Bool.{cond_both}
 use Rattle.vr_base.specs.Versions.{session_limit}
 use Rattle.vr_header.specs.Made.{Whole}
@@ -14,25 +14,25 @@ use Rattle.vr_header.specs.NoCollision.{NoCollision}
 use Rattle.vr_header.specs.declared.operation.Operation.{Operation}
 use Rattle.vr_header.specs.declared.operation.Operation.TheVariants.{Register}
 use Rattle.vr_header.specs.declared.outcome.Outcome.TheVariants as outcome
-use Rattle.vr_ckpt.specs.Finite.{find, put, without}
-use Rattle.vr_ckpt.specs.Kv as kv
-use Rattle.vr_ckpt.specs.Sessions as sess
-use Rattle.vr_ckpt.specs.Sessions.{Map, oldest, without_oldest}
-use Rattle.vr_ckpt.specs.Effects.{stored}
-use Rattle.vr_ckpt.specs.SessionTexts.{sessions_text}
-use Rattle.vr_ckpt.specs.Session.{Session}
-use Rattle.vr_ckpt.specs.SessionAnswer.TheVariants as answer
-use Rattle.vr_ckpt.specs.Folds.{answered, applied, asked, check, executed}
-use Rattle.vr_ckpt.specs.Texts.{Texts}
-use Rattle.vr_ckpt.specs.State.{State}
-use Rattle.vr_ckpt.proofs.Stored.{state_next}
-use Rattle.vr_lie.specs.Slots.{IsWhole}
-use Rattle.law_3_outputs.specs.Checkpoints.{state_at}
-use Rattle.law_3_outputs.specs.Group.{Played}
-use Rattle.law_3_outputs.specs.Safe.{IsHashed}
-use Rattle.law_3_outputs.specs.Steps.{Effect, Rewrite, Save, Mend, Checkpoint, PutBlock, Say}
-use Rattle.law_3_outputs.specs.Steps as effect
-use Rattle.law_3_outputs.specs.Chains.{Every}
+use Rattle.vr_state.specs.Finite.{without}
+use Rattle.vr_state.specs.Kv as kv
+use Rattle.vr_state.specs.Sessions as sess
+use Rattle.vr_state.specs.Sessions.{Map, oldest, without_oldest}
+use Rattle.vr_state.specs.Effects.{stored}
+use Rattle.vr_state.specs.SessionTexts.{sessions_text}
+use Rattle.vr_state.specs.declared.session.Session.{Session}
+use Rattle.vr_state.specs.declared.session.SessionAnswer.TheVariants as answer
+use Rattle.vr_state.specs.Folds.{answered, applied, asked, check, executed}
+use Rattle.vr_state.specs.declared.texts.Texts.{Texts}
+use Rattle.vr_state.specs.declared.state.State.{State}
+use Rattle.vr_state.proofs.Stored.{state_next}
+use Rattle.vr_rings.specs.Slots.{IsWhole}
+use Rattle.vr_world.specs.Checkpoints.{state_at}
+use Rattle.vr_world.specs.Group.{Played}
+use Rattle.vr_world.specs.Safe.{IsHashed}
+use Rattle.vr_rules.specs.Steps.{Effect, Rewrite, Save, Mend, Checkpoint, PutBlock, Say}
+use Rattle.vr_rules.specs.Steps as effect
+use Rattle.law_2_chains.specs.Chains.{Every}
 use Rattle.law_3_outputs.specs.Followed.{IsFitRun}
 use Rattle.law_3_outputs.proofs.Log.{is_log, the_log}
 use Rattle.law_6_one_log.proofs.Following.{follows_it}

@@ -6,18 +6,18 @@ use Rattle.vr_header.specs.declared.header.Header.{Header}
 use Rattle.vr_msg.specs.declared.output.Chosen.{Chosen}
 use Rattle.vr_msg.specs.declared.output.Output.TheVariants as output
 use Rattle.vr_msg.specs.Choice.{ops}
-use Rattle.vr_lie.specs.Copies.{SuperValue}
+use Rattle.vr_super.specs.Copies.{SuperValue}
 use Rattle.vr_recover.specs.declared.readings.Verdict.{Verdict}
 use Rattle.vr_recover.specs.declared.readings.Verdict.TheVariants as verdict
-use Rattle.law_3_outputs.specs.Group.{mended, opening_script, recovered, resumed}
-use Rattle.law_3_outputs.specs.Lying.{Lying, lying}
-use Rattle.law_3_outputs.specs.Opening.{Slot, announce, blank, clouded, entry_header, going_on, heard_itself, in_next_view, leave_view, mend_slot, mending, old_headers, old_part, part_by, recover_old, recover_op, recover_parts, resuming, rewrite, slot_at, slot_verdict}
-use Rattle.law_3_outputs.specs.Outputs.{send_to_all, start_line, start_view_change}
-use Rattle.law_3_outputs.specs.Replica.{forgetting, is_spent, is_started, last_view, leads, with_part}
-use Rattle.law_3_outputs.specs.Steps.{Mend, Rewrite, change, does, quiet, says, outputs, after_all}
-use Rattle.law_3_outputs.specs.Words.{entry_of, load, save, apply}
-use Rattle.law_3_outputs.proofs.SendsScripts.{outputs_append}
-use Rattle.law_3_outputs.proofs.SilentWaits.{IsPlain, Mute, mute_all, mute_apply, mute_by, mute_change, mute_does, mute_each, mute_if, mute_load, mute_quiet, mute_reading, mute_save, mute_says, mute_then}
+use Rattle.vr_world.specs.Group.{mended, opening_script, recovered, resumed}
+use Rattle.vr_world.specs.Lying.{Lying, lying}
+use Rattle.vr_rules.specs.Opening.{Slot, announce, blank, clouded, entry_header, going_on, heard_itself, in_next_view, leave_view, mend_slot, mending, old_headers, old_part, part_by, recover_old, recover_op, recover_parts, resuming, rewrite, slot_at, slot_verdict}
+use Rattle.vr_rules.specs.Outputs.{send_to_all, start_line, start_view_change}
+use Rattle.vr_rules.specs.Replica.{forgetting, is_spent, is_started, last_view, leads, with_part}
+use Rattle.vr_rules.specs.Steps.{Mend, Rewrite, change, does, quiet, says, outputs, after_all}
+use Rattle.vr_rules.specs.Words.{entry_of, load, save, apply}
+use Rattle.vr_rules.proofs.SendsScripts.{outputs_append}
+use Rattle.vr_rules.proofs.SilentWaits.{IsPlain, Mute, mute_all, mute_apply, mute_by, mute_change, mute_does, mute_each, mute_if, mute_load, mute_quiet, mute_reading, mute_save, mute_says, mute_then}
 
 module _ {F : Type 0} where
   mute_rewrite : (o : Option Header) → Mute {F = F} (rewrite o)

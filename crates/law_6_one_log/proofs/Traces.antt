@@ -16,20 +16,20 @@ use Rattle.vr_msg.specs.declared.output.Committed.{Committed}
 use Rattle.vr_msg.specs.declared.output.Output.{Output}
 use Rattle.vr_msg.specs.declared.output.Output.TheVariants as output
 use Rattle.vr_msg.specs.declared.output.Sent.{Sent}
-use Rattle.vr_ckpt.proofs.Once.{each_once}
-use Rattle.law_3_outputs.specs.Commitment as said
-use Rattle.law_3_outputs.specs.Commitment.{AreCommitted, Evidence, HasSent, IsBackedMessage, IsCommitted, IsLine, Stored, Vouches}
-use Rattle.law_3_outputs.specs.Group.{Played, fresh_group}
-use Rattle.law_3_outputs.specs.Opening.{AreKinds, IsKind}
-use Rattle.law_3_outputs.specs.Lying.{Lying}
-use Rattle.law_3_outputs.specs.Safe.{IsHashed, IsJustified, KeepsEntry, Safe, before, evidence, run_outputs}
-use Rattle.law_3_outputs.specs.Storing.{run_stored}
-use Rattle.law_3_outputs.specs.World.{Happened}
+use Rattle.vr_state.proofs.Once.{each_once}
+use Rattle.vr_world.specs.Commitment as said
+use Rattle.vr_world.specs.Commitment.{AreCommitted, Evidence, HasSent, IsBackedMessage, IsCommitted, IsLine, Stored, Vouches}
+use Rattle.vr_world.specs.Group.{Played, fresh_group}
+use Rattle.vr_rules.specs.Opening.{AreKinds, IsKind}
+use Rattle.vr_world.specs.Lying.{Lying}
+use Rattle.vr_world.specs.Safe.{IsHashed, IsJustified, KeepsEntry, Safe, before, evidence, run_outputs}
+use Rattle.vr_world.specs.Storing.{run_stored}
+use Rattle.vr_world.specs.World.{Happened}
 use Rattle.law_1_machine.specs.Basics.{In}
 use Rattle.law_4_disks.specs.Worlds.{IsAside, IsMatched, Said}
 use Rattle.law_4_disks.specs.Worlds as worlds
 use Rattle.law_3_outputs.specs.Followed.{IsFitRun}
-use Rattle.law_3_outputs.proofs.StoredLists.{contains_in}
+use Rattle.law_2_chains.proofs.StoredLists.{contains_in}
 use Rattle.law_3_outputs.proofs.Sets.{get_in, in_get, in_left, in_right}
 use Rattle.law_3_outputs.proofs.Traces.{in_either, output_of_move}
 use Rattle.law_6_one_log.specs.Laws.{HasOneLog, KeepsLog, KeepsOneLog}

@@ -15,28 +15,28 @@ use Rattle.vr_msg.specs.declared.frame.Frame.{Frame}
 use Rattle.vr_msg.specs.declared.frame.Frame.TheVariants as frame
 use Rattle.vr_msg.specs.declared.output.Sent.{Sent}
 use Rattle.vr_msg.specs.declared.request.RequestFields.{RequestFields}
-use Rattle.vr_lie.specs.Copies.{IsGood, SuperValue}
-use Rattle.vr_lie.specs.Calls.{mend_calls, write_calls}
+use Rattle.vr_super.specs.Copies.{IsGood, SuperValue}
+use Rattle.vr_super.specs.Calls.{mend_calls, write_calls}
 use Rattle.vr_lie.specs.declared.fault.Fault.{Fault}
 use Rattle.vr_lie.specs.Faults.{IsFault, faulted}
-use Rattle.law_3_outputs.specs.Replica.{Replica, version}
-use Rattle.law_3_outputs.specs.Fit.{IsAsked}
-use Rattle.law_3_outputs.specs.Rules.{react}
-use Rattle.law_3_outputs.specs.Opening.{opened}
-use Rattle.law_3_outputs.specs.Steps.{Effect, Mend, Step, outputs}
-use Rattle.law_3_outputs.specs.Sectors.{script_calls}
-use Rattle.law_3_outputs.specs.Lying.{Lying, hazards, keeps_premise, lied_to, lying, unless_kept_out}
-use Rattle.law_3_outputs.specs.Migrating.{migrated, migration_calls, slot_calls}
-use Rattle.law_3_outputs.specs.World as world
-use Rattle.law_3_outputs.specs.World.{Acted, Happening, World, Begins, Asks, AsksInVersion, Arrives, Ticks, Stops, Starts, Migrates, Fuses, Lies, acts, at_member, delivered, halted, handles, happens, if_first, in_version, migrated_or_halted, migrated_with, migration_halted, movable_by, nothing, stays, went, went_or_halted, with_member}
-use Rattle.law_3_outputs.specs.Outputs.{messages}
-use Rattle.law_3_outputs.specs.Group as group
-use Rattle.law_3_outputs.specs.Group.{Arrival, Asked, Group, IsArrival, Message, Time, made_in, mended, migration, opening_script, resumed}
-use Rattle.law_3_outputs.specs.GroupFit.{IsFitArrival, IsFitGroup}
-use Rattle.law_3_outputs.specs.Own.{IsAt}
-use Rattle.law_3_outputs.proofs.FitLies.{lies_fit}
-use Rattle.law_3_outputs.proofs.FitGroups.{good_value, known_right}
-use Rattle.law_3_outputs.proofs.Slots.{value_is}
+use Rattle.vr_rules.specs.Replica.{Replica, version}
+use Rattle.vr_rules.specs.Fit.{IsAsked}
+use Rattle.vr_rules.specs.Rules.{react}
+use Rattle.vr_rules.specs.Opening.{opened}
+use Rattle.vr_rules.specs.Steps.{Effect, Mend, Step, outputs}
+use Rattle.vr_rules.specs.Sectors.{script_calls}
+use Rattle.vr_world.specs.Lying.{Lying, hazards, keeps_premise, lied_to, lying, unless_kept_out}
+use Rattle.vr_rules.specs.Migrating.{migrated, migration_calls, slot_calls}
+use Rattle.vr_world.specs.World as world
+use Rattle.vr_world.specs.World.{Acted, Happening, World, Begins, Asks, AsksInVersion, Arrives, Ticks, Stops, Starts, Migrates, Fuses, Lies, acts, at_member, delivered, halted, handles, happens, if_first, in_version, migrated_or_halted, migrated_with, migration_halted, movable_by, nothing, stays, went, went_or_halted, with_member}
+use Rattle.vr_rules.specs.Outputs.{messages}
+use Rattle.vr_world.specs.Group as group
+use Rattle.vr_world.specs.Group.{Arrival, Asked, Group, IsArrival, Message, Time, made_in, mended, migration, opening_script, resumed}
+use Rattle.vr_world.specs.GroupFit.{IsFitArrival, IsFitGroup}
+use Rattle.vr_rules.specs.Own.{IsAt}
+use Rattle.vr_world.proofs.FitLies.{lies_fit}
+use Rattle.vr_world.proofs.FitGroups.{good_value, known_right}
+use Rattle.vr_rules.proofs.Slots.{value_is}
 use Rattle.law_1_machine.specs.Basics.{In}
 use Rattle.law_4_disks.specs.Beside.{AreMade, IsOff, MayGo}
 use Rattle.law_4_disks.specs.Stocks.{IsGiven, IsGivenEvent, IsStockedGroup, WritesBlocks}

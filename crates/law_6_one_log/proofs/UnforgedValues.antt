@@ -7,21 +7,21 @@ use Rattle.std.specs.List.{AllByRecursion}
 use Rattle.std.proofs.lemmas.Bool.{cases_lt, le-ltb, lt-ltb}
 use Rattle.std.proofs.lemmas.List.Elements.{All-cons, All-nil}
 use Rattle.vr_header.specs.declared.header.Header.{Header}
-use Rattle.vr_lie.specs.Copies.{SuperValue}
-use Rattle.law_3_outputs.specs.Lying.{Lying, lying}
-use Rattle.law_3_outputs.specs.Opening.{AreKinds, first_listed, listed}
-use Rattle.law_3_outputs.specs.Replica.{Replica}
-use Rattle.law_3_outputs.specs.Steps.{Effect, Save}
-use Rattle.law_3_outputs.specs.Group as group
-use Rattle.law_3_outputs.specs.Group.{Arrival, IsArrival, MayOpen, Move, Moved, Moves, Opens, Played, Run, carried_out, cut_after, cut_in_two, found, fresh_group, keeps_all, made_in, mended, opening_script, resumed, stepped, with_script}
-use Rattle.law_3_outputs.specs.Fit.{ReadsWell}
+use Rattle.vr_super.specs.Copies.{SuperValue}
+use Rattle.vr_world.specs.Lying.{Lying, lying}
+use Rattle.vr_rules.specs.Opening.{AreKinds, first_listed, listed}
+use Rattle.vr_rules.specs.Replica.{Replica}
+use Rattle.vr_rules.specs.Steps.{Effect, Save}
+use Rattle.vr_world.specs.Group as group
+use Rattle.vr_world.specs.Group.{Arrival, IsArrival, MayOpen, Move, Moved, Moves, Opens, Played, Run, carried_out, cut_after, cut_in_two, found, fresh_group, keeps_all, made_in, mended, opening_script, resumed, stepped, with_script}
+use Rattle.vr_rules.specs.Fit.{ReadsWell}
 use Rattle.vr_msg.specs.declared.event.Event.{Event}
-use Rattle.law_3_outputs.specs.GroupFit.{IsFitArrival, IsFitGroup, IsFitMove}
+use Rattle.vr_world.specs.GroupFit.{IsFitArrival, IsFitGroup, IsFitMove}
 use Rattle.law_1_machine.specs.Basics.{In}
 use Rattle.law_1_machine.specs.Members.{Superblock}
-use Rattle.law_3_outputs.specs.Reflecting.{IsUnder, IsValue, entries_by}
-use Rattle.law_3_outputs.proofs.Bridging.{runs_so}
-use Rattle.law_3_outputs.proofs.Waking.{fresh_runs_so}
+use Rattle.law_2_chains.specs.Reflecting.{IsUnder, IsValue, entries_by}
+use Rattle.law_2_chains.proofs.Bridging.{runs_so}
+use Rattle.law_2_chains.proofs.Waking.{fresh_runs_so}
 use Rattle.law_4_disks.proofs.Lines.{own_place}
 use Rattle.law_6_one_log.specs.Bridged.{AreNamed, IsBridged}
 use Rattle.law_6_one_log.proofs.Logged.{NamedMade, named_made_reached}

@@ -5,15 +5,15 @@ use Rattle.std.proofs.lemmas.Option.{slice_get_within}
 use Rattle.vr_header.specs.Made.{Whole}
 use Rattle.vr_header.specs.NoCollision.{NoCollision}
 use Rattle.vr_disk.specs.DiskState.{Face}
-use Rattle.vr_ckpt.specs.Fitting.{fits as fits_version}
-use Rattle.vr_ckpt.proofs.Spelled.{sessions_decoded-text}
-use Rattle.vr_ckpt.proofs.KvTexts.{kv_decoded-kv_text}
-use Rattle.vr_ckpt.specs.StateTexts.{FitsPayloads, state_decoded, texts_of}
-use Rattle.vr_ckpt.specs.Texts.{Texts}
-use Rattle.vr_ckpt.specs.State.{State}
-use Rattle.vr_ckpt.proofs.Stored.{state_next}
-use Rattle.vr_lie.specs.Slots.{IsWhole}
-use Rattle.vr_lie.specs.Copies.{SuperValue}
+use Rattle.vr_state.specs.Fitting.{fits as fits_version}
+use Rattle.vr_state.proofs.Spelled.{sessions_decoded-text}
+use Rattle.vr_state.proofs.KvTexts.{kv_decoded-kv_text}
+use Rattle.vr_state.specs.StateTexts.{FitsPayloads, state_decoded, texts_of}
+use Rattle.vr_state.specs.declared.texts.Texts.{Texts}
+use Rattle.vr_state.specs.declared.state.State.{State}
+use Rattle.vr_state.proofs.Stored.{state_next}
+use Rattle.vr_rings.specs.Slots.{IsWhole}
+use Rattle.vr_super.specs.Copies.{SuperValue}
 use Rattle.vr_ckpt.specs.Blocks.{block_name}
 use Rattle.vr_ckpt.specs.declared.name.Name.{Name}
 use Rattle.vr_ckpt.specs.Loads.{loaded}
@@ -23,11 +23,11 @@ use Rattle.vr_ckpt.specs.declared.found.Load.{Load}
 use Rattle.vr_ckpt.specs.declared.found.Load.TheVariants.{Loaded, Missing}
 use Rattle.vr_ckpt.specs.declared.table.PayloadTable.{PayloadTable}
 use Rattle.vr_msg.specs.declared.frame.SyncView.{SyncView}
-use Rattle.law_3_outputs.specs.Checkpoints.{IsCheckpointOf, state_at, table_at, table_before}
-use Rattle.law_3_outputs.specs.Lying.{Lying, lying}
-use Rattle.law_3_outputs.specs.Replica.{Replica, version}
-use Rattle.law_3_outputs.specs.Words.{is_checkpoint, loaded_state, loads, usable, with_state}
-use Rattle.law_3_outputs.proofs.FitLies.{lies_fit}
+use Rattle.vr_world.specs.Checkpoints.{IsCheckpointOf, state_at, table_at, table_before}
+use Rattle.vr_world.specs.Lying.{Lying, lying}
+use Rattle.vr_rules.specs.Replica.{Replica, version}
+use Rattle.vr_rules.specs.Words.{is_checkpoint, loaded_state, loads, usable, with_state}
+use Rattle.vr_world.proofs.FitLies.{lies_fit}
 use Rattle.law_3_outputs.specs.Replied.{root_told}
 use Rattle.law_4_disks.proofs.States.{IsState, state_empty, state_kept, text_of_state}
 use Rattle.law_6_one_log.specs.Hashed.{IsTable, IsWrittenOut, ReadsHashed}

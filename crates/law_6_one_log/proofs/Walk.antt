@@ -7,18 +7,18 @@ use Rattle.vr_msg.specs.declared.frame.Frame.{Frame}
 use Rattle.vr_msg.specs.declared.frame.Frame.TheVariants as frame
 use Rattle.vr_msg.specs.declared.output.Output.{Output}
 use Rattle.vr_msg.specs.declared.output.Output.TheVariants as output
-use Rattle.vr_lie.specs.Slots.{IsWhole}
-use Rattle.law_3_outputs.specs.Replica.{Replica}
-use Rattle.law_3_outputs.specs.Lying.{Lying, lying}
-use Rattle.law_3_outputs.specs.Steps.{Effect, Write, Rewrite, Save, Mend, Checkpoint, PutBlock, Say, Setting, Step, Word, ◌⨾◌, quiet, change, does, says, by, naming, reading, when, times, each, output_of, outputs, after_all}
-use Rattle.law_3_outputs.specs.Words.{save, saves, value_of, with_saved}
-use Rattle.law_3_outputs.proofs.Halves.{after_both}
-use Rattle.law_3_outputs.proofs.SendsScripts.{outputs_append}
-use Rattle.law_3_outputs.specs.Chains.{Every}
+use Rattle.vr_rings.specs.Slots.{IsWhole}
+use Rattle.vr_rules.specs.Replica.{Replica}
+use Rattle.vr_world.specs.Lying.{Lying, lying}
+use Rattle.vr_rules.specs.Steps.{Effect, Write, Rewrite, Save, Mend, Checkpoint, PutBlock, Say, Setting, Step, Word, ◌⨾◌, quiet, change, does, says, by, naming, reading, when, times, each, output_of, outputs, after_all}
+use Rattle.vr_rules.specs.Words.{save, saves, value_of, with_saved}
+use Rattle.vr_rules.proofs.Halves.{after_both}
+use Rattle.vr_rules.proofs.SendsScripts.{outputs_append}
+use Rattle.law_2_chains.specs.Chains.{Every}
 use Rattle.law_3_outputs.specs.Answering.{lines}
 use Rattle.law_3_outputs.proofs.Words.{lines_append}
 use Rattle.law_6_one_log.proofs.Disks.{Begun, IsBeside}
-use Rattle.vr_lie.specs.Copies.{SuperValue}
+use Rattle.vr_super.specs.Copies.{SuperValue}
 use Rattle.law_6_one_log.proofs.Values.{Core, IsMade, IsOffered, IsRooted, IsRootOf, core}
 
 -- ---- what is said, and what is written

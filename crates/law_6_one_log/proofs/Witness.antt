@@ -8,25 +8,25 @@ use Rattle.vr_disk.specs.DiskState.{IsFace}
 use Rattle.vr_header.specs.Names.{root_header}
 use Rattle.vr_header.specs.Spelling.{named_bytes}
 use Rattle.vr_msg.specs.declared.event.Event.TheVariants as event
-use Rattle.law_3_outputs.specs.Outputs.{send_to_all}
-use Rattle.law_3_outputs.specs.Replica.{Replica, head, part_at}
-use Rattle.law_3_outputs.specs.Deciding.{first_of}
-use Rattle.law_3_outputs.specs.Steps.{Effect, Say, ◌⨾◌, after_all, by, change, quiet, says}
-use Rattle.law_3_outputs.specs.Rules as rules
-use Rattle.law_3_outputs.specs.Words.{ask, prepare_again, visit, visit_place, visit_slot, with_entry_at}
-use Rattle.law_3_outputs.specs.Opening.{IsKind, blank, fresh}
-use Rattle.law_3_outputs.specs.Lying.{Lying, hazards, lying}
-use Rattle.law_3_outputs.specs.World.{Fuses, Stops, Ticks, World, fresh_host, fresh_world}
-use Rattle.law_3_outputs.specs.Group.{fresh_group}
-use Rattle.law_3_outputs.specs.Safe as safe
-use Rattle.law_3_outputs.specs.Safe.{IsRead, IsWritten}
+use Rattle.vr_rules.specs.Outputs.{send_to_all}
+use Rattle.vr_rules.specs.Replica.{Replica, head, part_at}
+use Rattle.vr_rules.specs.Deciding.{first_of}
+use Rattle.vr_rules.specs.Steps.{Effect, Say, ◌⨾◌, after_all, by, change, quiet, says}
+use Rattle.vr_rules.specs.Rules as rules
+use Rattle.vr_rules.specs.Words.{ask, prepare_again, visit, visit_place, visit_slot, with_entry_at}
+use Rattle.vr_rules.specs.Opening.{IsKind, blank, fresh}
+use Rattle.vr_world.specs.Lying.{Lying, hazards, lying}
+use Rattle.vr_world.specs.World.{Fuses, Stops, Ticks, World, fresh_host, fresh_world}
+use Rattle.vr_world.specs.Group.{fresh_group}
+use Rattle.vr_world.specs.Safe as safe
+use Rattle.vr_world.specs.Safe.{IsRead, IsWritten}
 use Rattle.law_1_machine.specs.Basics.{In}
 use Rattle.law_4_disks.specs.Worlds.{AreBeside, IsHashedAt, IsHashedCut, Work, begun_in, begun_of, read_in, read_of, stepping, work_of}
 use Rattle.law_4_disks.proofs.Fresh.{fresh_beside, schedules_begin}
 use Rattle.law_6_one_log.specs.ScheduleLaws.{SomeScheduleMay}
 use Rattle.law_6_one_log.specs.Schedules.{IsHashed, IsUsedAt, MayAll}
 use Rattle.law_6_one_log.proofs.Blank.{reads_nothing}
-use Rattle.law_3_outputs.proofs.StoredLists.{contains_in}
+use Rattle.law_2_chains.proofs.StoredLists.{contains_in}
 use Rattle.law_6_one_log.proofs.Names.{contains_none}
 
 module _ (kind : Kind) (is : IsKind kind) where

@@ -11,31 +11,31 @@ use Rattle.vr_header.specs.declared.part.Part.TheVariants.{Here, Lost, Wanted, U
 use Rattle.vr_header.specs.Made.{Whole}
 use Rattle.vr_header.specs.NoCollision.{NoCollision}
 use Rattle.vr_header.specs.Same.{same_header}
-use Rattle.vr_ckpt.specs.Folds as state
-use Rattle.vr_ckpt.specs.StateTexts.{FitsPayloads, texts_of}
-use Rattle.vr_ckpt.specs.State.{State}
-use Rattle.vr_ckpt.proofs.Stored.{state_next}
+use Rattle.vr_state.specs.Folds as state
+use Rattle.vr_state.specs.StateTexts.{FitsPayloads, texts_of}
+use Rattle.vr_state.specs.declared.state.State.{State}
+use Rattle.vr_state.proofs.Stored.{state_next}
 use Rattle.vr_msg.specs.declared.choice.Choice.{Choice}
 use Rattle.vr_msg.specs.declared.choice.Choice.TheVariants.{Ends, WaitsAt, TooFew}
 use Rattle.vr_msg.specs.declared.frame.Frame.{Frame}
 use Rattle.vr_msg.specs.declared.output.Output.{Output}
 use Rattle.vr_msg.specs.declared.statement.Statement.{Statement}
-use Rattle.vr_lie.specs.Slots.{IsWhole}
-use Rattle.vr_lie.specs.Copies.{SuperValue}
+use Rattle.vr_rings.specs.Slots.{IsWhole}
+use Rattle.vr_super.specs.Copies.{SuperValue}
 use Rattle.vr_ckpt.specs.Blocks.{block_name, named}
 use Rattle.vr_ckpt.specs.declared.name.Name.{Name}
 use Rattle.vr_ckpt.specs.Saves.{root_of, table_of}
 use Rattle.vr_ckpt.specs.declared.saving.SavedCheckpoint as checkpoint
-use Rattle.law_3_outputs.specs.Checkpoints.{state_at, table_at, table_before}
-use Rattle.law_3_outputs.specs.Lying.{Lying, lying}
-use Rattle.law_3_outputs.specs.Outputs.{applied_reply, asker_of, commit_line, kind_of, others, replies, send, send_to, send_to_all, sync_view}
-use Rattle.law_3_outputs.specs.Replica.{Replica, forgetting, leads, part_at, with_part}
-use Rattle.law_3_outputs.specs.Rules.{mend_found, not_worn, put_block, without}
-use Rattle.law_3_outputs.specs.Safe as safe
-use Rattle.law_3_outputs.specs.Steps.{Effect, Mend, PutBlock, Rewrite, Say, Setting, Word, ◌⨾◌, quiet, change, does, says, by, naming, reading, when, each, outputs, after_all}
-use Rattle.law_3_outputs.specs.Words.{Log, advance, advanced, accept, applied, apply, apply_entry, apply_next, ask, ask_for, ask_peer, begin_view, checkpoint_at, checkpoints, decided, enter, entered, entry_of, is_checkpoint, is_loaded, learn, load, loads, lost, make_checkpoint, mend_header, obey_choice, or_lost, prepare_again, resend, save, speak, stated, stored, take, taken, try, try_log, visit, visit_block, visit_place, visit_read, visit_slot, with_checkpoint, with_entry, with_entry_at, with_worn, write}
-use Rattle.law_3_outputs.specs.Chains.{Every}
-use Rattle.law_3_outputs.proofs.Repairs.{every_mapped}
+use Rattle.vr_world.specs.Checkpoints.{state_at, table_at, table_before}
+use Rattle.vr_world.specs.Lying.{Lying, lying}
+use Rattle.vr_rules.specs.Outputs.{applied_reply, asker_of, commit_line, kind_of, others, replies, send, send_to, send_to_all, sync_view}
+use Rattle.vr_rules.specs.Replica.{Replica, forgetting, leads, part_at, with_part}
+use Rattle.vr_rules.specs.Rules.{mend_found, not_worn, put_block, without}
+use Rattle.vr_world.specs.Safe as safe
+use Rattle.vr_rules.specs.Steps.{Effect, Mend, PutBlock, Rewrite, Say, Setting, Word, ◌⨾◌, quiet, change, does, says, by, naming, reading, when, each, outputs, after_all}
+use Rattle.vr_rules.specs.Words.{Log, advance, advanced, accept, applied, apply, apply_entry, apply_next, ask, ask_for, ask_peer, begin_view, checkpoint_at, checkpoints, decided, enter, entered, entry_of, is_checkpoint, is_loaded, learn, load, loads, lost, make_checkpoint, mend_header, obey_choice, or_lost, prepare_again, resend, save, speak, stated, stored, take, taken, try, try_log, visit, visit_block, visit_place, visit_read, visit_slot, with_checkpoint, with_entry, with_entry_at, with_worn, write}
+use Rattle.law_2_chains.specs.Chains.{Every}
+use Rattle.law_2_chains.proofs.Repairs.{every_mapped}
 use Rattle.law_3_outputs.specs.Answering.{lines}
 use Rattle.law_3_outputs.proofs.Answers.{loads_place}
 use Rattle.law_6_one_log.specs.Hashed.{IsTable, IsWrittenOut, ReadsHashed}

@@ -4,19 +4,19 @@ use Rattle.std.specs.Prelude.{slice_get, slice_index_or}
 use Rattle.vr_header.specs.Made.{Whole}
 use Rattle.vr_header.specs.Names.{root_header}
 use Rattle.vr_header.specs.NoCollision.{NoCollision}
-use Rattle.vr_ckpt.specs.StateTexts.{texts_of}
-use Rattle.vr_ckpt.specs.Texts.{Texts}
-use Rattle.vr_lie.specs.Copies.{SuperValue}
+use Rattle.vr_state.specs.StateTexts.{texts_of}
+use Rattle.vr_state.specs.declared.texts.Texts.{Texts}
+use Rattle.vr_super.specs.Copies.{SuperValue}
 use Rattle.vr_ckpt.specs.declared.block.Block.{Block}
 use Rattle.vr_ckpt.specs.Saves.{saved_checkpoint, written}
 use Rattle.vr_ckpt.specs.declared.saving.SavedCheckpoint.{SavedCheckpoint}
 use Rattle.vr_ckpt.specs.declared.table.PayloadTable.{PayloadTable}
-use Rattle.law_3_outputs.specs.Checkpoints.{state_at, table_before}
-use Rattle.law_3_outputs.specs.Group.{Played}
-use Rattle.law_3_outputs.specs.Safe.{IsHashed}
-use Rattle.law_3_outputs.specs.Steps.{Effect}
-use Rattle.law_3_outputs.specs.Chains.{Every, Setup}
-use Rattle.law_3_outputs.specs.Bridge.{Bridges}
+use Rattle.vr_world.specs.Checkpoints.{state_at, table_before}
+use Rattle.vr_world.specs.Group.{Played}
+use Rattle.vr_world.specs.Safe.{IsHashed}
+use Rattle.vr_rules.specs.Steps.{Effect}
+use Rattle.law_2_chains.specs.Chains.{Every, Setup}
+use Rattle.law_2_chains.specs.Bridge.{Bridges}
 use Rattle.law_3_outputs.specs.Followed.{IsFitRun, IsFollowed}
 use Rattle.law_3_outputs.proofs.Log.{is_log, the_log}
 use Rattle.law_3_outputs.proofs.Sets.{every_at}

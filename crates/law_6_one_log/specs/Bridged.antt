@@ -3,16 +3,16 @@ use Rattle.std.specs.Prelude.{ℕ, ◌+◌, ◌*◌, ◌<◌, ◌≡◌, List}
 use Rattle.std.specs.List.{AllByRecursion}
 use Rattle.vr_header.specs.declared.header.Header.{Header}
 use Rattle.vr_base.specs.Bytes.{IsBytes, piece}
-use Rattle.vr_lie.specs.Copies.{SuperValue}
+use Rattle.vr_super.specs.Copies.{SuperValue}
 use Rattle.law_5_seals.specs.Seals.{IsSealed}
-use Rattle.law_3_outputs.specs.Lying.{lying}
-use Rattle.law_3_outputs.specs.Group as group
-use Rattle.law_3_outputs.specs.Group.{Played, fresh_group}
+use Rattle.vr_world.specs.Lying.{lying}
+use Rattle.vr_world.specs.Group as group
+use Rattle.vr_world.specs.Group.{Played, fresh_group}
 use Rattle.law_1_machine.specs.Basics.{In}
 use Rattle.law_1_machine.specs.Group.{Group, Made}
-use Rattle.law_3_outputs.specs.Chains.{Setup}
-use Rattle.law_3_outputs.specs.Tables.{Fits}
-use Rattle.law_3_outputs.specs.Bridge.{Bridges}
+use Rattle.law_2_chains.specs.Chains.{Setup}
+use Rattle.law_2_chains.specs.Tables.{Fits}
+use Rattle.law_2_chains.specs.Bridge.{Bridges}
 use Rattle.law_3_outputs.specs.Followed.{IsFitRun}
 use Rattle.law_4_disks.specs.Worlds.{left}
 

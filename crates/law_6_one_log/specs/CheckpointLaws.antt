@@ -2,14 +2,14 @@
 use Rattle.std.specs.Prelude.{ℕ, ◌<◌, ◌≡◌, List, Contains}
 use Rattle.vr_header.specs.Names.{root_header}
 use Rattle.vr_header.specs.NoCollision.{NoCollision}
-use Rattle.vr_ckpt.specs.Texts.{Texts}
-use Rattle.vr_lie.specs.Copies.{SuperValue}
+use Rattle.vr_state.specs.declared.texts.Texts.{Texts}
+use Rattle.vr_super.specs.Copies.{SuperValue}
 use Rattle.vr_ckpt.specs.declared.name.Name.{Name}
 use Rattle.vr_ckpt.specs.Saves.{saved_checkpoint, written}
 use Rattle.vr_ckpt.specs.declared.table.PayloadTable.{PayloadTable}
-use Rattle.law_3_outputs.specs.Group.{Played}
-use Rattle.law_3_outputs.specs.Safe.{IsHashed}
-use Rattle.law_3_outputs.specs.Steps.{Effect, Checkpoint, Save}
+use Rattle.vr_world.specs.Group.{Played}
+use Rattle.vr_world.specs.Safe.{IsHashed}
+use Rattle.vr_rules.specs.Steps.{Effect, Checkpoint, Save}
 use Rattle.law_3_outputs.specs.Followed.{IsFitRun}
 
 -- an effect of a move, as far as the move got

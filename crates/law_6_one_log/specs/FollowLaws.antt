@@ -1,8 +1,8 @@
 -- Every run of a group that was just made is followed by the machine.
 use Rattle.std.specs.Prelude.{ℕ, suc, ◌≡◌, List, slice_get, Some}
-use Rattle.law_3_outputs.specs.Group.{Played}
-use Rattle.law_3_outputs.specs.Chains.{Setup}
-use Rattle.law_3_outputs.specs.Bridge.{Bridges}
+use Rattle.vr_world.specs.Group.{Played}
+use Rattle.law_2_chains.specs.Chains.{Setup}
+use Rattle.law_2_chains.specs.Bridge.{Bridges}
 use Rattle.law_3_outputs.specs.Followed.{IsFitRun, IsFollowed}
 
 -- a run that is followed, with the machine's group standing for the group before and after each move

@@ -3,7 +3,7 @@ use Rattle.std.specs.Prelude.{ℕ, ◌<◌, ◌≡◌, List, Contains, Some}
 use Rattle.std.specs.List.{AllByRecursion}
 use Rattle.vr_header.specs.Spelling.{named_bytes}
 use Rattle.vr_disk.specs.DiskState.{Face}
-use Rattle.vr_ckpt.specs.Texts.{Texts}
+use Rattle.vr_state.specs.declared.texts.Texts.{Texts}
 use Rattle.vr_ckpt.specs.Blocks.{Content, block_header, block_name, block_of}
 use Rattle.vr_ckpt.specs.Grid.{named_at}
 use Rattle.vr_ckpt.specs.Places.{grid_size}

@@ -1,7 +1,7 @@
 -- One log: of every run of a group that was just made, and of every schedule of a group on disks that lie.
 use Rattle.vr_base.specs.Groups.{least_members}
 use Rattle.vr_base.specs.declared.kind.Kind.{Kind}
-use Rattle.law_3_outputs.specs.Opening.{AreKinds, IsKind}
+use Rattle.vr_rules.specs.Opening.{AreKinds, IsKind}
 use Rattle.std.specs.Prelude.{ℕ, ◌-◌, ◌^◌, ◌<◌, ◌≤◌, ◌≡◌, ◌⊎◌, false, List, ◌∷◌, length, Contains, slice_get, take, Some}
 use Rattle.std.specs.List.{AllByRecursion}
 use Rattle.vr_header.specs.declared.header.Header.{Header}
@@ -14,13 +14,13 @@ use Rattle.vr_msg.specs.declared.output.Chosen.{Chosen}
 use Rattle.vr_msg.specs.declared.output.Committed.{Committed}
 use Rattle.vr_msg.specs.declared.output.Output.{Output}
 use Rattle.vr_msg.specs.declared.output.Output.TheVariants as output
-use Rattle.law_3_outputs.specs.Commitment.{IsCommitted}
-use Rattle.vr_lie.specs.Slots.{IsWhole}
-use Rattle.law_3_outputs.specs.Group.{Group, Member, Played, Runs, fresh_group}
-use Rattle.law_3_outputs.specs.Lying.{Lying, hazards}
-use Rattle.law_3_outputs.specs.Replica.{Replica, header_at, is_frozen}
-use Rattle.law_3_outputs.specs.Safe.{IsHashed, KeepsEntry, Safe}
-use Rattle.law_3_outputs.specs.World.{Happened, Happening, Begins, fresh_world, happen, no_world}
+use Rattle.vr_world.specs.Commitment.{IsCommitted}
+use Rattle.vr_rings.specs.Slots.{IsWhole}
+use Rattle.vr_world.specs.Group.{Group, Member, Played, Runs, fresh_group}
+use Rattle.vr_world.specs.Lying.{Lying, hazards}
+use Rattle.vr_rules.specs.Replica.{Replica, header_at, is_frozen}
+use Rattle.vr_world.specs.Safe.{IsHashed, KeepsEntry, Safe}
+use Rattle.vr_world.specs.World.{Happened, Happening, Begins, fresh_world, happen, no_world}
 use Rattle.law_4_disks.specs.Worlds.{IsLine, IsMatched, first_world}
 use Rattle.law_6_one_log.specs.Schedules.{IsHashedOf, MayAll, room}
 use Rattle.law_3_outputs.specs.Answering.{HasState}

@@ -7,12 +7,12 @@ use Rattle.vr_msg.specs.declared.output.Output.{Output}
 use Rattle.vr_msg.specs.declared.output.Output.TheVariants as output
 use Rattle.vr_msg.specs.declared.output.Sent.{Sent}
 use Rattle.vr_msg.specs.declared.reply.ReplyFields.{ReplyFields}
-use Rattle.vr_ckpt.specs.Folds.{begins_session, fresh_at, state_after}
-use Rattle.law_3_outputs.specs.Commitment.{AreCommitted, Evidence, IsBackedMessage, IsLine, lines_by}
-use Rattle.law_3_outputs.specs.Group.{Played}
-use Rattle.law_3_outputs.specs.Safe as safe
-use Rattle.law_3_outputs.specs.Safe.{IsJustified, IsOutput, IsTrueReply}
-use Rattle.law_3_outputs.specs.Storing.{run_stored}
+use Rattle.vr_state.specs.Folds.{begins_session, fresh_at, state_after}
+use Rattle.vr_world.specs.Commitment.{AreCommitted, Evidence, IsBackedMessage, IsLine, lines_by}
+use Rattle.vr_world.specs.Group.{Played}
+use Rattle.vr_world.specs.Safe as safe
+use Rattle.vr_world.specs.Safe.{IsJustified, IsOutput, IsTrueReply}
+use Rattle.vr_world.specs.Storing.{run_stored}
 use Rattle.law_4_disks.specs.Worlds.{Said}
 
 -- Where in the run an output was put out: what was put out before it is what stands before it here, but for lines of stops and faults.

@@ -3,17 +3,17 @@ use Rattle.std.specs.List.{AllByRecursion}
 use Rattle.vr_base.specs.Groups.{least_members}
 use Rattle.vr_base.specs.Kinds.{strict}
 use Rattle.vr_base.specs.declared.kind.Kind.{Kind}
-use Rattle.law_3_outputs.specs.Opening.{AreKinds, IsKind}
+use Rattle.vr_rules.specs.Opening.{AreKinds, IsKind}
 use Rattle.std.specs.Prelude.{ℕ, ◌^◌, ◌<◌, ◌≤◌, ◌≡◌, List, [], ◌∷◌, ◌++◌, length}
 use Rattle.vr_header.specs.Names.{root_header}
 use Rattle.vr_header.specs.declared.operation.Operation.TheVariants.{Register}
 use Rattle.vr_msg.specs.declared.request.RequestFields.{RequestFields}
 use Rattle.vr_header.specs.NoCollision.{NoCollision}
-use Rattle.law_3_outputs.specs.Lying.{Lying, hazards}
-use Rattle.law_3_outputs.specs.World.{World, Happening, Begins, Asks, Ticks, Stops, Fuses, fresh_world, happen, happens, no_world}
-use Rattle.law_3_outputs.specs.Group.{Group, Played, fresh_group}
-use Rattle.law_3_outputs.specs.Safe as safe
-use Rattle.law_3_outputs.specs.GroupFit.{IsFitGroup}
+use Rattle.vr_world.specs.Lying.{Lying, hazards}
+use Rattle.vr_world.specs.World.{World, Happening, Begins, Asks, Ticks, Stops, Fuses, fresh_world, happen, happens, no_world}
+use Rattle.vr_world.specs.Group.{Group, Played, fresh_group}
+use Rattle.vr_world.specs.Safe as safe
+use Rattle.vr_world.specs.GroupFit.{IsFitGroup}
 use Rattle.law_4_disks.specs.Stocks.{IsStockedGroup}
 use Rattle.law_4_disks.specs.Worlds.{AreBeside, IsLine, IsMatched, IsMatchedBy, begun_in, first_world, left, read_in}
 use Rattle.law_6_one_log.specs.Bridged.{IsBridged, IsLed}

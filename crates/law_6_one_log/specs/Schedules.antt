@@ -6,12 +6,12 @@ use Rattle.vr_header.specs.Names.{root_header}
 use Rattle.vr_header.specs.NoCollision.{NoCollision}
 use Rattle.vr_header.specs.Spelling.{named_bytes}
 use Rattle.vr_msg.specs.declared.output.Sent.{Sent}
-use Rattle.law_3_outputs.specs.Steps.{Effect}
-use Rattle.law_3_outputs.specs.Group.{Played}
-use Rattle.law_3_outputs.specs.Lying.{Lying, hazards}
-use Rattle.law_3_outputs.specs.Safe as safe
-use Rattle.law_3_outputs.specs.Safe.{IsRead, IsWritten}
-use Rattle.law_3_outputs.specs.World.{World, Host, Happening, happens}
+use Rattle.vr_rules.specs.Steps.{Effect}
+use Rattle.vr_world.specs.Group.{Played}
+use Rattle.vr_world.specs.Lying.{Lying, hazards}
+use Rattle.vr_world.specs.Safe as safe
+use Rattle.vr_world.specs.Safe.{IsRead, IsWritten}
+use Rattle.vr_world.specs.World.{World, Host, Happening, happens}
 use Rattle.law_4_disks.specs.Stocks.{IsGiven}
 use Rattle.law_4_disks.specs.Worlds.{IsHashedAt, IsLine, begun_in, read_in}
 use Rattle.law_5_seals.specs.Seals.{HasSectors, IsSealed}

@@ -11,9 +11,9 @@ use Rattle.vr_header.specs.Names.{root_header}
 use Rattle.vr_header.specs.NoCollision.{NoCollision}
 use Rattle.vr_world.specs.Group.{Member, Played, fresh_group, fresh_member}
 use Rattle.vr_world.specs.Lying.{Lying, after_calls, blank_lying, hazards, zero_face}
-use Rattle.vr_lie.specs.Held.{looked}
-use Rattle.vr_world.specs.Opening.{AreKinds, IsKind, blank, first_value, fresh}
-use Rattle.vr_world.specs.Replica.{Replica}
+use Rattle.vr_rings.specs.Held.{looked}
+use Rattle.vr_rules.specs.Opening.{AreKinds, IsKind, blank, first_value, fresh}
+use Rattle.vr_rules.specs.Replica.{Replica}
 use Rattle.vr_world.specs.Safe as safe
 use Rattle.vr_world.specs.World.{Happened, Happening, Host, World, happen}
 use Rattle.law_4_disks.specs.Worlds.{AreBeside, IsLine, IsMatched, Stands, first_host, first_world}

@@ -8,13 +8,13 @@ use Rattle.vr_disk.specs.declared.fault.Halt.TheVariants as halt
 use Rattle.vr_msg.specs.declared.event.Event.{Event}
 use Rattle.vr_world.specs.Group.{Arrival, opening_script}
 use Rattle.vr_world.specs.Lying.{Lying, lying}
-use Rattle.vr_world.specs.Opening.{first_value}
-use Rattle.vr_world.specs.Steps.{Effect, Step, after_all}
+use Rattle.vr_rules.specs.Opening.{first_value}
+use Rattle.vr_rules.specs.Steps.{Effect, Step, after_all}
 use Rattle.vr_world.proofs.FitLies.{same_version}
-use Rattle.vr_node.specs.Does.{LeftBy}
-use Rattle.vr_node.specs.Replica.{Replica, version}
-use Rattle.vr_node.specs.Rules.{react}
-use Rattle.vr_node.specs.Sectors.{script_calls, sectors_by}
+use Rattle.vr_step.specs.Does.{LeftBy}
+use Rattle.vr_rules.specs.Replica.{Replica, version}
+use Rattle.vr_rules.specs.Rules.{react}
+use Rattle.vr_rules.specs.Sectors.{script_calls, sectors_by}
 use Rattle.vr_node.specs.Opening.{Opens}
 use Rattle.vr_node.specs.Steps.{steps, stops}
 use Rattle.vr_node.specs.declared.node.Node.{Node}

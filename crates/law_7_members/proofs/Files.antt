@@ -17,15 +17,15 @@ use Rattle.vr_msg.specs.declared.output.Sent.{Sent}
 use Rattle.vr_super.specs.Copies.{SuperValue}
 use Rattle.vr_world.specs.Group.{Arrival, Asked, Message, Time, opening_script, resumed}
 use Rattle.vr_world.specs.Lying.{Lying, after_calls, cut_calls, hazards, keeps_premise, lied_to, lying, settled, unless_kept_out}
-use Rattle.vr_world.specs.Opening.{blank, opened, opening}
-use Rattle.vr_node.specs.Replica.{Replica, version}
-use Rattle.vr_node.specs.Rules.{react}
-use Rattle.vr_node.specs.Sectors.{script_calls, sectors_by}
-use Rattle.vr_world.specs.Steps.{Step, after_all, outputs}
+use Rattle.vr_rules.specs.Opening.{blank, opened, opening}
+use Rattle.vr_rules.specs.Replica.{Replica, version}
+use Rattle.vr_rules.specs.Rules.{react}
+use Rattle.vr_rules.specs.Sectors.{script_calls, sectors_by}
+use Rattle.vr_rules.specs.Steps.{Step, after_all, outputs}
 use Rattle.vr_world.specs.World as world
 use Rattle.vr_world.specs.World.{Acted, Happened, Happening, Host, World, Fuses, Lies, Migrates, Starts, Stops, acts, at_member, delivered, handles, happen, happens, if_first, lied, migrated_or_halted, migrates, movable, nothing, starts, stays, stops, with_member}
-use Rattle.vr_node.specs.Migrating.{migration_calls}
-use Rattle.vr_node.specs.Outputs.{messages}
+use Rattle.vr_rules.specs.Migrating.{migration_calls}
+use Rattle.vr_rules.specs.Outputs.{messages}
 use Rattle.vr_lie.specs.declared.fault.Fault.{Fault}
 use Rattle.vr_lie.specs.Faults.{faulted}
 use Rattle.vr_world.proofs.FitLies.{same_version}
@@ -36,7 +36,7 @@ use Rattle.vr_lying.proofs.Rules.{a_react}
 use Rattle.vr_lying.proofs.Versions.{blank_by, opens_by}
 use Rattle.vr_lying.proofs.Words.{a_opening}
 use Rattle.vr_serve.specs.Runs.{Did}
-use Rattle.vr_node.specs.Does.{Does, LeftBy}
+use Rattle.vr_step.specs.Does.{Does, LeftBy}
 use Rattle.vr_node.specs.Opening.{Opens}
 use Rattle.vr_node.specs.Steps.{steps}
 use Rattle.vr_node.specs.declared.node.Node.{Node}

@@ -14,16 +14,16 @@ use Rattle.vr_super.specs.declared.fields.Fields.{Fields}
 use Rattle.vr_super.specs.Opens.{good_copies, opened, opens}
 use Rattle.vr_world.specs.Group.{opening_script, resumed}
 use Rattle.vr_world.specs.Lying.{Lying, after_calls, cut_calls, lying, settled}
-use Rattle.vr_world.specs.Opening.{blank, opening, recover_parts}
-use Rattle.vr_world.specs.Steps.{Mend, Step, after_all, does, ◌⨾◌}
-use Rattle.vr_node.specs.Migrating.{migrated, migration_calls, slot_calls}
-use Rattle.vr_node.specs.Replica.{version}
-use Rattle.vr_node.specs.Sectors.{script_calls, sectors_by}
+use Rattle.vr_rules.specs.Opening.{blank, opening, recover_parts}
+use Rattle.vr_rules.specs.Steps.{Mend, Step, after_all, does, ◌⨾◌}
+use Rattle.vr_rules.specs.Migrating.{migrated, migration_calls, slot_calls}
+use Rattle.vr_rules.specs.Replica.{version}
+use Rattle.vr_rules.specs.Sectors.{script_calls, sectors_by}
 use Rattle.vr_node.specs.Moving.{MigrationEnds, MovesFile}
-use Rattle.vr_replica.specs.Halt as replica
-use Rattle.vr_replica.specs.Halt.TheVariants as halt
-use Rattle.vr_replica.specs.Migration.{StopsMigrating, StopsMigration}
-use Rattle.vr_replica.specs.Recovering.{DoesTo, IsOther, StopsAsked, StopsMending, config_of}
+use Rattle.vr_disk.specs.declared.fault.Halt as replica
+use Rattle.vr_disk.specs.declared.fault.Halt.TheVariants as halt
+use Rattle.vr_opening.specs.Migration.{StopsMigrating, StopsMigration}
+use Rattle.vr_opening.specs.Recovering.{DoesTo, IsOther, StopsAsked, StopsMending, config_of}
 use Rattle.vr_status.specs.declared.status.Status.{Status}
 use Rattle.vr_status.specs.declared.status.Status.TheVariants as status
 use Rattle.law_4_disks.proofs.Starts.{opening_is}

@@ -9,9 +9,9 @@ use Rattle.vr_super.specs.Copies.{SuperValue}
 use Rattle.vr_super.specs.Opens.{opens}
 use Rattle.vr_world.specs.Group.{AreSound, Played, fresh_group, kept_at, recovered}
 use Rattle.vr_world.specs.Lying.{Lying, hazards, lying}
-use Rattle.vr_world.specs.Opening.{blank, first_value, fresh, mending}
-use Rattle.vr_node.specs.Sectors.{sectors_by}
-use Rattle.vr_world.specs.Steps.{Mend, Step}
+use Rattle.vr_rules.specs.Opening.{blank, first_value, fresh, mending}
+use Rattle.vr_rules.specs.Sectors.{sectors_by}
+use Rattle.vr_rules.specs.Steps.{Mend, Step}
 use Rattle.vr_world.specs.World.{Happened, Host, Starts, happen}
 use Rattle.law_4_disks.specs.Beside.{AreMade}
 use Rattle.law_4_disks.specs.Worlds.{IsMatched, first_host, first_world, left}

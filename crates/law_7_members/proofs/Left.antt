@@ -2,9 +2,9 @@
 use Rattle.std.proofs.Common.{◌≡◌, refl, sym, ap, ◌∙◌, subst, length, Option, Some, None}
 use Rattle.vr_super.specs.Copies.{SuperValue}
 use Rattle.vr_super.specs.Opens.{opens}
+use Rattle.vr_rules.specs.Replica.{Replica}
 use Rattle.vr_world.specs.Group.{Member, fresh_group}
 use Rattle.vr_world.specs.Lying.{Lying}
-use Rattle.vr_world.specs.Replica.{Replica}
 use Rattle.vr_world.specs.World.{Happened, Host}
 use Rattle.law_4_disks.specs.Worlds.{AreBeside, Stands, left}
 use Rattle.law_7_members.specs.Deeds.{config_at}

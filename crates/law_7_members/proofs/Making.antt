@@ -18,21 +18,21 @@ use Rattle.vr_header.specs.declared.header.Header.{Header}
 use Rattle.vr_super.specs.Calls.{copy_calls, save_from}
 use Rattle.vr_super.specs.Copies.{IsGood, SuperValue, copy_bytes}
 use Rattle.vr_super.specs.Opens.{copy_reading, good_copies, good_copy, opened, opens}
-use Rattle.vr_lie.specs.Lies.{lied}
+use Rattle.vr_cells.specs.Lies.{lied}
 use Rattle.vr_lie.specs.declared.fault.Fault.{Fault}
 use Rattle.vr_lie.specs.declared.fault.Fault.TheVariants as fault
 use Rattle.vr_lie.specs.Faults.{faulted}
-use Rattle.vr_lie.proofs.Best.{opened_among, opened_some}
-use Rattle.vr_lie.proofs.Format.{length-copy_bytes, value_again}
-use Rattle.vr_lie.proofs.Keeping.{two_first}
-use Rattle.vr_lie.proofs.Readings.{copy_within, other_after}
-use Rattle.vr_lie.specs.Held.{Stands}
-use Rattle.vr_world.specs.Formatting.{reserved_headers, zero_prepares, zero_sector}
+use Rattle.vr_super.proofs.Best.{opened_among, opened_some}
+use Rattle.vr_super.proofs.Format.{length-copy_bytes, value_again}
+use Rattle.vr_super.proofs.Keeping.{two_first}
+use Rattle.vr_super.proofs.Readings.{copy_within, other_after}
+use Rattle.vr_rings.specs.Held.{Stands, looked}
+use Rattle.vr_rules.specs.Formatting.{reserved_headers, zero_prepares, zero_sector}
 use Rattle.vr_world.specs.Group.{fresh_member}
 use Rattle.vr_world.specs.Lying.{Lying, zero_cell, zero_face}
 use Rattle.vr_base.specs.Groups.{least_members}
-use Rattle.vr_world.specs.Opening.{IsKind, first_value}
-use Rattle.vr_world.proofs.FitFresh.{fresh_fits}
+use Rattle.vr_rules.specs.Opening.{IsKind, first_value}
+use Rattle.vr_rules.proofs.FitFresh.{fresh_fits}
 use Rattle.law_4_disks.specs.Beside.{IsCalm, IsOn}
 use Rattle.law_4_disks.proofs.Calls.{format_are, format_is, zero_content}
 use Rattle.law_4_disks.proofs.Effects.{at_slot, calm_after}
@@ -44,13 +44,12 @@ use Rattle.law_7_members.proofs.Cuts.{rested}
 use Rattle.law_7_members.specs.Whole as whole
 use Rattle.vr_status.specs.declared.status.Status.TheVariants as status
 use Rattle.law_7_members.specs.Whole.{IsUnfinished, IsUnused, LeavesUnfinished, MakingsLeaveUnfinished, as_read, made_on, making}
-use Rattle.vr_lie.specs.Seen as mem
-use Rattle.vr_lie.specs.Seen.{copies}
+use Rattle.vr_cells.specs.Seen as mem
+use Rattle.vr_cells.specs.Seen.{copies}
 use Rattle.vr_base.specs.declared.mode.Mode.TheVariants.{Strict}
 use Rattle.vr_lie.proofs.Calls.{empty_at, new_table}
 use Rattle.vr_lie.proofs.Premise.{none_stands}
 use Rattle.vr_lie.specs.Laws.{AllStand}
-use Rattle.vr_lie.specs.Held.{looked}
 use Rattle.vr_rings.proofs.Standing.{look_mid, mid_stands, stands_look}
 use Rattle.law_6_one_log.proofs.Fresh.{format_sealed, zero_face_sealed}
 use Rattle.law_6_one_log.proofs.Scripts.{AreSealed}

@@ -30,8 +30,8 @@ use Rattle.vr_lie.specs.Faults.{held_at}
 use Rattle.vr_rules.proofs.Migrating.{migrated_good}
 use Rattle.vr_world.specs.Group.{Member, MayOpen, begins, begins_first, carried_out, cut_after, ends, migration}
 use Rattle.vr_world.specs.Lying.{Lying, after_calls, cut_calls, settled}
-use Rattle.vr_world.specs.Steps.{Effect, Mend, Save}
-use Rattle.vr_node.specs.Migrating.{migrated, migration_calls, slot_calls}
+use Rattle.vr_rules.specs.Steps.{Effect, Mend, Save}
+use Rattle.vr_rules.specs.Migrating.{migrated, migration_calls, slot_calls}
 use Rattle.law_4_disks.specs.Beside.{IsHeld, IsOff}
 use Rattle.law_4_disks.proofs.Calls.{mend_are}
 use Rattle.law_4_disks.proofs.Effects.{at_slot, synced}

@@ -12,12 +12,12 @@ use Rattle.vr_world.specs.Group.{Arrival, Group, Member, Move, Moved, Moves, Pla
 use Rattle.vr_world.specs.Files.{IsFileAt, IsOfFile}
 use Rattle.vr_world.specs.GroupFit.{IsFitGroup, IsFitMove}
 use Rattle.vr_world.specs.Lying.{Lying, lying}
-use Rattle.vr_world.specs.Opening.{AreKinds, blank, opening}
-use Rattle.vr_node.specs.Replica.{Replica, version}
-use Rattle.vr_node.specs.Rules.{react}
+use Rattle.vr_rules.specs.Opening.{AreKinds, blank, opening}
+use Rattle.vr_rules.specs.Replica.{Replica, version}
+use Rattle.vr_rules.specs.Rules.{react}
 use Rattle.vr_world.specs.Safe.{run_outputs}
-use Rattle.vr_node.specs.Sectors.{sectors_by}
-use Rattle.vr_world.specs.Steps.{Step, outputs}
+use Rattle.vr_rules.specs.Sectors.{sectors_by}
+use Rattle.vr_rules.specs.Steps.{Step, outputs}
 use Rattle.vr_world.proofs.FitGroups.{fresh_group_fits, groups_fit}
 use Rattle.vr_world.proofs.FitLies.{lies_fit}
 use Rattle.law_4_disks.specs.Worlds.{IsOfBytes}
@@ -26,7 +26,7 @@ use Rattle.vr_lying.proofs.Rules.{a_react}
 use Rattle.vr_lying.proofs.Versions.{blank_by}
 use Rattle.vr_lying.proofs.Words.{a_opening}
 use Rattle.vr_serve.specs.Runs.{Did}
-use Rattle.vr_node.specs.Does.{Does, LeftBy}
+use Rattle.vr_step.specs.Does.{Does, LeftBy}
 use Rattle.vr_node.specs.Opening.{Opens}
 use Rattle.vr_node.specs.Steps.{steps}
 use Rattle.vr_node.specs.declared.node.Node.{Node}

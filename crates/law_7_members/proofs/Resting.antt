@@ -17,11 +17,11 @@ use Rattle.vr_super.specs.Opens.{copy_reading}
 use Rattle.vr_rings.specs.Calls.{header_calls, prepare_calls}
 use Rattle.vr_rings.specs.Moving.{moves, relocated}
 use Rattle.vr_rings.specs.Slots.{prepare_bytes, slot_of}
-use Rattle.vr_world.specs.Formatting.{reserved_headers, zero_prepares}
-use Rattle.vr_world.specs.Opening.{first_value}
-use Rattle.vr_node.specs.Migrating.{migrated, migration_calls, slot_calls}
-use Rattle.vr_node.specs.Sectors.{calls_by, script_calls}
-use Rattle.vr_world.specs.Steps.{Checkpoint, Effect, Mend, PutBlock, Rewrite, Save, Say, Write as WriteEntry}
+use Rattle.vr_rules.specs.Formatting.{reserved_headers, zero_prepares}
+use Rattle.vr_rules.specs.Opening.{first_value}
+use Rattle.vr_rules.specs.Migrating.{migrated, migration_calls, slot_calls}
+use Rattle.vr_rules.specs.Sectors.{calls_by, script_calls}
+use Rattle.vr_rules.specs.Steps.{Checkpoint, Effect, Mend, PutBlock, Rewrite, Save, Say, Write as WriteEntry}
 use Rattle.law_4_disks.proofs.Calls.{format_is}
 use Rattle.law_4_disks.proofs.Effects.{synced}
 use Rattle.law_7_members.specs.Whole.{making}

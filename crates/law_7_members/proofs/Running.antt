@@ -7,10 +7,10 @@ use Rattle.vr_super.specs.Copies.{SuperValue}
 use Rattle.vr_super.specs.Opens.{opens}
 use Rattle.vr_world.specs.Group.{Arrival, opening_script}
 use Rattle.vr_world.specs.Lying.{Lying, lying}
-use Rattle.vr_world.specs.Steps.{after_all}
+use Rattle.vr_rules.specs.Steps.{after_all}
 use Rattle.vr_node.specs.Opening.{Opens, OpensNone}
 use Rattle.vr_node.specs.Running.{EndsAttached, Outside, Unattached, on_disk}
-use Rattle.vr_node.specs.Sectors.{sectors_by}
+use Rattle.vr_rules.specs.Sectors.{sectors_by}
 use Rattle.vr_serve.specs.Causes.{Counts}
 use Rattle.vr_status.specs.declared.status.Status.{Status}
 use Rattle.vr_status.specs.declared.status.Status.TheVariants as status

@@ -6,7 +6,7 @@ use Rattle.std.proofs.lemmas.Bool.{eq-eqb}
 use Rattle.vr_disk.specs.DiskState.{Face}
 use Rattle.vr_super.specs.Copies.{SuperValue}
 use Rattle.vr_super.specs.Opens.{opens}
-use Rattle.vr_world.specs.Sectors.{of_version, sectors_by}
+use Rattle.vr_rules.specs.Sectors.{of_version, sectors_by}
 
 version_is : (n : ℕ) (o : Option SuperValue) (v : SuperValue) → option_and_then (of_version n) o ≡ Some v → o ≡ Some v
 version_is n None v e = absurd cc

@@ -16,11 +16,11 @@ use Rattle.vr_msg.specs.declared.output.Output.{Output}
 use Rattle.vr_super.specs.Copies.{SuperValue}
 use Rattle.vr_world.specs.Group.{Arrival, opening_script, resumed}
 use Rattle.vr_world.specs.Lying.{Lying, lying, zero_face}
-use Rattle.vr_world.specs.Opening.{blank, first_value, fresh, opening}
-use Rattle.vr_node.specs.Replica.{Replica, version}
-use Rattle.vr_node.specs.Rules.{react}
-use Rattle.vr_node.specs.Sectors.{calls_by, script_calls, sectors_by}
-use Rattle.vr_world.specs.Steps.{Effect, Step, after_all}
+use Rattle.vr_rules.specs.Opening.{blank, first_value, fresh, opening}
+use Rattle.vr_rules.specs.Replica.{Replica, version}
+use Rattle.vr_rules.specs.Rules.{react}
+use Rattle.vr_rules.specs.Sectors.{calls_by, script_calls, sectors_by}
+use Rattle.vr_rules.specs.Steps.{Effect, Step, after_all}
 use Rattle.vr_world.specs.World as world
 use Rattle.vr_world.specs.World.{Happened, Host, World, nothing}
 use Rattle.vr_world.proofs.FitLies.{same_version}
@@ -30,7 +30,7 @@ use Rattle.law_4_disks.proofs.Starts.{opening_is}
 use Rattle.vr_lying.proofs.Versions.{blank_by, opens_by}
 use Rattle.vr_lying.proofs.Words.{a_opening}
 use Rattle.vr_serve.specs.Runs.{Did, IsRun}
-use Rattle.vr_node.specs.Does.{Does, LeftBy}
+use Rattle.vr_step.specs.Does.{Does, LeftBy}
 use Rattle.vr_node.specs.Opening.{Opens}
 use Rattle.vr_node.specs.Running.{Outside}
 use Rattle.vr_node.specs.Steps.{steps}

@@ -9,9 +9,9 @@ use Rattle.vr_super.specs.Copies.{SuperValue}
 use Rattle.vr_world.specs.Group.{AreSound, Arrival, Group, IsArrival, MayOpen, Member, Movable, Moved, carried_out, cut_short, kept_at, move_cut, moved_over, once_mended, opening_script, recovered, resumed, start_cut, with_script}
 use Rattle.vr_world.specs.GroupFit.{IsFitArrival}
 use Rattle.vr_world.specs.Lying.{Lying}
-use Rattle.vr_node.specs.Replica.{Replica, version}
-use Rattle.vr_node.specs.Rules.{react}
-use Rattle.vr_node.specs.Sectors.{sectors_by}
+use Rattle.vr_rules.specs.Replica.{Replica, version}
+use Rattle.vr_rules.specs.Rules.{react}
+use Rattle.vr_rules.specs.Sectors.{sectors_by}
 use Rattle.vr_serve.specs.Runs.{Did}
 use Rattle.vr_node.specs.Opening.{Opens}
 use Rattle.vr_node.specs.Steps.{steps}

@@ -10,10 +10,10 @@ use Rattle.vr_super.specs.Copies.{SuperValue}
 use Rattle.vr_super.specs.Opens.{opens}
 use Rattle.vr_world.specs.Group.{Arrival, opening_script}
 use Rattle.vr_world.specs.Lying.{Lying, lying}
-use Rattle.vr_node.specs.Replica.{Replica}
-use Rattle.vr_node.specs.Rules.{react}
-use Rattle.vr_node.specs.Sectors.{script_calls, sectors_by}
-use Rattle.vr_world.specs.Steps.{after_all}
+use Rattle.vr_rules.specs.Replica.{Replica}
+use Rattle.vr_rules.specs.Rules.{react}
+use Rattle.vr_rules.specs.Sectors.{script_calls, sectors_by}
+use Rattle.vr_rules.specs.Steps.{after_all}
 use Rattle.vr_node.specs.Moving.{MigrationEnds}
 use Rattle.vr_node.specs.Opening.{OpensNone}
 use Rattle.vr_node.specs.Running.{NodeEnds, Outside, on_disk}

@@ -1,6 +1,6 @@
 -- Members of a group at work on their files: what befalls them, in one order. What a member does is what its program says of it, on a
 -- disk that tells what its file has: as its last step, cut or run left it, but for faults that keep the premise of the file.
-use Rattle.vr_node.specs.Migrating.{migration_calls}
+use Rattle.vr_rules.specs.Migrating.{migration_calls}
 use Rattle.std.specs.Prelude.{ℕ, ◌^◌, ◌<◌, ◌≡◌, ⊤, List, [], ◌∷◌, ◌++◌, length, slice_get, Option, Some, None}
 use Rattle.vr_base.specs.declared.table.Config.{Config}
 use Rattle.vr_disk.specs.DiskState.{Disk}
@@ -14,12 +14,12 @@ use Rattle.vr_msg.specs.declared.output.Sent.{Sent}
 use Rattle.vr_super.specs.Copies.{SuperValue}
 use Rattle.vr_world.specs.Group.{Arrival, Asked, Message, Time, opening_script}
 use Rattle.vr_world.specs.Lying.{Lying, after_calls, cut_calls, lying, settled, unless_kept_out}
-use Rattle.vr_node.specs.Replica.{Replica}
-use Rattle.vr_node.specs.Rules.{react}
-use Rattle.vr_node.specs.Sectors.{script_calls, sectors_by}
-use Rattle.vr_world.specs.Steps.{Effect, after_all}
+use Rattle.vr_rules.specs.Replica.{Replica}
+use Rattle.vr_rules.specs.Rules.{react}
+use Rattle.vr_rules.specs.Sectors.{script_calls, sectors_by}
+use Rattle.vr_rules.specs.Steps.{Effect, after_all}
 use Rattle.vr_world.specs.World.{Happened, Happening, Host, World, Arrives, Asks, Fuses, Lies, Migrates, Starts, Stops, Ticks, later, nothing, with_member}
-use Rattle.vr_node.specs.Fit.{IsAsked}
+use Rattle.vr_rules.specs.Fit.{IsAsked}
 use Rattle.vr_serve.specs.Runs.{Did}
 use Rattle.vr_node.specs.Opening.{Opens}
 use Rattle.vr_node.specs.Steps.{steps}

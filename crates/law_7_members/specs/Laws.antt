@@ -2,7 +2,7 @@
 use Rattle.std.specs.Prelude.{ℕ, ◌^◌, ◌<◌, ◌≤◌, ◌≡◌, List, All, length, slice_get, Some, None}
 use Rattle.law_3_outputs.specs.Followed.{IsFitRun}
 use Rattle.vr_base.specs.declared.kind.Kind.{Kind}
-use Rattle.vr_world.specs.Opening.{AreKinds}
+use Rattle.vr_rules.specs.Opening.{AreKinds}
 use Rattle.vr_disk.specs.DiskState.{Disk}
 use Rattle.vr_header.specs.NoCollision.{NoCollision}
 use Rattle.vr_super.specs.Copies.{SuperValue}

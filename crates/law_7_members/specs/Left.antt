@@ -4,7 +4,7 @@ use Rattle.vr_base.specs.declared.kind.Kind.{Kind}
 use Rattle.vr_disk.specs.DiskState.{Disk}
 use Rattle.vr_header.specs.NoCollision.{NoCollision}
 use Rattle.vr_world.specs.Lying.{Lying}
-use Rattle.vr_world.specs.Opening.{AreKinds}
+use Rattle.vr_rules.specs.Opening.{AreKinds}
 use Rattle.vr_world.specs.World.{Host}
 use Rattle.vr_node.specs.Moving.{MigrationEnds}
 use Rattle.vr_node.specs.Running.{NodeEnds, Outside}

@@ -9,7 +9,7 @@ use Rattle.vr_super.specs.Opens.{opens}
 use Rattle.vr_rings.specs.Held.{Stands}
 use Rattle.vr_lie.specs.Faults.{held_at}
 use Rattle.vr_world.specs.Lying.{Lying, after_calls, cut_calls, settled}
-use Rattle.vr_node.specs.Migrating.{migrated, migration_calls, slot_calls}
+use Rattle.vr_rules.specs.Migrating.{migrated, migration_calls, slot_calls}
 use Rattle.law_4_disks.specs.Beside.{IsCalm}
 use Rattle.law_4_disks.specs.Naming.{IsHashedMigrating, mended_on}
 

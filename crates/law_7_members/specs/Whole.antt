@@ -9,20 +9,20 @@ use Rattle.vr_disk.specs.Stops.{Stops}
 use Rattle.vr_header.specs.NoCollision.{NoCollision}
 use Rattle.vr_lie.specs.declared.fault.Fault.{Fault}
 use Rattle.vr_lie.specs.Faults.{IsFault, faulted}
-use Rattle.vr_lie.specs.Held.{looked}
+use Rattle.vr_rings.specs.Held.{looked}
 use Rattle.vr_msg.specs.declared.output.Output.{Output}
 use Rattle.vr_msg.specs.declared.output.Sent.{Sent}
 use Rattle.vr_super.specs.Copies.{SuperValue}
 use Rattle.vr_super.specs.Opens.{opens}
-use Rattle.vr_world.specs.Formatting.{format_calls}
-use Rattle.vr_world.specs.Opening.{AreKinds, IsKind, first_value, fresh}
+use Rattle.vr_rules.specs.Formatting.{format_calls}
+use Rattle.vr_rules.specs.Opening.{AreKinds, IsKind, first_value, fresh}
 use Rattle.vr_world.specs.Group.{Arrival, opening_script}
 use Rattle.vr_world.specs.Lying.{Lying, after_calls, each_slot, lying, zero_face}
-use Rattle.vr_node.specs.Replica.{Replica}
-use Rattle.vr_world.specs.Steps.{after_all}
+use Rattle.vr_rules.specs.Replica.{Replica}
+use Rattle.vr_rules.specs.Steps.{after_all}
 use Rattle.vr_world.specs.World.{Happened, Host, World}
-use Rattle.vr_node.specs.Outputs.{messages}
-use Rattle.vr_node.specs.Sectors.{sectors_by}
+use Rattle.vr_rules.specs.Outputs.{messages}
+use Rattle.vr_rules.specs.Sectors.{sectors_by}
 use Rattle.law_4_disks.specs.Worlds.{first_world}
 use Rattle.law_5_seals.specs.Seals.{HasSectors, IsSealed}
 use Rattle.law_6_one_log.specs.Schedules.{IsHashedOf}

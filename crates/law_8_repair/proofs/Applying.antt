@@ -10,10 +10,10 @@ use Rattle.vr_header.specs.declared.part.Part.TheVariants.{Here, Lost, Wanted, U
 use Rattle.vr_header.specs.Made.{Whole}
 use Rattle.std.specs.Option.{option_and_then}
 use Rattle.vr_header.specs.Same.{same_header}
-use Rattle.vr_world.specs.Replica.{Replica, is_here, part_at, version}
-use Rattle.vr_world.specs.Steps.{Setting, Step, Word, ◌⨾◌, after_all, by, change, does, quiet, reading, says, times, when}
-use Rattle.vr_world.specs.Words.{applied, apply, apply_entry, apply_next, checkpoint_of, entry_of, is_checkpoint, is_loaded, make_checkpoint, or_lost, save, value_of, with_checkpoint, with_entry, with_entry_at}
-use Rattle.vr_world.proofs.Storing.{moved_at}
+use Rattle.vr_rules.specs.Replica.{Replica, is_here, part_at, version}
+use Rattle.vr_rules.specs.Steps.{Setting, Step, Word, ◌⨾◌, after_all, by, change, does, quiet, reading, says, times, when}
+use Rattle.vr_rules.specs.Words.{applied, apply, apply_entry, apply_next, checkpoint_of, entry_of, is_checkpoint, is_loaded, make_checkpoint, or_lost, save, value_of, with_checkpoint, with_entry, with_entry_at}
+use Rattle.vr_rules.proofs.Storing.{moved_at}
 use Rattle.law_8_repair.specs.Completing.{AllRead}
 use Rattle.law_8_repair.proofs.Disks.{Stores}
 use Rattle.law_8_repair.proofs.Dry.{dry_next, same_entries}

@@ -1,25 +1,23 @@
 -- What an ask puts out.
-use Rattle.std.proofs.Common.{◌<◌, ◌+◌, ◌++◌, not, subst}
-use Rattle.std.specs.Prelude.{nat_le, nat_lt, ◌||◌}
+use Rattle.std.proofs.Common.{◌<◌, ◌+◌, ◌++◌, not, subst, arith, ℕ, zero, suc, ◌-◌, ◌≡◌, ◌≢◌, ◌∙◌, ◌⊎◌, inl, inr, refl, sym, ap, Bool, true, false, cond, List, [], ◌∷◌, append-nil, get_or, map, Option, Some, None}
+use Rattle.std.specs.Prelude.{nat_le, nat_lt, ◌||◌, find}
 use Rattle.std.proofs.lemmas.Bool.{lt-leb, ltb-true}
 use Rattle.vr_msg.specs.declared.event.Event.TheVariants.{Tick}
-use Rattle.vr_world.specs.Deciding.{first_of, tick_table}
-use Rattle.vr_world.specs.Outputs.{commit_message, send_to_all, start_view_change}
-use Rattle.vr_world.specs.Replica.{head, is_started, leads}
-use Rattle.vr_world.specs.Rules.{backup_ticks, changing_ticks, idler, next_view, obey_tick, on_event, on_tick, primary_ticks, react}
-use Rattle.vr_world.specs.Steps.{Step, Word, after_all, quiet, when}
-use Rattle.vr_world.specs.Words.{prepare_again, speak, turned, visit}
-use Rattle.vr_world.specs.Rule.TheVariants.{TickedBackup, TickedChanging, TickedPrimary}
-use Rattle.vr_world.proofs.Combining.{Keeps, keeps_by, keeps_says, keeps_then, keeps_when}
-use Rattle.vr_world.proofs.Halves.{regrouped}
-use Rattle.vr_world.proofs.Reacting.{keeps_idler}
-use Rattle.vr_world.proofs.SendsScripts.{outputs_append}
-use Rattle.vr_world.proofs.Trying.{keeps_speak}
-use Rattle.vr_world.proofs.Visiting.{keeps_visit}
-use Rattle.vr_world.proofs.Wording.{keeps_prepare_again}
-use Rattle.law_8_repair.specs.Asks.{AsksEntry, AsksLast, IsShort, TicksAsk, stays_on}
-use Rattle.std.proofs.Common.{arith, ℕ, zero, suc, ◌+◌, ◌-◌, ◌≡◌, ◌≢◌, ◌∙◌, ◌⊎◌, inl, inr, refl, sym, ap, Bool, true, false, cond, List, [], ◌∷◌, append-nil, get_or, map, Option, Some, None}
-use Rattle.std.specs.Prelude.{find}
+use Rattle.vr_rules.specs.Deciding.{first_of, tick_table}
+use Rattle.vr_rules.specs.Outputs.{commit_message, send_to_all, start_view_change, get_block, get_prepare, send_to}
+use Rattle.vr_rules.specs.Replica.{head, is_started, leads, Replica, is_absent, is_alone, part_at, parts_from}
+use Rattle.vr_rules.specs.Rules.{backup_ticks, changing_ticks, idler, next_view, obey_tick, on_event, on_tick, primary_ticks, react}
+use Rattle.vr_rules.specs.Steps.{Step, Word, after_all, quiet, when, Say, Setting, ◌⨾◌, by, change, naming, outputs, says}
+use Rattle.vr_rules.specs.Words.{prepare_again, speak, turned, visit, ask, ask_for, ask_peer, least_absent, peer}
+use Rattle.vr_rules.specs.declared.rule.Rule.TheVariants.{TickedBackup, TickedChanging, TickedPrimary}
+use Rattle.vr_rules.proofs.Combining.{Keeps, keeps_by, keeps_says, keeps_then, keeps_when}
+use Rattle.vr_rules.proofs.Halves.{regrouped}
+use Rattle.vr_rules.proofs.Reacting.{keeps_idler}
+use Rattle.vr_rules.proofs.SendsScripts.{outputs_append, outputs_said}
+use Rattle.vr_rules.proofs.Trying.{keeps_speak}
+use Rattle.vr_rules.proofs.Visiting.{keeps_visit}
+use Rattle.vr_rules.proofs.Wording.{keeps_prepare_again}
+use Rattle.law_8_repair.specs.Asks.{AsksEntry, AsksLast, IsShort, TicksAsk, stays_on, AsksBlock, LacksEntry, ShortReplicasAsk}
 use Rattle.std.specs.Option.{option_and_then, option_map_or}
 use Rattle.std.proofs.lemmas.List.{get_or-drop}
 use Rattle.vr_ckpt.specs.declared.name.Name.{Name}
@@ -27,15 +25,9 @@ use Rattle.vr_header.specs.declared.header.Header.{Header}
 use Rattle.vr_header.specs.declared.part.Part.{Part}
 use Rattle.vr_header.specs.declared.part.Part.TheVariants.{Here, Lost, Wanted, Unknown, Nothing}
 use Rattle.vr_msg.specs.declared.frame.Frame.{Frame}
-use Rattle.vr_msg.specs.Logs.{header_of}
-use Rattle.vr_world.specs.Outputs.{get_block, get_prepare, send_to}
-use Rattle.vr_world.specs.Replica.{Replica, is_absent, is_alone, part_at, parts_from}
-use Rattle.vr_world.specs.Sound.{IsSound}
-use Rattle.vr_world.specs.Steps.{Say, Setting, ◌⨾◌, by, change, naming, outputs, says}
-use Rattle.vr_world.specs.Words.{ask, ask_for, ask_peer, least_absent, peer}
-use Rattle.vr_world.proofs.Heads.{part_within}
-use Rattle.vr_world.proofs.SendsScripts.{outputs_said}
-use Rattle.law_8_repair.specs.Asks.{AsksBlock, LacksEntry, ShortReplicasAsk}
+use Rattle.vr_header.specs.Parts.{header_of}
+use Rattle.vr_rules.specs.Sound.{IsSound}
+use Rattle.vr_rules.proofs.Heads.{part_within}
 
 -- ---- the least absent entry
 

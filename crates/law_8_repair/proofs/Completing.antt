@@ -5,18 +5,18 @@ use Rattle.std.specs.Prelude.{filter}
 use Rattle.std.proofs.lemmas.Bool.{cases_eq, cases_lt, true≢false}
 use Rattle.vr_header.specs.declared.part.Part.{Part}
 use Rattle.vr_header.specs.declared.part.Part.TheVariants.{Here, Lost, Wanted, Unknown, Nothing}
+use Rattle.vr_header.specs.Parts.{has_header, header_of}
 use Rattle.vr_msg.specs.declared.event.Event.TheVariants as event
 use Rattle.vr_msg.specs.declared.frame.Frame.TheVariants as frame
 use Rattle.vr_msg.specs.declared.frame.GivePrepare.{GivePrepare}
-use Rattle.vr_msg.specs.Logs.{has_header, header_of}
+use Rattle.vr_rules.specs.Replica.{Replica, is_absent, is_here, part_at, version}
+use Rattle.vr_rules.specs.Rules.{react}
+use Rattle.vr_rules.specs.Sectors.{sectors_by}
+use Rattle.vr_rules.specs.Steps.{Setting, Step, after_all}
+use Rattle.vr_rules.proofs.Heads.{head_knows}
+use Rattle.vr_rules.proofs.Keeping.{spans_of}
+use Rattle.vr_rules.specs.Sound.{IsCaughtUp}
 use Rattle.vr_world.specs.Lying.{lying}
-use Rattle.vr_world.specs.Replica.{Replica, is_absent, is_here, part_at, version}
-use Rattle.vr_world.specs.Rules.{react}
-use Rattle.vr_world.specs.Sectors.{sectors_by}
-use Rattle.vr_world.specs.Steps.{Setting, Step, after_all}
-use Rattle.vr_world.proofs.Heads.{head_knows}
-use Rattle.vr_world.proofs.Keeping.{spans_of}
-use Rattle.vr_world.specs.Sound.{IsCaughtUp}
 use Rattle.law_8_repair.specs.Completing.{CopiesComplete, IsCopy, LacksEntries, absent_ops, after_copies}
 use Rattle.law_8_repair.proofs.Disks.{HasRoom, IsLong, Stores, lying_stores, sectors_store}
 use Rattle.law_8_repair.proofs.Taking.{Taken, copy_comes}

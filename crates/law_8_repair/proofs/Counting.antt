@@ -7,14 +7,14 @@ use Rattle.std.proofs.Math.Nat.{mod-add-mod, mod-eq_of_lt}
 use Rattle.std.proofs.lemmas.List.Elements.{All-head, All-tail}
 use Rattle.vr_ckpt.specs.declared.name.Name.{Name}
 use Rattle.vr_msg.specs.declared.event.Event.{Event}
-use Rattle.vr_world.specs.Laws.{HasNames, IsEvent}
-use Rattle.vr_world.specs.Replica.{Replica}
-use Rattle.vr_world.specs.Rules as rules
-use Rattle.vr_world.specs.Sound.{IsSound}
-use Rattle.vr_world.specs.Steps.{Setting, Step, Word, ◌⨾◌, after_all, quiet}
-use Rattle.vr_world.specs.Words as words
-use Rattle.vr_world.proofs.Reacting.{steps_stay_sound}
-use Rattle.vr_world.proofs.Rising.{steps_rise}
+use Rattle.vr_rules.specs.Laws.{HasNames, IsEvent}
+use Rattle.vr_rules.specs.Replica.{Replica}
+use Rattle.vr_rules.specs.Rules as rules
+use Rattle.vr_rules.specs.Sound.{IsSound}
+use Rattle.vr_rules.specs.Steps.{Setting, Step, Word, ◌⨾◌, after_all, quiet}
+use Rattle.vr_rules.specs.Words as words
+use Rattle.vr_rules.proofs.Reacting.{steps_stay_sound}
+use Rattle.vr_rules.proofs.Rising.{steps_rise}
 use Rattle.law_8_repair.specs.Cover.{visits_made}
 use Rattle.law_8_repair.specs.Visits.{after_events}
 use Rattle.law_8_repair.proofs.Standing.{Standing, Stands, alike_blocks, same_blocks}

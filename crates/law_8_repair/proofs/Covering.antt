@@ -12,23 +12,23 @@ use Rattle.vr_header.specs.declared.header.Header.{Header}
 use Rattle.vr_header.specs.declared.part.Part.{Part}
 use Rattle.vr_header.specs.declared.part.Part.TheVariants.{Here, Lost, Wanted, Unknown, Nothing}
 use Rattle.vr_header.specs.Made.{Whole}
-use Rattle.vr_msg.specs.Logs.{header_of}
+use Rattle.vr_header.specs.Parts.{header_of}
 use Rattle.vr_msg.specs.declared.event.Event.{Event}
 use Rattle.vr_super.specs.Laws.{AllRead}
-use Rattle.vr_world.specs.Fit.{IsProgram}
-use Rattle.vr_world.specs.Laws.{HasNames, IsEvent, SavesRoots, SavesWell}
+use Rattle.vr_rules.specs.Fit.{IsProgram}
+use Rattle.vr_rules.specs.Laws.{HasNames, IsEvent, SavesRoots, SavesWell}
 use Rattle.vr_world.specs.Lying.{lying}
-use Rattle.vr_world.specs.Replica.{Replica, is_absent, part_at, version}
-use Rattle.vr_world.specs.Rules as rules
-use Rattle.vr_world.specs.Sectors.{sectors_by}
-use Rattle.vr_world.specs.Sound.{IsSavable, IsSound}
-use Rattle.vr_world.specs.Steps.{Setting, after_all}
-use Rattle.vr_world.specs.Words as words
-use Rattle.vr_world.proofs.FitDisks.{disks_fit}
+use Rattle.vr_rules.specs.Replica.{Replica, is_absent, part_at, version}
+use Rattle.vr_rules.specs.Rules as rules
+use Rattle.vr_rules.specs.Sectors.{sectors_by}
+use Rattle.vr_rules.specs.Sound.{IsSavable, IsSound}
+use Rattle.vr_rules.specs.Steps.{Setting, after_all}
+use Rattle.vr_rules.specs.Words as words
+use Rattle.vr_rules.proofs.FitDisks.{disks_fit}
 use Rattle.vr_world.proofs.FitLies.{lies_fit}
-use Rattle.vr_world.proofs.Reacting.{steps_stay_sound}
-use Rattle.vr_world.proofs.SavesSectors.{sectors_fit}
-use Rattle.vr_world.proofs.SavesSteps.{steps_save_well}
+use Rattle.vr_rules.proofs.Reacting.{steps_stay_sound}
+use Rattle.vr_rules.proofs.SavesSectors.{sectors_fit}
+use Rattle.vr_rules.proofs.SavesSteps.{steps_save_well}
 use Rattle.law_8_repair.specs.Cover.{IsLaidOut, KnowsFaults, LaysOut, VisitsCover, visits_made}
 use Rattle.law_8_repair.specs.Visits.{AreRead, after_events, visited}
 use Rattle.law_8_repair.proofs.Counting.{Sees, all_known, goes_walks}

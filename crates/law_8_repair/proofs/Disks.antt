@@ -15,9 +15,9 @@ use Rattle.vr_rings.specs.Calls.{header_calls, prepare_calls}
 use Rattle.vr_rings.specs.Slots.{IsWhole, padded, prepare_bytes, whole_in, whole_of}
 use Rattle.vr_rings.proofs.Spelling.{padded_is, whole_again}
 use Rattle.vr_world.specs.Lying.{Lying, lying}
-use Rattle.vr_world.specs.Sectors.{calls_by, sectors_by}
-use Rattle.vr_world.specs.Steps.{Effect, Write, Rewrite, Save, Mend, Checkpoint, PutBlock, Say, Setting}
-use Rattle.vr_world.proofs.FitDisks.{SparesSlots, apart, checkpoint_slots, front_reads, header_spares, mend_slots, prepare_spares, put_slots, same_entry, save_slots, slot_below}
+use Rattle.vr_rules.specs.Sectors.{calls_by, sectors_by}
+use Rattle.vr_rules.specs.Steps.{Effect, Write, Rewrite, Save, Mend, Checkpoint, PutBlock, Say, Setting}
+use Rattle.vr_rules.proofs.FitDisks.{SparesSlots, apart, checkpoint_slots, front_reads, header_spares, mend_slots, prepare_spares, put_slots, same_entry, save_slots, slot_below}
 use Rattle.law_8_repair.specs.Latest.{latest}
 
 -- effects that write no slot

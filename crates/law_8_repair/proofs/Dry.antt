@@ -7,9 +7,9 @@ use Rattle.vr_header.specs.declared.part.Part.{Part}
 use Rattle.vr_header.specs.declared.part.Part.TheVariants.{Here}
 use Rattle.vr_header.specs.Made.{Whole}
 use Rattle.vr_msg.specs.declared.output.Output.{Output}
-use Rattle.vr_world.specs.Replica.{Replica, part_at}
-use Rattle.vr_world.specs.Steps.{Effect, Say, Setting, Word, ◌⨾◌, after_all, by, change, does, naming, quiet, reading, says, times, when}
-use Rattle.vr_world.specs.Words.{apply, apply_entry, apply_next, entry_of, lost, make_checkpoint, or_lost, resend, save, with_entry, with_entry_at}
+use Rattle.vr_rules.specs.Replica.{Replica, part_at}
+use Rattle.vr_rules.specs.Steps.{Effect, Say, Setting, Word, ◌⨾◌, after_all, by, change, does, naming, quiet, reading, says, times, when}
+use Rattle.vr_rules.specs.Words.{apply, apply_entry, apply_next, entry_of, lost, make_checkpoint, or_lost, resend, save, with_entry, with_entry_at}
 use Rattle.law_8_repair.proofs.Disks.{IsDry, Stores}
 
 pub record Dry {F : Type 0} (w : Word F) : Type 0 where

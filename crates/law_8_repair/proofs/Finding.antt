@@ -11,34 +11,34 @@ use Rattle.vr_header.specs.declared.part.Part.TheVariants.{Here}
 use Rattle.vr_header.specs.Made.{Whole}
 use Rattle.vr_header.specs.Same.{same_header}
 use Rattle.vr_header.proofs.SameHeaders.{same_header_of}
+use Rattle.vr_header.specs.Parts.{has_header, header_of}
 use Rattle.vr_msg.specs.declared.event.Event.{Event}
 use Rattle.vr_msg.specs.declared.event.Event.TheVariants as event
-use Rattle.vr_msg.specs.Logs.{has_header, header_of}
-use Rattle.vr_world.specs.Deciding.{first_of, tick_table}
-use Rattle.vr_world.specs.Fit.{IsProgram}
-use Rattle.vr_world.specs.Laws.{HasNames, IsEvent}
+use Rattle.vr_rules.specs.Deciding.{first_of, tick_table}
+use Rattle.vr_rules.specs.Fit.{IsProgram}
+use Rattle.vr_rules.specs.Laws.{HasNames, IsEvent}
+use Rattle.vr_rules.specs.Sectors.{sectors_by}
+use Rattle.vr_rules.specs.Replica.{Replica, head, is_frozen, last_view, part_at, version}
+use Rattle.vr_rules.specs.Rules as rules
+use Rattle.vr_rules.specs.Outputs as told
+use Rattle.vr_rules.specs.Sound.{IsSound}
+use Rattle.vr_rules.specs.Steps.{Setting, Step, Word, ◌⨾◌, after_all, by, change, quiet, says, when}
+use Rattle.vr_rules.specs.Words as words
+use Rattle.vr_rules.specs.declared.rule.Rule.{Rule}
+use Rattle.vr_rules.specs.declared.rule.Rule.TheVariants.{TickedBackup, TickedChanging, TickedPrimary}
+use Rattle.vr_rules.proofs.Combining.{Keeps, keeps_by, keeps_says, keeps_then, keeps_when}
+use Rattle.vr_rules.proofs.Halves.{after_both, regrouped}
+use Rattle.vr_rules.proofs.Heads.{known_within}
+use Rattle.vr_rules.proofs.Keeping.{spans_of}
+use Rattle.vr_rules.proofs.FitDisks.{disks_fit}
+use Rattle.vr_rules.proofs.Reacting.{keeps_idler, steps_stay_sound}
+use Rattle.vr_rules.proofs.Rising.{steps_rise}
+use Rattle.vr_rules.proofs.Trying.{keeps_speak}
+use Rattle.vr_rules.proofs.SavesSectors.{sectors_fit}
+use Rattle.vr_rules.proofs.Visiting.{keeps_visit}
+use Rattle.vr_rules.proofs.Wording.{keeps_ask, keeps_prepare_again}
 use Rattle.vr_world.specs.Lying.{lying}
-use Rattle.vr_world.specs.Sectors.{sectors_by}
-use Rattle.vr_world.specs.Replica.{Replica, head, is_frozen, last_view, part_at, version}
-use Rattle.vr_world.specs.Rules as rules
-use Rattle.vr_world.specs.Outputs as told
-use Rattle.vr_world.specs.Sound.{IsSound}
-use Rattle.vr_world.specs.Steps.{Setting, Step, Word, ◌⨾◌, after_all, by, change, quiet, says, when}
-use Rattle.vr_world.specs.Words as words
-use Rattle.vr_world.specs.Rule.{Rule}
-use Rattle.vr_world.specs.Rule.TheVariants.{TickedBackup, TickedChanging, TickedPrimary}
-use Rattle.vr_world.proofs.Combining.{Keeps, keeps_by, keeps_says, keeps_then, keeps_when}
-use Rattle.vr_world.proofs.Halves.{after_both, regrouped}
-use Rattle.vr_world.proofs.Heads.{known_within}
-use Rattle.vr_world.proofs.Keeping.{spans_of}
-use Rattle.vr_world.proofs.FitDisks.{disks_fit}
 use Rattle.vr_world.proofs.FitLies.{lies_fit}
-use Rattle.vr_world.proofs.Reacting.{keeps_idler, steps_stay_sound}
-use Rattle.vr_world.proofs.Rising.{steps_rise}
-use Rattle.vr_world.proofs.Trying.{keeps_speak}
-use Rattle.vr_world.proofs.SavesSectors.{sectors_fit}
-use Rattle.vr_world.proofs.Visiting.{keeps_visit}
-use Rattle.vr_world.proofs.Wording.{keeps_ask, keeps_prepare_again}
 use Rattle.law_4_disks.proofs.Chaining.{chain_kind}
 use Rattle.law_4_disks.proofs.ChainingRules.{c_react}
 use Rattle.law_8_repair.specs.Visits.{AreRead, VisitsFind, after_events, seen_after, visited}

@@ -10,8 +10,8 @@ use Rattle.vr_header.specs.declared.part.Part.{Part}
 use Rattle.vr_header.specs.declared.part.Part.TheVariants.{Here, Lost, Wanted, Unknown, Nothing}
 use Rattle.vr_header.specs.Made.{Whole}
 use Rattle.vr_header.specs.Same.{same_header}
-use Rattle.vr_ckpt.specs.SessionAnswer.{SessionAnswer}
-use Rattle.vr_ckpt.specs.SessionAnswer.TheVariants as answer
+use Rattle.vr_state.specs.declared.session.SessionAnswer.{SessionAnswer}
+use Rattle.vr_state.specs.declared.session.SessionAnswer.TheVariants as answer
 use Rattle.vr_msg.specs.declared.choice.Choice.{Choice}
 use Rattle.vr_msg.specs.declared.choice.Choice.TheVariants.{Ends, WaitsAt, TooFew}
 use Rattle.vr_msg.specs.declared.event.Event.{Event}
@@ -38,17 +38,17 @@ use Rattle.vr_msg.specs.Choice.{ops}
 use Rattle.vr_recover.specs.declared.readings.Verdict.{Verdict}
 use Rattle.vr_recover.specs.declared.readings.Verdict.TheVariants as verdict
 use Rattle.vr_super.specs.Copies.{SuperValue}
-use Rattle.vr_ckpt.specs.Folds as applying
-use Rattle.vr_world.specs.Deciding.{Hash, commit_table, do_view_change_table, first_of, get_block_table, get_prepare_table, get_sync_table, get_view_table, give_block_table, give_prepare_table, is_wanted, log_of, prepare_ok_table, prepare_table, request_table, session_answer, start_view_change_table, start_view_table, sync_view_table, tick_table}
-use Rattle.vr_world.specs.Opening.{Slot, announce, entry_header, going_on, leave_view, mend_slot, old_headers, opening, recover_old, recover_op, recover_parts, rewrite}
-use Rattle.vr_world.specs.Outputs as told
-use Rattle.vr_world.specs.Replica.{Replica, head, header_at, is_alone, is_here, is_frozen, is_spent, is_started, leads, part_at}
-use Rattle.vr_world.specs.Rules as rules
-use Rattle.vr_world.specs.Steps.{Effect, Write, Rewrite, Save, Mend, Checkpoint, PutBlock, Say, Setting, Word, ◌⨾◌, after_all, by, change, does, each, naming, quiet, reading, says, times, when}
-use Rattle.vr_world.specs.Words as words
-use Rattle.vr_world.specs.Asker.{Asker}
-use Rattle.vr_world.specs.Rule.{Rule}
-use Rattle.vr_world.specs.Rule.TheVariants.{Ahead, Answered, Behind, Beyond, BlockGiven, BlockMended, BlockTaken, ChangeDone, ChangeHeard, ChangeLater, CommitHeard, CommitLater, Counted, EntryGiven, EntryTaken, Full, Jumped, Known, Made, Next, Other, Past, PreparedLater, Redirected, Stated, StatedLate, SyncAsked, SyncGiven, Taken, TickedBackup, TickedChanging, TickedPrimary, ViewGiven}
+use Rattle.vr_state.specs.Folds as applying
+use Rattle.vr_rules.specs.Deciding.{Hash, commit_table, do_view_change_table, first_of, get_block_table, get_prepare_table, get_sync_table, get_view_table, give_block_table, give_prepare_table, is_wanted, log_of, prepare_ok_table, prepare_table, request_table, session_answer, start_view_change_table, start_view_table, sync_view_table, tick_table}
+use Rattle.vr_rules.specs.Opening.{Slot, announce, entry_header, going_on, leave_view, mend_slot, old_headers, opening, recover_old, recover_op, recover_parts, rewrite}
+use Rattle.vr_rules.specs.Outputs as told
+use Rattle.vr_rules.specs.Replica.{Replica, head, header_at, is_alone, is_here, is_frozen, is_spent, is_started, leads, part_at}
+use Rattle.vr_rules.specs.Rules as rules
+use Rattle.vr_rules.specs.Steps.{Effect, Write, Rewrite, Save, Mend, Checkpoint, PutBlock, Say, Setting, Word, ◌⨾◌, after_all, by, change, does, each, naming, quiet, reading, says, times, when}
+use Rattle.vr_rules.specs.Words as words
+use Rattle.vr_rules.specs.declared.asker.Asker.{Asker}
+use Rattle.vr_rules.specs.declared.rule.Rule.{Rule}
+use Rattle.vr_rules.specs.declared.rule.Rule.TheVariants.{Ahead, Answered, Behind, Beyond, BlockGiven, BlockMended, BlockTaken, ChangeDone, ChangeHeard, ChangeLater, CommitHeard, CommitLater, Counted, EntryGiven, EntryTaken, Full, Jumped, Known, Made, Next, Other, Past, PreparedLater, Redirected, Stated, StatedLate, SyncAsked, SyncGiven, Taken, TickedBackup, TickedChanging, TickedPrimary, ViewGiven}
 use Rattle.law_4_disks.specs.Stocks.{IsGiven, IsGivenOutput}
 use Rattle.law_4_disks.proofs.Stocking.{all_given}
 

@@ -3,16 +3,16 @@ use Rattle.std.proofs.Common.{◌≡◌, ◌+◌, ◌⊎◌, ◌∙◌, inl, inr
 use Rattle.std.specs.Prelude.{All, slice_get, slice_set}
 use Rattle.std.proofs.lemmas.List.Elements.{All-nil, All-cons, All-head, All-tail}
 use Rattle.vr_base.specs.declared.kind.Kind.{Kind}
+use Rattle.vr_rules.specs.Opening.{blank, fresh, opening}
+use Rattle.vr_rules.specs.Replica.{Replica}
+use Rattle.vr_rules.specs.Steps.{Step}
+use Rattle.vr_rules.proofs.FitOpening.{headers_of}
 use Rattle.vr_world.specs.Group.{Member, Group, Move, Moved, Moves, Played, Run, fresh_group, resumed}
 use Rattle.vr_world.specs.Group as group
 use Rattle.vr_world.specs.GroupFit.{IsFitGroup, IsFitMove}
 use Rattle.vr_world.specs.Lying.{lying}
-use Rattle.vr_world.specs.Opening.{blank, fresh, opening}
-use Rattle.vr_world.specs.Replica.{Replica}
-use Rattle.vr_world.specs.Steps.{Step}
 use Rattle.vr_world.proofs.FitLies.{lies_fit}
 use Rattle.vr_world.proofs.FitGroups.{arrives, fresh_at, fresh_group_fits, good_value, groups_fit}
-use Rattle.vr_world.proofs.FitOpening.{headers_of}
 use Rattle.vr_world.proofs.InTwo.{opening_in_two}
 use Rattle.law_8_repair.specs.CaughtUp.{KeepsUp}
 use Rattle.law_8_repair.specs.Groups.{AllKeepUp, GroupsKeepUp}

@@ -1,14 +1,13 @@
 -- In every run of a group the blocks of each running replica's checkpoint stand at their places, and so visits find what doesn't read.
 use Rattle.std.specs.List.{AllByRecursion}
-use Rattle.std.proofs.Common.{◌++◌}
+use Rattle.std.proofs.Common.{◌++◌, arith, ℕ, ◌+◌, ◌≡◌, ◌≤◌, ◌∙◌, inl, inr, refl, sym, ap, subst, cond, true, false, List, [], ◌∷◌, Some, None}
 use Rattle.vr_base.specs.Bytes.{IsBytes}
 use Rattle.vr_base.specs.declared.kind.Kind.{Kind}
 use Rattle.vr_msg.specs.declared.output.Output.{Output}
 use Rattle.vr_msg.specs.declared.output.Sent.{Sent}
-use Rattle.vr_world.specs.Rules as rules
-use Rattle.vr_world.specs.Steps.{Effect, Write, Rewrite, Save, Mend, Checkpoint, PutBlock, Say, outputs}
-use Rattle.vr_world.specs.Outputs.{message_of, messages}
-use Rattle.std.proofs.Common.{arith, ℕ, ◌+◌, ◌≡◌, ◌≤◌, ◌∙◌, inl, inr, refl, sym, ap, subst, cond, true, false, List, [], ◌∷◌, Some, None}
+use Rattle.vr_rules.specs.Rules as rules
+use Rattle.vr_rules.specs.Steps.{Effect, Write, Rewrite, Save, Mend, Checkpoint, PutBlock, Say, outputs, Step, after_all}
+use Rattle.vr_rules.specs.Outputs.{message_of, messages}
 use Rattle.std.specs.Prelude.{All, slice_get, slice_set, ◌==◌}
 use Rattle.std.proofs.lemmas.Bool.{eq-eqb}
 use Rattle.std.proofs.lemmas.List.Elements.{All-cons, All-head, All-nil, All-tail}
@@ -17,18 +16,17 @@ use Rattle.vr_msg.specs.declared.event.Event.{Event}
 use Rattle.vr_world.specs.Group.{Arrival, Asked, Group, IsArrival, Member, Message, Move, Moved, Moves, Played, Run, Time, fresh_group, opening_script, resumed}
 use Rattle.vr_world.specs.Group as group
 use Rattle.vr_world.specs.GroupFit.{IsFitGroup, IsFitMove, IsFitReplica}
-use Rattle.vr_world.specs.Laws.{IsEvent}
+use Rattle.vr_rules.specs.Laws.{IsEvent}
 use Rattle.vr_world.specs.Lying.{Lying, lying}
-use Rattle.vr_world.specs.Opening.{blank, fresh, opening}
-use Rattle.vr_world.specs.Replica.{Replica, is_spent, version}
-use Rattle.vr_world.specs.Sectors.{sectors_by}
-use Rattle.vr_world.specs.Steps.{Step, after_all}
-use Rattle.vr_world.specs.Words as words
-use Rattle.vr_world.proofs.FitDisks.{disks_fit}
+use Rattle.vr_rules.specs.Opening.{blank, fresh, opening}
+use Rattle.vr_rules.specs.Replica.{Replica, is_spent, version}
+use Rattle.vr_rules.specs.Sectors.{sectors_by}
+use Rattle.vr_rules.specs.Words as words
+use Rattle.vr_rules.proofs.FitDisks.{disks_fit}
 use Rattle.vr_world.proofs.FitLies.{lies_fit}
 use Rattle.vr_world.proofs.FitGroups.{arrives, fresh_at, fresh_group_fits, good_value, groups_fit}
 use Rattle.vr_world.proofs.InTwo.{opening_in_two}
-use Rattle.vr_world.proofs.SavesSectors.{sectors_fit}
+use Rattle.vr_rules.proofs.SavesSectors.{sectors_fit}
 use Rattle.law_4_disks.specs.Stocks.{IsGiven, IsGivenEvent}
 use Rattle.law_4_disks.specs.Worlds.{IsOfBytes}
 use Rattle.law_4_disks.proofs.Lines.{get_both, message_given, none_sent}

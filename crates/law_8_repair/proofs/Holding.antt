@@ -30,10 +30,9 @@ use Rattle.vr_super.proofs.Format.{length-copy_bytes}
 use Rattle.vr_super.proofs.Keeping.{copy_done, mend_done}
 use Rattle.vr_super.proofs.Readings.{copy_within, mend_within, other_after}
 use Rattle.vr_world.specs.Lying.{lying}
-use Rattle.vr_world.specs.Sectors.{block_in, calls_by, sectors_by}
-use Rattle.vr_world.specs.Steps.{Effect, Write, Rewrite, Save, Mend, Checkpoint, PutBlock, Say, Setting}
-use Rattle.vr_world.proofs.FitDisks.{block_spares, blocks_spare, grid_behind, header_spares, mend_spares, same_reads, save_spares}
-use Rattle.vr_world.proofs.FitDisks.{prepare_spares, slot_below}
+use Rattle.vr_rules.specs.Sectors.{block_in, calls_by, sectors_by}
+use Rattle.vr_rules.specs.Steps.{Effect, Write, Rewrite, Save, Mend, Checkpoint, PutBlock, Say, Setting}
+use Rattle.vr_rules.proofs.FitDisks.{block_spares, blocks_spare, grid_behind, header_spares, mend_spares, same_reads, save_spares, prepare_spares, slot_below}
 use Rattle.law_8_repair.proofs.Disks.{HasRoom, IsLong}
 use Rattle.law_8_repair.proofs.Standing.{SparesGrid}
 

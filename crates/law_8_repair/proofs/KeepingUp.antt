@@ -6,15 +6,15 @@ use Rattle.vr_msg.specs.declared.event.Event.{Event}
 use Rattle.vr_msg.specs.declared.event.Event.TheVariants as event
 use Rattle.vr_msg.specs.declared.frame.Frame.{Frame}
 use Rattle.vr_msg.specs.declared.frame.Frame.TheVariants as frame
-use Rattle.vr_world.specs.Laws.{HasNames, IsEvent, IsMessage}
-use Rattle.vr_world.specs.Opening.{announce, blank, going_on, heard_itself, in_next_view, leave_view, opening, recover_parts}
-use Rattle.vr_world.specs.Outputs.{start_line}
-use Rattle.vr_world.specs.Replica.{Replica, is_frozen, is_spent, is_started, last_view, leads, part_at}
-use Rattle.vr_world.specs.Rules.{on_event, on_message, react}
-use Rattle.vr_world.specs.Sound.{IsCaughtUp, IsSound}
-use Rattle.vr_world.specs.Steps.{Mend, Setting, ◌⨾◌, after_all, by, does, quiet, says, when}
-use Rattle.vr_world.proofs.Openings.{recovered, reads_after}
-use Rattle.vr_world.proofs.Slots.{value_is}
+use Rattle.vr_rules.specs.Laws.{HasNames, IsEvent, IsMessage}
+use Rattle.vr_rules.specs.Opening.{announce, blank, going_on, heard_itself, in_next_view, leave_view, opening, recover_parts}
+use Rattle.vr_rules.specs.Outputs.{start_line}
+use Rattle.vr_rules.specs.Replica.{Replica, is_frozen, is_spent, is_started, last_view, leads, part_at}
+use Rattle.vr_rules.specs.Rules.{on_event, on_message, react}
+use Rattle.vr_rules.specs.Sound.{IsCaughtUp, IsSound}
+use Rattle.vr_rules.specs.Steps.{Mend, Setting, ◌⨾◌, after_all, by, does, quiet, says, when}
+use Rattle.vr_rules.proofs.Openings.{recovered, reads_after}
+use Rattle.vr_rules.proofs.Slots.{value_is}
 use Rattle.law_8_repair.specs.CaughtUp.{FreshKeepUp, KeepsUp, OpeningsKeepUp, StepsKeepUp}
 use Rattle.law_8_repair.proofs.Rules.{up_commit, up_do_view_change, up_get_block, up_get_prepare, up_get_sync, up_get_view, up_give_block, up_give_prepare, up_prepare, up_prepare_ok, up_request, up_start_view, up_start_view_change, up_sync_view, up_tick}
 use Rattle.law_8_repair.proofs.Settling.{Placed, placed_of}

@@ -9,12 +9,12 @@ use Rattle.std.proofs.lemmas.List.Elements.{All-filter, All-head, All-tail, Cont
 use Rattle.vr_ckpt.specs.Places.{grid_size}
 use Rattle.vr_ckpt.specs.declared.name.Name.{Name}
 use Rattle.vr_super.specs.Copies.{IsGood, SuperValue}
-use Rattle.vr_world.specs.Laws.{IsGoodSave}
-use Rattle.vr_world.specs.Replica.{Replica}
-use Rattle.vr_world.specs.Rules as rules
-use Rattle.vr_world.specs.Steps.{Effect, Write, Rewrite, Save, Mend, Checkpoint, PutBlock, Say, Setting, Step, Word, ◌⨾◌, after_all}
-use Rattle.vr_world.specs.Words as words
-use Rattle.vr_world.proofs.Halves.{after_both}
+use Rattle.vr_rules.specs.Laws.{IsGoodSave}
+use Rattle.vr_rules.specs.Replica.{Replica}
+use Rattle.vr_rules.specs.Rules as rules
+use Rattle.vr_rules.specs.Steps.{Effect, Write, Rewrite, Save, Mend, Checkpoint, PutBlock, Say, Setting, Step, Word, ◌⨾◌, after_all}
+use Rattle.vr_rules.specs.Words as words
+use Rattle.vr_rules.proofs.Halves.{after_both}
 use Rattle.law_8_repair.specs.Cover.{IsLaidOut, StandApart}
 use Rattle.law_8_repair.proofs.Counting.{Around, around, idle_visit, loaded_on, now_same, visit_stays, walks_visit}
 use Rattle.law_8_repair.proofs.Disks.{Stores}

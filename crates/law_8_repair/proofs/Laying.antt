@@ -4,8 +4,8 @@ use Rattle.std.specs.Prelude.{nat_lt, slice_get, ◌==◌}
 use Rattle.std.specs.Option.{option_and_then}
 use Rattle.std.proofs.lemmas.Bool.{and_parts, cases_eq, cases_lt, eqb-true, le-ltb, lt-ltb}
 use Rattle.std.proofs.lemmas.List.{get_or-append-add, get_or_append_left, get_or_default, length-append, length-map}
-use Rattle.vr_ckpt.specs.StateTexts.{FitsPayloads, key_payloads, payloads, session_payloads}
-use Rattle.vr_ckpt.specs.Texts.{Texts}
+use Rattle.vr_state.specs.StateTexts.{FitsPayloads, key_payloads, payloads, session_payloads}
+use Rattle.vr_state.specs.declared.texts.Texts.{Texts}
 use Rattle.vr_disk.specs.DiskState.{Face}
 use Rattle.vr_ckpt.specs.Blocks.{Content, named}
 use Rattle.vr_ckpt.specs.Grid.{block_reading, named_at}
@@ -26,9 +26,9 @@ use Rattle.vr_ckpt.proofs.Apart.{part_cases}
 use Rattle.vr_ckpt.proofs.Placing.{AtPlace, at_place, at_within, is_at, key_above, key_lower, keys_room, numbers_apart, places_apart, root_at_place, root_lower, session_above, session_lower, sessions_room, texts_apart}
 use Rattle.vr_ckpt.proofs.Keeping.{each_held}
 use Rattle.vr_world.specs.Lying.{lying}
-use Rattle.vr_world.specs.Sectors.{sectors_by}
-use Rattle.vr_world.specs.Steps.{Setting}
-use Rattle.vr_world.proofs.FitLoads.{given, some_missing}
+use Rattle.vr_rules.specs.Sectors.{sectors_by}
+use Rattle.vr_rules.specs.Steps.{Setting}
+use Rattle.vr_rules.proofs.FitLoads.{given, some_missing}
 use Rattle.law_8_repair.specs.Cover.{StandApart}
 use Rattle.law_8_repair.specs.Places.{AreAt, StandsAt, IsInPlaces}
 

@@ -9,11 +9,11 @@ use Rattle.vr_header.specs.declared.header.Header.{Header}
 use Rattle.vr_header.specs.declared.part.Part.TheVariants.{Here}
 use Rattle.vr_header.specs.Made.{Whole}
 use Rattle.vr_rings.specs.Slots.{IsWhole}
-use Rattle.vr_world.specs.Replica.{Replica, forgetting, is_here, part_at, with_part}
-use Rattle.vr_world.specs.Steps.{Effect, Write, Rewrite, Save, Mend, Checkpoint, PutBlock, Say, Setting, Word, ◌⨾◌, after_all, by, change, does, naming, quiet}
-use Rattle.vr_world.specs.Words as words
-use Rattle.vr_world.proofs.Halves.{after_both}
-use Rattle.vr_world.proofs.Heads.{with_part_at, with_part_other}
+use Rattle.vr_rules.specs.Replica.{Replica, forgetting, is_here, part_at, with_part}
+use Rattle.vr_rules.specs.Steps.{Effect, Write, Rewrite, Save, Mend, Checkpoint, PutBlock, Say, Setting, Word, ◌⨾◌, after_all, by, change, does, naming, quiet}
+use Rattle.vr_rules.specs.Words as words
+use Rattle.vr_rules.proofs.Halves.{after_both}
+use Rattle.vr_rules.proofs.Heads.{with_part_at, with_part_other}
 use Rattle.law_8_repair.proofs.Disks.{Stores}
 use Rattle.law_8_repair.proofs.Shedding.{Shed, Sheds, Spares, forgotten, sheds_quiet}
 

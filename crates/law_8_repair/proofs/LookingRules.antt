@@ -7,8 +7,8 @@ use Rattle.vr_header.specs.declared.header.Header.{Header}
 use Rattle.vr_header.specs.Made.{Whole}
 use Rattle.vr_ckpt.specs.declared.name.Name.{Name}
 use Rattle.vr_rings.specs.Slots.{IsWhole}
-use Rattle.vr_ckpt.specs.SessionAnswer.{SessionAnswer}
-use Rattle.vr_ckpt.specs.SessionAnswer.TheVariants as answer
+use Rattle.vr_state.specs.declared.session.SessionAnswer.{SessionAnswer}
+use Rattle.vr_state.specs.declared.session.SessionAnswer.TheVariants as answer
 use Rattle.vr_msg.specs.declared.frame.Commit.{Commit}
 use Rattle.vr_msg.specs.declared.frame.DoViewChange.{DoViewChange}
 use Rattle.vr_msg.specs.declared.frame.Frame.{Frame}
@@ -26,22 +26,22 @@ use Rattle.vr_msg.specs.declared.frame.StartViewChange.{StartViewChange}
 use Rattle.vr_msg.specs.declared.frame.SyncView.{SyncView}
 use Rattle.vr_msg.specs.declared.request.RequestFields.{RequestFields}
 use Rattle.vr_msg.specs.declared.statement.Statement.{Statement}
-use Rattle.vr_world.specs.Deciding.{Hash, commit_table, do_view_change_table, first_of, get_block_table, get_prepare_table, get_sync_table, get_view_table, give_block_table, give_prepare_table, is_from_primary, is_known, is_wanted, log_of, prepare_ok_table, prepare_table, request_table, session_answer, start_view_change_table, start_view_table, sync_view_table}
-use Rattle.vr_world.specs.Fit.{IsProgram}
-use Rattle.vr_world.specs.Laws.{HasNames, IsMessage}
-use Rattle.vr_world.specs.Replica.{Replica, head, header_at, is_here, is_primary, is_started, last_view, part_at, version}
-use Rattle.vr_world.specs.Rules as rules
-use Rattle.vr_world.specs.Sound.{IsSound}
-use Rattle.vr_world.specs.Steps.{PutBlock, Setting, Word, ◌⨾◌, change, quiet}
-use Rattle.vr_world.specs.Words as words
-use Rattle.vr_world.specs.Asker.{Asker}
-use Rattle.vr_world.specs.Rule.{Rule}
-use Rattle.vr_world.specs.Rule.TheVariants.{BlockGiven, BlockMended, BlockTaken, ChangeDone, ChangeHeard, ChangeLater, CommitHeard, CommitLater, Counted, EntryGiven, Jumped, Stated, StatedLate, SyncAsked, SyncGiven, Taken, ViewGiven}
-use Rattle.vr_world.proofs.FitRules.{whole_of}
-use Rattle.vr_world.proofs.FitSteps.{whole_next}
-use Rattle.vr_world.proofs.Reacting.{may_store_next}
-use Rattle.vr_world.proofs.Ruling.{by_rows, for_of, group_of_primary, may_store_given, may_store_prepare}
-use Rattle.vr_world.proofs.Storing.{MayStore}
+use Rattle.vr_rules.specs.Deciding.{Hash, commit_table, do_view_change_table, first_of, get_block_table, get_prepare_table, get_sync_table, get_view_table, give_block_table, give_prepare_table, is_from_primary, is_known, is_wanted, log_of, prepare_ok_table, prepare_table, request_table, session_answer, start_view_change_table, start_view_table, sync_view_table}
+use Rattle.vr_rules.specs.Fit.{IsProgram}
+use Rattle.vr_rules.specs.Laws.{HasNames, IsMessage}
+use Rattle.vr_rules.specs.Replica.{Replica, head, header_at, is_here, is_primary, is_started, last_view, part_at, version}
+use Rattle.vr_rules.specs.Rules as rules
+use Rattle.vr_rules.specs.Sound.{IsSound}
+use Rattle.vr_rules.specs.Steps.{PutBlock, Setting, Word, ◌⨾◌, change, quiet}
+use Rattle.vr_rules.specs.Words as words
+use Rattle.vr_rules.specs.declared.asker.Asker.{Asker}
+use Rattle.vr_rules.specs.declared.rule.Rule.{Rule}
+use Rattle.vr_rules.specs.declared.rule.Rule.TheVariants.{BlockGiven, BlockMended, BlockTaken, ChangeDone, ChangeHeard, ChangeLater, CommitHeard, CommitLater, Counted, EntryGiven, Jumped, Stated, StatedLate, SyncAsked, SyncGiven, Taken, ViewGiven}
+use Rattle.vr_rules.proofs.FitRules.{whole_of}
+use Rattle.vr_rules.proofs.FitSteps.{whole_next}
+use Rattle.vr_rules.proofs.Reacting.{may_store_next}
+use Rattle.vr_rules.proofs.Ruling.{by_rows, for_of, group_of_primary, may_store_given, may_store_prepare}
+use Rattle.vr_rules.proofs.Storing.{MayStore}
 use Rattle.law_8_repair.proofs.Looking.{InWindow, LeavesBy, Sturdy, change_then, leaves_accept, leaves_by, leaves_naming, leaves_then, leaves_write, of_sheds}
 use Rattle.law_8_repair.proofs.Shedding.{Shed, Sheds, sheds_advance, sheds_apply, sheds_by, sheds_does, sheds_each, sheds_enter, sheds_entry, sheds_jump, sheds_learn, sheds_load, sheds_naming, sheds_quiet, sheds_reading, sheds_resend, sheds_rested, sheds_same, sheds_says, sheds_speak, sheds_take, sheds_then, sheds_try, sheds_when}
 

@@ -15,14 +15,14 @@ use Rattle.vr_ckpt.proofs.Puts.{name_fits, put_law}
 use Rattle.vr_msg.specs.declared.event.Event.TheVariants as event
 use Rattle.vr_msg.specs.declared.frame.Frame.TheVariants as frame
 use Rattle.vr_msg.specs.declared.frame.GiveBlock.{GiveBlock}
-use Rattle.vr_world.specs.Deciding.{first_of, give_block_table, has_missing, is_from, is_wanted}
-use Rattle.vr_world.specs.Rule.{Rule}
-use Rattle.vr_world.specs.Rule.TheVariants.{BlockMended, BlockTaken, Ignored}
+use Rattle.vr_rules.specs.Deciding.{first_of, give_block_table, has_missing, is_from, is_wanted}
+use Rattle.vr_rules.specs.declared.rule.Rule.{Rule}
+use Rattle.vr_rules.specs.declared.rule.Rule.TheVariants.{BlockMended, BlockTaken, Ignored}
 use Rattle.vr_world.specs.Lying.{lying}
-use Rattle.vr_world.specs.Replica.{Replica, is_frozen, version}
-use Rattle.vr_world.specs.Rules.{mend_found, not_worn, obey_give_block, on_event, on_give_block, react}
-use Rattle.vr_world.specs.Sectors.{block_in, sectors_by}
-use Rattle.vr_world.specs.Steps.{PutBlock, Setting, Step, ◌⨾◌, after_all, by, change, does, quiet, reading}
+use Rattle.vr_rules.specs.Replica.{Replica, is_frozen, version}
+use Rattle.vr_rules.specs.Rules.{mend_found, not_worn, obey_give_block, on_event, on_give_block, react}
+use Rattle.vr_rules.specs.Sectors.{block_in, sectors_by}
+use Rattle.vr_rules.specs.Steps.{PutBlock, Setting, Step, ◌⨾◌, after_all, by, change, does, quiet, reading}
 use Rattle.vr_world.proofs.FitLies.{same_face}
 use Rattle.law_8_repair.specs.Blocks.{BlocksMend, HasGoneBad, IsBlockCopy}
 

@@ -3,7 +3,7 @@ use Rattle.std.proofs.Common.{arith, ℕ, ◌-◌, ◌≡◌, ◌<◌, ◌∙◌
 use Rattle.std.specs.Prelude.{◌==◌, ◌||◌, nat_lt}
 use Rattle.std.specs.Option.{option_and_then}
 use Rattle.std.proofs.lemmas.Bool.{cases_lt, eqb-false, true≢false}
-use Rattle.vr_ckpt.specs.State.{State}
+use Rattle.vr_state.specs.declared.state.State.{State}
 use Rattle.vr_base.specs.Bytes.{IsBytes}
 use Rattle.vr_ckpt.specs.Loads.{data_at, data_of, gathered, gathered_both, load_by, loaded, read_root, root_at, with_data}
 use Rattle.vr_ckpt.specs.declared.loading.Gathered.{Gathered}
@@ -17,16 +17,16 @@ use Rattle.vr_ckpt.specs.Places.{grid_size}
 use Rattle.vr_ckpt.specs.declared.name.Name.{Name}
 use Rattle.vr_ckpt.proofs.Puts.{name_fits}
 use Rattle.vr_msg.specs.declared.event.Event.{Event}
-use Rattle.vr_world.specs.Fit.{IsFit, IsProgram, ReadsWell}
+use Rattle.vr_rules.specs.Fit.{IsFit, IsProgram, ReadsWell}
 use Rattle.vr_world.specs.GroupFit.{IsFitReplica}
-use Rattle.vr_world.specs.Laws.{IsEvent, SavesRoots}
-use Rattle.vr_world.specs.Replica.{Replica, is_frozen, is_spent, last_view}
-use Rattle.vr_world.specs.Rules as rules
-use Rattle.vr_world.specs.Sectors.{sectors_by}
-use Rattle.vr_world.specs.Steps.{Effect, PutBlock, Setting, Step, Word, ◌⨾◌, after_all, by, quiet, when}
-use Rattle.vr_world.specs.Words as words
-use Rattle.vr_world.proofs.FitSteps.{steps_fit}
-use Rattle.vr_world.proofs.FitWords.{reads_later}
+use Rattle.vr_rules.specs.Laws.{IsEvent, SavesRoots}
+use Rattle.vr_rules.specs.Replica.{Replica, is_frozen, is_spent, last_view}
+use Rattle.vr_rules.specs.Rules as rules
+use Rattle.vr_rules.specs.Sectors.{sectors_by}
+use Rattle.vr_rules.specs.Steps.{Effect, PutBlock, Setting, Step, Word, ◌⨾◌, after_all, by, quiet, when}
+use Rattle.vr_rules.specs.Words as words
+use Rattle.vr_rules.proofs.FitSteps.{steps_fit}
+use Rattle.vr_rules.proofs.FitWords.{reads_later}
 use Rattle.law_4_disks.specs.Stocks.{IsGivenEvent}
 use Rattle.law_4_disks.proofs.Blocks.{put_are}
 use Rattle.law_4_disks.proofs.Loading.{loads_well}

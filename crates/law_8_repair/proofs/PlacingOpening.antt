@@ -3,7 +3,7 @@ use Rattle.std.proofs.Common.{arith, ℕ, ◌+◌, ◌≡◌, ◌≤◌, ◌∙�
 use Rattle.std.specs.Prelude.{All}
 use Rattle.std.proofs.lemmas.Bool.{true≢false}
 use Rattle.std.proofs.lemmas.List.Elements.{All-append, All-cons, All-head, All-map, All-nil, All-tail}
-use Rattle.vr_ckpt.specs.State.{State}
+use Rattle.vr_state.specs.declared.state.State.{State}
 use Rattle.vr_base.specs.declared.kind.Kind.{Kind}
 use Rattle.vr_ckpt.specs.declared.table.PayloadTable.{PayloadTable}
 use Rattle.vr_disk.specs.DiskState.{Face, IsFace}
@@ -14,16 +14,16 @@ use Rattle.vr_msg.specs.Choice.{ops}
 use Rattle.vr_recover.specs.declared.readings.Verdict.{Verdict}
 use Rattle.vr_recover.specs.declared.readings.Verdict.TheVariants as verdict
 use Rattle.vr_super.specs.Copies.{IsGood, SuperValue}
-use Rattle.vr_world.specs.Fit.{IsFit, IsProgram}
-use Rattle.vr_world.specs.Laws.{SavesRoots}
-use Rattle.vr_world.specs.Opening.{Slot, announce, blank, clouded, entry_header, fresh, going_on, heard_itself, in_next_view, leave_view, mend_slot, old_headers, opening, recover_old, recover_op, recover_parts, rewrite}
-use Rattle.vr_world.specs.Outputs.{start_line}
-use Rattle.vr_world.specs.Replica.{Replica, forgetting, is_spent, is_started, leads, with_part}
-use Rattle.vr_world.specs.Steps.{Effect, Mend, Say, Setting, Step, Word, ◌⨾◌, after_all, by, change, does, each, quiet, reading, says, when}
-use Rattle.vr_world.specs.Words as words
-use Rattle.vr_world.proofs.FitOpening.{openings_fit}
-use Rattle.vr_world.proofs.FitWords.{reads_later}
-use Rattle.vr_world.proofs.Halves.{regrouped}
+use Rattle.vr_rules.specs.Fit.{IsFit, IsProgram}
+use Rattle.vr_rules.specs.Laws.{SavesRoots}
+use Rattle.vr_rules.specs.Opening.{Slot, announce, blank, clouded, entry_header, fresh, going_on, heard_itself, in_next_view, leave_view, mend_slot, old_headers, opening, recover_old, recover_op, recover_parts, rewrite}
+use Rattle.vr_rules.specs.Outputs.{start_line}
+use Rattle.vr_rules.specs.Replica.{Replica, forgetting, is_spent, is_started, leads, with_part}
+use Rattle.vr_rules.specs.Steps.{Effect, Mend, Say, Setting, Step, Word, ◌⨾◌, after_all, by, change, does, each, quiet, reading, says, when}
+use Rattle.vr_rules.specs.Words as words
+use Rattle.vr_rules.proofs.FitOpening.{openings_fit}
+use Rattle.vr_rules.proofs.FitWords.{reads_later}
+use Rattle.vr_rules.proofs.Halves.{regrouped}
 use Rattle.law_4_disks.proofs.States.{state_empty}
 use Rattle.law_8_repair.specs.Places.{IsInPlace, StaysInPlace}
 use Rattle.law_8_repair.proofs.Placing.{Loads, in_place}

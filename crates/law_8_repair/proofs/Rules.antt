@@ -7,8 +7,8 @@ use Rattle.vr_base.specs.Groups.{quorums_of}
 use Rattle.vr_header.specs.declared.header.Header.{Header}
 use Rattle.vr_header.specs.Made.{Whole}
 use Rattle.vr_ckpt.specs.declared.name.Name.{Name}
-use Rattle.vr_ckpt.specs.SessionAnswer.{SessionAnswer}
-use Rattle.vr_ckpt.specs.SessionAnswer.TheVariants as answer
+use Rattle.vr_state.specs.declared.session.SessionAnswer.{SessionAnswer}
+use Rattle.vr_state.specs.declared.session.SessionAnswer.TheVariants as answer
 use Rattle.vr_msg.specs.Choice.{ops}
 use Rattle.vr_msg.specs.declared.choice.Choice.{Choice}
 use Rattle.vr_msg.specs.declared.choice.Choice.TheVariants.{Ends, WaitsAt, TooFew}
@@ -29,25 +29,25 @@ use Rattle.vr_msg.specs.declared.frame.SyncView.{SyncView}
 use Rattle.vr_msg.specs.declared.request.RequestFields.{RequestFields}
 use Rattle.vr_msg.specs.declared.output.Output.{Output}
 use Rattle.vr_msg.specs.declared.statement.Statement.{Statement}
-use Rattle.vr_world.specs.Deciding.{Hash, commit_table, do_view_change_table, get_block_table, get_prepare_table, get_sync_table, get_view_table, give_block_table, give_prepare_table, is_from_primary, is_known, is_wanted, log_of, may_jump, prepare_ok_table, prepare_table, request_table, session_answer, start_view_change_table, start_view_table, sync_view_table, tick_table}
-use Rattle.vr_world.specs.Laws.{HasNames, IsMessage}
-use Rattle.vr_world.specs.Outputs.{do_view_change, to_primary, wait_line}
-use Rattle.vr_world.specs.Replica.{Replica, head, header_at, is_alone, is_here, is_primary, is_started, last_view, part_at, version, view_change}
-use Rattle.vr_world.specs.Rules.{acknowledge, acknowledge_stored, acknowledged, asked_block, asker_by, block_at, give_read, heard_of, idler, make, mend_found, next_entry, next_view, not_worn, obey_commit, obey_do_view_change, obey_get_block, obey_get_prepare, obey_get_sync, obey_get_view, obey_give_block, obey_give_prepare, obey_prepare, obey_prepare_ok, obey_request, obey_start_view, obey_start_view_change, obey_sync_view, obey_tick, on_commit, on_do_view_change, on_get_block, on_get_prepare, on_get_sync, on_get_view, on_give_block, on_give_prepare, on_prepare, on_prepare_ok, on_request, on_start_view, on_start_view_change, on_sync_view, on_tick, put_block, put_found, stored_reply, test_of, with_statement, without}
-use Rattle.vr_world.specs.Sound.{IsCaughtUp, IsSound, IsStated}
-use Rattle.vr_world.specs.Steps.{Setting, Word, ◌⨾◌, after_all, by, change, each, quiet, says, when}
-use Rattle.vr_world.specs.Words.{Log, accept, advance, apply, ask, begin_view, chosen_log, choose_line, decided, enter, is_loaded, jump, learn, load, may_take, obey_choice, prepare_again, rested, speak, stated, take, try, try_log, visit, write}
-use Rattle.vr_world.specs.Asker.{Asker}
-use Rattle.vr_world.proofs.Combining.{kept_change, kept_when}
-use Rattle.vr_world.proofs.Jumping.{kept_jump, may_jump_is}
-use Rattle.vr_world.proofs.Keeping.{Kept}
-use Rattle.vr_world.proofs.Reacting.{keeps_idler, may_store_next}
-use Rattle.vr_world.proofs.Ruling.{IsFor, by_rows, for_of, group_of, group_of_primary, in_view, keeps_heard, kept_statement, may_store_given, may_store_prepare, told_log, told_sync}
-use Rattle.vr_world.proofs.Storing.{MayStore}
-use Rattle.vr_world.specs.Given.{IsLogFor}
-use Rattle.vr_world.proofs.Taking.{MayTake, kept_take, may_take_is}
-use Rattle.vr_world.proofs.Trying.{all_stated, chosen_log_is, decided_ends}
-use Rattle.vr_world.proofs.Wording.{kept_accept, kept_enter, kept_rested, kept_write}
+use Rattle.vr_rules.specs.Deciding.{Hash, commit_table, do_view_change_table, get_block_table, get_prepare_table, get_sync_table, get_view_table, give_block_table, give_prepare_table, is_from_primary, is_known, is_wanted, log_of, may_jump, prepare_ok_table, prepare_table, request_table, session_answer, start_view_change_table, start_view_table, sync_view_table, tick_table}
+use Rattle.vr_rules.specs.Laws.{HasNames, IsMessage}
+use Rattle.vr_rules.specs.Outputs.{do_view_change, to_primary, wait_line}
+use Rattle.vr_rules.specs.Replica.{Replica, head, header_at, is_alone, is_here, is_primary, is_started, last_view, part_at, version, view_change}
+use Rattle.vr_rules.specs.Rules.{acknowledge, acknowledge_stored, acknowledged, asked_block, asker_by, block_at, give_read, heard_of, idler, make, mend_found, next_entry, next_view, not_worn, obey_commit, obey_do_view_change, obey_get_block, obey_get_prepare, obey_get_sync, obey_get_view, obey_give_block, obey_give_prepare, obey_prepare, obey_prepare_ok, obey_request, obey_start_view, obey_start_view_change, obey_sync_view, obey_tick, on_commit, on_do_view_change, on_get_block, on_get_prepare, on_get_sync, on_get_view, on_give_block, on_give_prepare, on_prepare, on_prepare_ok, on_request, on_start_view, on_start_view_change, on_sync_view, on_tick, put_block, put_found, stored_reply, test_of, with_statement, without}
+use Rattle.vr_rules.specs.Sound.{IsCaughtUp, IsSound, IsStated}
+use Rattle.vr_rules.specs.Steps.{Setting, Word, ◌⨾◌, after_all, by, change, each, quiet, says, when}
+use Rattle.vr_rules.specs.Words.{Log, accept, advance, apply, ask, begin_view, chosen_log, choose_line, decided, enter, is_loaded, jump, learn, load, may_take, obey_choice, prepare_again, rested, speak, stated, take, try, try_log, visit, write}
+use Rattle.vr_rules.specs.declared.asker.Asker.{Asker}
+use Rattle.vr_rules.proofs.Combining.{kept_change, kept_when}
+use Rattle.vr_rules.proofs.Jumping.{kept_jump, may_jump_is}
+use Rattle.vr_rules.proofs.Keeping.{Kept}
+use Rattle.vr_rules.proofs.Reacting.{keeps_idler, may_store_next}
+use Rattle.vr_rules.proofs.Ruling.{IsFor, by_rows, for_of, group_of, group_of_primary, in_view, keeps_heard, kept_statement, may_store_given, may_store_prepare, told_log, told_sync}
+use Rattle.vr_rules.proofs.Storing.{MayStore}
+use Rattle.vr_rules.specs.Given.{IsLogFor}
+use Rattle.vr_rules.proofs.Taking.{MayTake, kept_take, may_take_is}
+use Rattle.vr_rules.proofs.Trying.{all_stated, chosen_log_is, decided_ends}
+use Rattle.vr_rules.proofs.Wording.{kept_accept, kept_enter, kept_rested, kept_write}
 use Rattle.law_8_repair.proofs.Upkeep.{Calm, Settles, UpBy, calm_by, calm_change, calm_does, calm_enter, calm_quiet, calm_resend, calm_rested, calm_says, calm_then, calm_when, settles_advance, settles_apply, settles_by, settles_calm_then, settles_if, settles_learn, settles_then, sorts_again, sorts_by, sorts_calm, sorts_change, sorts_each, sorts_load, sorts_then, sorts_when, up_by, up_calm, up_calm_then, up_change_then, up_entry, up_if, up_naming, up_reading, up_says_then, up_settles, up_then, up_then_up, up_visit_ask, up_when}
 
 module _ {F : Type 0} where

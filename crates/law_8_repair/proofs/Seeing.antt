@@ -10,13 +10,13 @@ use Rattle.vr_header.specs.declared.part.Part.TheVariants.{Here, Lost, Wanted, U
 use Rattle.vr_header.specs.Made.{Whole}
 use Rattle.vr_header.specs.Same.{same_header}
 use Rattle.vr_ckpt.specs.declared.name.Name.{Name}
-use Rattle.vr_world.specs.Replica.{Replica, is_here, part_at, with_part}
-use Rattle.vr_world.specs.Sound.{IsSound}
-use Rattle.vr_world.specs.Steps.{Effect, Mend, Rewrite, Setting, Word, ◌⨾◌, after_all, by, change, does, quiet, reading}
-use Rattle.vr_world.specs.Words as words
-use Rattle.vr_world.proofs.Heads.{known_within}
-use Rattle.vr_world.proofs.Keeping.{spans_of}
-use Rattle.vr_msg.specs.Logs.{has_header, header_of}
+use Rattle.vr_rules.specs.Replica.{Replica, is_here, part_at, with_part}
+use Rattle.vr_rules.specs.Sound.{IsSound}
+use Rattle.vr_rules.specs.Steps.{Effect, Mend, Rewrite, Setting, Word, ◌⨾◌, after_all, by, change, does, quiet, reading}
+use Rattle.vr_rules.specs.Words as words
+use Rattle.vr_rules.proofs.Heads.{known_within}
+use Rattle.vr_rules.proofs.Keeping.{spans_of}
+use Rattle.vr_header.specs.Parts.{has_header, header_of}
 use Rattle.law_8_repair.specs.Visits.{visited}
 use Rattle.law_8_repair.proofs.Looking.{Kept, Sturdy, all_spared, slot_op}
 use Rattle.law_8_repair.proofs.Settling.{gone_here}

@@ -8,12 +8,12 @@ use Rattle.vr_header.specs.declared.header.Header.{Header}
 use Rattle.vr_header.specs.declared.part.Part.{Part}
 use Rattle.vr_header.specs.declared.part.Part.TheVariants.{Here, Lost, Wanted, Unknown, Nothing}
 use Rattle.vr_header.specs.Made.{Whole}
-use Rattle.vr_msg.specs.Logs.{header_of}
+use Rattle.vr_header.specs.Parts.{header_of}
 use Rattle.vr_ckpt.specs.declared.name.Name.{Name}
-use Rattle.vr_world.specs.Replica.{Replica, is_here, part_at, with_part}
-use Rattle.vr_world.specs.Sound.{IsCaughtUp, IsSound}
-use Rattle.vr_world.specs.Steps.{Setting, Step, Word, ◌⨾◌, after_all, by, change, quiet, reading, times, when}
-use Rattle.vr_world.specs.Words.{apply_entry, apply_next, entry_of, is_loaded, lost, or_lost, with_entry, with_entry_at}
+use Rattle.vr_rules.specs.Replica.{Replica, is_here, part_at, with_part}
+use Rattle.vr_rules.specs.Sound.{IsCaughtUp, IsSound}
+use Rattle.vr_rules.specs.Steps.{Setting, Step, Word, ◌⨾◌, after_all, by, change, quiet, reading, times, when}
+use Rattle.vr_rules.specs.Words.{apply_entry, apply_next, entry_of, is_loaded, lost, or_lost, with_entry, with_entry_at}
 use Rattle.law_8_repair.proofs.Applying.{Next, entry_next, entry_still, next_entry, when_true}
 
 -- ---- entries that are here

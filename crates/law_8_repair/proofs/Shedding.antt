@@ -17,8 +17,8 @@ use Rattle.vr_ckpt.specs.declared.name.Name.{Name}
 use Rattle.vr_ckpt.specs.declared.found.Load.{Load}
 use Rattle.vr_ckpt.specs.declared.found.Load.TheVariants.{Loaded, Missing}
 use Rattle.vr_ckpt.specs.declared.table.PayloadTable.{PayloadTable}
-use Rattle.vr_ckpt.specs.State.{State}
-use Rattle.vr_ckpt.specs.StateTexts.{state_decoded}
+use Rattle.vr_state.specs.declared.state.State.{State}
+use Rattle.vr_state.specs.StateTexts.{state_decoded}
 use Rattle.vr_ckpt.specs.declared.saving.SavedCheckpoint as checkpoint
 use Rattle.vr_msg.specs.declared.choice.Choice.{Choice}
 use Rattle.vr_msg.specs.declared.choice.Choice.TheVariants.{Ends, WaitsAt, TooFew}
@@ -26,12 +26,12 @@ use Rattle.vr_msg.specs.declared.frame.Frame.{Frame}
 use Rattle.vr_msg.specs.declared.frame.SyncView.{SyncView}
 use Rattle.vr_msg.specs.declared.output.Output.{Output}
 use Rattle.vr_msg.specs.declared.statement.Statement.{Statement}
-use Rattle.vr_world.specs.Replica.{Replica, forgetting, is_alone, part_at, version, with_part}
-use Rattle.vr_world.specs.Steps.{Effect, Write, Say, Setting, Word, ◌⨾◌, after_all, by, change, does, each, naming, quiet, reading, says, times, when}
-use Rattle.vr_world.specs.Words as words
-use Rattle.vr_world.specs.Words.{usable}
-use Rattle.vr_world.proofs.Heads.{forgetting_at, forgetting_before, gone}
-use Rattle.vr_world.proofs.Jumping.{landed}
+use Rattle.vr_rules.specs.Replica.{Replica, forgetting, is_alone, part_at, version, with_part}
+use Rattle.vr_rules.specs.Steps.{Effect, Write, Say, Setting, Word, ◌⨾◌, after_all, by, change, does, each, naming, quiet, reading, says, times, when}
+use Rattle.vr_rules.specs.Words as words
+use Rattle.vr_rules.specs.Words.{usable}
+use Rattle.vr_rules.proofs.Heads.{forgetting_at, forgetting_before, gone}
+use Rattle.vr_rules.proofs.Jumping.{landed}
 use Rattle.law_8_repair.proofs.Settling.{lost_before}
 use Rattle.law_8_repair.proofs.Upkeep.{loads_parts}
 

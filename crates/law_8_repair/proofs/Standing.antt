@@ -5,15 +5,15 @@ use Rattle.std.specs.Option.{option_and_then}
 use Rattle.std.proofs.lemmas.Bool.{cases_lt}
 use Rattle.std.proofs.lemmas.Nat.{mod_below}
 use Rattle.std.proofs.lemmas.List.Elements.{All-nil, All-cons, All-append, All-head, All-map, All-tail}
-use Rattle.vr_ckpt.specs.StateTexts.{texts_of}
-use Rattle.vr_ckpt.specs.State.{State}
+use Rattle.vr_state.specs.StateTexts.{texts_of}
+use Rattle.vr_state.specs.declared.state.State.{State}
 use Rattle.vr_header.specs.declared.header.Header.{Header}
 use Rattle.vr_header.specs.declared.part.Part.{Part}
 use Rattle.vr_header.specs.declared.part.Part.TheVariants.{Here, Lost, Wanted, Unknown, Nothing}
 use Rattle.vr_header.specs.Made.{Whole}
 use Rattle.vr_header.specs.Same.{same_header}
-use Rattle.vr_ckpt.specs.Kv.{IsKv}
-use Rattle.vr_ckpt.specs.Sessions.{IsSessions}
+use Rattle.vr_state.specs.Kv.{IsKv}
+use Rattle.vr_state.specs.Sessions.{IsSessions}
 use Rattle.vr_rings.specs.Slots.{IsWhole}
 use Rattle.vr_ckpt.specs.declared.name.Name.{Name}
 use Rattle.vr_ckpt.specs.declared.table.Payload.{Payload}
@@ -25,11 +25,11 @@ use Rattle.vr_msg.specs.declared.frame.Frame.{Frame}
 use Rattle.vr_msg.specs.declared.output.Output.{Output}
 use Rattle.vr_msg.specs.declared.statement.Statement.{Statement}
 use Rattle.vr_super.specs.Copies.{SuperValue}
-use Rattle.vr_world.specs.Replica.{Replica, forgetting, is_alone, is_here, part_at, with_part}
-use Rattle.vr_world.specs.Steps.{Effect, Write, Rewrite, Save, Mend, Checkpoint, PutBlock, Say, Setting, Step, Word, ◌⨾◌, after_all, by, change, does, each, naming, quiet, reading, says, times, when}
-use Rattle.vr_world.specs.Words as words
-use Rattle.vr_world.specs.Fit.{IsFit, ReadsWell}
-use Rattle.vr_world.proofs.FitWords.{reads_entry, reads_later}
+use Rattle.vr_rules.specs.Replica.{Replica, forgetting, is_alone, is_here, part_at, with_part}
+use Rattle.vr_rules.specs.Steps.{Effect, Write, Rewrite, Save, Mend, Checkpoint, PutBlock, Say, Setting, Step, Word, ◌⨾◌, after_all, by, change, does, each, naming, quiet, reading, says, times, when}
+use Rattle.vr_rules.specs.Words as words
+use Rattle.vr_rules.specs.Fit.{IsFit, ReadsWell}
+use Rattle.vr_rules.proofs.FitWords.{reads_entry, reads_later}
 use Rattle.law_4_disks.proofs.States.{IsState, state_kept, text_of_state}
 use Rattle.law_8_repair.specs.Places.{StandsAt, IsInPlaces}
 use Rattle.law_8_repair.proofs.Laying.{SavesInPlace}

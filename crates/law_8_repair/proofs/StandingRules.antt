@@ -5,16 +5,16 @@ use Rattle.std.specs.Option.{option_map_or}
 use Rattle.std.proofs.lemmas.Bool.{and_parts, ltb-false, ne_eqb, true≢false}
 use Rattle.vr_header.specs.declared.header.Header.{Header}
 use Rattle.vr_ckpt.specs.declared.name.Name.{Name}
-use Rattle.vr_ckpt.specs.Folds.{empty}
-use Rattle.vr_ckpt.specs.StateTexts.{state_decoded}
-use Rattle.vr_ckpt.specs.Texts.{Texts}
-use Rattle.vr_ckpt.specs.State.{State}
+use Rattle.vr_state.specs.Folds.{empty}
+use Rattle.vr_state.specs.StateTexts.{state_decoded}
+use Rattle.vr_state.specs.declared.texts.Texts.{Texts}
+use Rattle.vr_state.specs.declared.state.State.{State}
 use Rattle.vr_ckpt.specs.Places as places
 use Rattle.vr_ckpt.specs.declared.found.Load.{Load}
 use Rattle.vr_ckpt.specs.declared.found.Load.TheVariants.{Loaded, Missing}
 use Rattle.vr_ckpt.specs.declared.table.PayloadTable.{PayloadTable}
-use Rattle.vr_ckpt.specs.SessionAnswer.{SessionAnswer}
-use Rattle.vr_ckpt.specs.SessionAnswer.TheVariants as answer
+use Rattle.vr_state.specs.declared.session.SessionAnswer.{SessionAnswer}
+use Rattle.vr_state.specs.declared.session.SessionAnswer.TheVariants as answer
 use Rattle.vr_msg.specs.declared.event.Event.{Event}
 use Rattle.vr_msg.specs.declared.event.Event.TheVariants as event
 use Rattle.vr_msg.specs.declared.frame.Commit.{Commit}
@@ -34,22 +34,22 @@ use Rattle.vr_msg.specs.declared.frame.StartViewChange.{StartViewChange}
 use Rattle.vr_msg.specs.declared.frame.SyncView.{SyncView}
 use Rattle.vr_msg.specs.declared.request.RequestFields.{RequestFields}
 use Rattle.vr_msg.specs.Choice.{ops}
-use Rattle.vr_world.specs.Deciding.{Hash, commit_table, do_view_change_table, first_of, get_block_table, get_prepare_table, get_sync_table, get_view_table, give_block_table, give_prepare_table, is_wanted, log_of, may_jump, prepare_ok_table, prepare_table, request_table, session_answer, start_view_change_table, start_view_table, sync_view_table, tick_table}
-use Rattle.vr_world.specs.Outputs as told
-use Rattle.vr_world.specs.Replica.{Replica, forgetting, head, header_at, is_frozen, is_here, part_at, version}
-use Rattle.vr_world.specs.Rules as rules
-use Rattle.vr_world.specs.Fit.{IsFit}
-use Rattle.vr_world.specs.Steps.{Effect, PutBlock, Setting, Step, Word, ◌⨾◌, after_all, by, change, does, each, naming, quiet, reading, says, when}
-use Rattle.vr_world.specs.Words as words
-use Rattle.vr_world.specs.Words.{usable}
-use Rattle.vr_world.proofs.Wording.{usable_is}
-use Rattle.vr_world.specs.Asker.{Asker}
-use Rattle.vr_world.specs.Rule.{Rule}
-use Rattle.vr_world.specs.Rule.TheVariants.{Ahead, Answered, Behind, Beyond, BlockGiven, ChangeDone, ChangeHeard, ChangeLater, CommitHeard, CommitLater, Counted, EntryGiven, EntryTaken, Full, Known, Made, Next, Other, Past, PreparedLater, Redirected, Stated, StatedLate, SyncAsked, SyncGiven, Taken, TickedBackup, TickedChanging, TickedPrimary, ViewGiven}
-use Rattle.vr_world.proofs.Halves.{regrouped}
-use Rattle.vr_world.proofs.Jumping.{may_jump_is}
-use Rattle.vr_world.proofs.Ruling.{by_rows}
-use Rattle.vr_world.proofs.FitWords.{reads_later}
+use Rattle.vr_rules.specs.Deciding.{Hash, commit_table, do_view_change_table, first_of, get_block_table, get_prepare_table, get_sync_table, get_view_table, give_block_table, give_prepare_table, is_wanted, log_of, may_jump, prepare_ok_table, prepare_table, request_table, session_answer, start_view_change_table, start_view_table, sync_view_table, tick_table}
+use Rattle.vr_rules.specs.Outputs as told
+use Rattle.vr_rules.specs.Replica.{Replica, forgetting, head, header_at, is_frozen, is_here, part_at, version}
+use Rattle.vr_rules.specs.Rules as rules
+use Rattle.vr_rules.specs.Fit.{IsFit}
+use Rattle.vr_rules.specs.Steps.{Effect, PutBlock, Setting, Step, Word, ◌⨾◌, after_all, by, change, does, each, naming, quiet, reading, says, when}
+use Rattle.vr_rules.specs.Words as words
+use Rattle.vr_rules.specs.Words.{usable}
+use Rattle.vr_rules.proofs.Wording.{usable_is}
+use Rattle.vr_rules.specs.declared.asker.Asker.{Asker}
+use Rattle.vr_rules.specs.declared.rule.Rule.{Rule}
+use Rattle.vr_rules.specs.declared.rule.Rule.TheVariants.{Ahead, Answered, Behind, Beyond, BlockGiven, ChangeDone, ChangeHeard, ChangeLater, CommitHeard, CommitLater, Counted, EntryGiven, EntryTaken, Full, Known, Made, Next, Other, Past, PreparedLater, Redirected, Stated, StatedLate, SyncAsked, SyncGiven, Taken, TickedBackup, TickedChanging, TickedPrimary, ViewGiven}
+use Rattle.vr_rules.proofs.Halves.{regrouped}
+use Rattle.vr_rules.proofs.Jumping.{may_jump_is}
+use Rattle.vr_rules.proofs.Ruling.{by_rows}
+use Rattle.vr_rules.proofs.FitWords.{reads_later}
 use Rattle.vr_base.specs.Bytes.{IsBytes}
 use Rattle.law_4_disks.specs.Stocks.{IsGiven, IsGivenEvent}
 use Rattle.law_4_disks.proofs.States.{state_read}

@@ -11,26 +11,26 @@ use Rattle.vr_header.specs.declared.part.Part.TheVariants.{Here}
 use Rattle.vr_header.specs.Made.{Whole}
 use Rattle.vr_header.specs.Same.{same_header}
 use Rattle.vr_header.proofs.SameHeaders.{same_header_of}
+use Rattle.vr_header.specs.Parts.{header_of}
 use Rattle.vr_msg.specs.declared.event.Event.TheVariants as event
 use Rattle.vr_msg.specs.declared.frame.Frame.TheVariants as frame
 use Rattle.vr_msg.specs.declared.frame.GivePrepare.{GivePrepare}
 use Rattle.vr_msg.specs.declared.output.Output.{Output}
-use Rattle.vr_msg.specs.Logs.{header_of}
 use Rattle.vr_rings.specs.Slots.{IsWhole}
-use Rattle.vr_world.specs.Deciding.{first_of, give_prepare_table, is_from, is_known}
-use Rattle.vr_world.specs.Rule.{Rule}
-use Rattle.vr_world.specs.Rule.TheVariants.{EntryTaken, Ignored}
-use Rattle.vr_world.specs.Replica.{Replica, forgetting, is_absent, is_frozen, is_here, is_primary, is_started, last_view, part_at, version, with_part}
-use Rattle.vr_world.specs.Rules.{obey_give_prepare, on_event, on_give_prepare, react}
-use Rattle.vr_world.specs.Sound.{IsSound}
-use Rattle.vr_world.specs.Steps.{Effect, Write, Setting, Step, Word, ◌⨾◌, after_all, by, change, does, naming, says}
-use Rattle.vr_world.specs.Words.{apply, entry_of, may_be_stored, resend, stored, write, writes}
-use Rattle.vr_world.proofs.Halves.{after_both}
-use Rattle.vr_world.proofs.Heads.{forgetting_at, gone, head_within, with_part_at, with_part_other, with_part_spans}
-use Rattle.vr_world.proofs.Keeping.{spans_of}
-use Rattle.vr_world.proofs.Ruling.{may_store_given}
-use Rattle.vr_world.proofs.Storing.{kept_stored}
-use Rattle.vr_world.proofs.Wording.{keeps_apply}
+use Rattle.vr_rules.specs.Deciding.{first_of, give_prepare_table, is_from, is_known}
+use Rattle.vr_rules.specs.declared.rule.Rule.{Rule}
+use Rattle.vr_rules.specs.declared.rule.Rule.TheVariants.{EntryTaken, Ignored}
+use Rattle.vr_rules.specs.Replica.{Replica, forgetting, is_absent, is_frozen, is_here, is_primary, is_started, last_view, part_at, version, with_part}
+use Rattle.vr_rules.specs.Rules.{obey_give_prepare, on_event, on_give_prepare, react}
+use Rattle.vr_rules.specs.Sound.{IsSound}
+use Rattle.vr_rules.specs.Steps.{Effect, Write, Setting, Step, Word, ◌⨾◌, after_all, by, change, does, naming, says}
+use Rattle.vr_rules.specs.Words.{apply, entry_of, may_be_stored, resend, stored, write, writes}
+use Rattle.vr_rules.proofs.Halves.{after_both}
+use Rattle.vr_rules.proofs.Heads.{forgetting_at, gone, head_within, with_part_at, with_part_other, with_part_spans}
+use Rattle.vr_rules.proofs.Keeping.{spans_of}
+use Rattle.vr_rules.proofs.Ruling.{may_store_given}
+use Rattle.vr_rules.proofs.Storing.{kept_stored}
+use Rattle.vr_rules.proofs.Wording.{keeps_apply}
 use Rattle.law_8_repair.specs.Completing.{AllRead, IsCopy, LacksEntries}
 use Rattle.law_8_repair.proofs.Disks.{Stores}
 use Rattle.law_8_repair.proofs.Dry.{dry_apply, dry_resend, fine_after, same_entries}

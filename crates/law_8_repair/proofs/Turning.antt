@@ -12,10 +12,10 @@ use Rattle.vr_header.specs.declared.part.Part.{Part}
 use Rattle.vr_header.specs.declared.part.Part.TheVariants.{Here, Lost, Wanted, Unknown, Nothing}
 use Rattle.vr_header.specs.Made.{Whole}
 use Rattle.vr_header.specs.Same.{same_header}
-use Rattle.vr_world.specs.Replica.{Replica, part_at, with_part}
-use Rattle.vr_world.specs.Steps.{Rewrite, Mend, Setting, Word, ◌⨾◌, by, change, does, quiet, reading}
-use Rattle.vr_world.specs.Words as words
-use Rattle.vr_world.specs.Words.{is_loaded, place_now, places, visit}
+use Rattle.vr_rules.specs.Replica.{Replica, part_at, with_part}
+use Rattle.vr_rules.specs.Steps.{Rewrite, Mend, Setting, Word, ◌⨾◌, by, change, does, quiet, reading}
+use Rattle.vr_rules.specs.Words as words
+use Rattle.vr_rules.specs.Words.{is_loaded, place_now, places, visit}
 use Rattle.law_8_repair.specs.Turns.{VisitsTurn, after_visits}
 
 -- what the places are told by

@@ -11,9 +11,9 @@ use Rattle.vr_header.specs.declared.part.Part.{Part}
 use Rattle.vr_header.specs.declared.part.Part.TheVariants.{Here, Lost, Wanted, Unknown, Nothing}
 use Rattle.vr_header.specs.Made.{Whole}
 use Rattle.vr_header.specs.Same.{same_header}
-use Rattle.vr_world.specs.Replica.{Replica, part_at, with_part}
-use Rattle.vr_world.specs.Steps.{Effect, Rewrite, Mend, Setting, Step, Word, ◌⨾◌, by, change, does, quiet, reading}
-use Rattle.vr_world.specs.Words as words
+use Rattle.vr_rules.specs.Replica.{Replica, part_at, with_part}
+use Rattle.vr_rules.specs.Steps.{Effect, Rewrite, Mend, Setting, Step, Word, ◌⨾◌, by, change, does, quiet, reading}
+use Rattle.vr_rules.specs.Words as words
 use Rattle.law_8_repair.proofs.Standing.{Chain, SparesGrid, step_of}
 
 -- where one of a list passes

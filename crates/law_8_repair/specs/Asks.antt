@@ -5,12 +5,12 @@ use Rattle.vr_header.specs.declared.header.Header.{Header}
 use Rattle.vr_msg.specs.declared.event.Event.TheVariants.{Tick}
 use Rattle.vr_msg.specs.declared.frame.Frame.{Frame}
 use Rattle.vr_msg.specs.declared.output.Output.{Output}
-use Rattle.vr_world.specs.Outputs.{get_block, get_prepare, send_to}
-use Rattle.vr_world.specs.Replica.{Replica, is_absent, is_alone, is_frozen, is_started, leads, part_at}
-use Rattle.vr_world.specs.Rules.{react}
-use Rattle.vr_world.specs.Sound.{IsSound}
-use Rattle.vr_world.specs.Steps.{Setting, Step, outputs}
-use Rattle.vr_world.specs.Words.{ask, least_absent, peer}
+use Rattle.vr_rules.specs.Outputs.{get_block, get_prepare, send_to}
+use Rattle.vr_rules.specs.Replica.{Replica, is_absent, is_alone, is_frozen, is_started, leads, part_at}
+use Rattle.vr_rules.specs.Rules.{react}
+use Rattle.vr_rules.specs.Sound.{IsSound}
+use Rattle.vr_rules.specs.Steps.{Setting, Step, outputs}
+use Rattle.vr_rules.specs.Words.{ask, least_absent, peer}
 
 -- an entry above the checkpoint is known, and lost or wanted
 pub record LacksEntry (r : Replica) : Type 0 where

@@ -5,9 +5,9 @@ use Rattle.vr_ckpt.specs.declared.name.Name.{Name}
 use Rattle.vr_msg.specs.declared.event.Event.TheVariants as event
 use Rattle.vr_msg.specs.declared.frame.Frame.TheVariants as frame
 use Rattle.vr_msg.specs.declared.frame.GiveBlock.{GiveBlock}
-use Rattle.vr_world.specs.Replica.{Replica, is_frozen, version}
-use Rattle.vr_world.specs.Rules.{not_worn, react}
-use Rattle.vr_world.specs.Steps.{Setting, Step, after_all}
+use Rattle.vr_rules.specs.Replica.{Replica, is_frozen, version}
+use Rattle.vr_rules.specs.Rules.{not_worn, react}
+use Rattle.vr_rules.specs.Steps.{Setting, Step, after_all}
 
 -- the bytes of the block of this name, in a message of the replica's version, from another member of the group
 pub record IsBlockCopy {F : Type 0} (s : Setting F) (r : Replica) (name : Name) (g : GiveBlock) : Type 0 where

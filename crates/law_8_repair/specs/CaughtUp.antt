@@ -3,12 +3,12 @@ use Rattle.std.specs.Prelude.{ℕ, ◌≡◌, false}
 use Rattle.vr_base.specs.declared.kind.Kind.{Kind}
 use Rattle.vr_msg.specs.declared.event.Event.{Event}
 use Rattle.vr_super.specs.Copies.{IsGood, SuperValue}
-use Rattle.vr_world.specs.Laws.{HasNames, IsEvent, ReadsHeaders}
-use Rattle.vr_world.specs.Opening.{blank, fresh, opening}
-use Rattle.vr_world.specs.Replica.{Replica, is_spent}
-use Rattle.vr_world.specs.Rules.{react}
-use Rattle.vr_world.specs.Sound.{IsCaughtUp, IsSound}
-use Rattle.vr_world.specs.Steps.{Setting}
+use Rattle.vr_rules.specs.Laws.{HasNames, IsEvent, ReadsHeaders}
+use Rattle.vr_rules.specs.Opening.{blank, fresh, opening}
+use Rattle.vr_rules.specs.Replica.{Replica, is_spent}
+use Rattle.vr_rules.specs.Rules.{react}
+use Rattle.vr_rules.specs.Sound.{IsCaughtUp, IsSound}
+use Rattle.vr_rules.specs.Steps.{Setting}
 
 -- Where sequence numbers are at their end nothing is said: there it ignores every event.
 abbrev pub KeepsUp : Replica → Type 0

@@ -9,11 +9,11 @@ use Rattle.vr_msg.specs.declared.frame.Frame.TheVariants as frame
 use Rattle.vr_msg.specs.declared.frame.GivePrepare.{GivePrepare}
 use Rattle.vr_msg.specs.Choice.{ops}
 use Rattle.vr_rings.specs.Slots.{IsWhole}
-use Rattle.vr_world.specs.Replica.{Replica, header_at, is_absent, last_view, part_at, version}
-use Rattle.vr_world.specs.Rules.{react}
-use Rattle.vr_world.specs.Sound.{IsCaughtUp, IsSound}
-use Rattle.vr_world.specs.Steps.{Setting, after_all}
-use Rattle.vr_world.specs.Words.{entry_of}
+use Rattle.vr_rules.specs.Replica.{Replica, header_at, is_absent, last_view, part_at, version}
+use Rattle.vr_rules.specs.Rules.{react}
+use Rattle.vr_rules.specs.Sound.{IsCaughtUp, IsSound}
+use Rattle.vr_rules.specs.Steps.{Setting, after_all}
+use Rattle.vr_rules.specs.Words.{entry_of}
 use Rattle.law_8_repair.specs.Latest.{latest}
 
 -- the ops that are committed and not applied, whose entry is known and not here, in order

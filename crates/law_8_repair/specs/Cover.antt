@@ -1,7 +1,7 @@
 -- After as many visits as there are places, what doesn't read is known.
 use Rattle.std.specs.Prelude.{ℕ, ◌+◌, ◌<◌, ◌≤◌, ◌≡◌, ◌≢◌, ◌==◌, ◌⊎◌, true, List, [], ◌∷◌, All, Contains, Some, if◌then◌else◌}
 use Rattle.vr_ckpt.specs.Places.{grid_size}
-use Rattle.vr_ckpt.specs.Texts.{Texts}
+use Rattle.vr_state.specs.declared.texts.Texts.{Texts}
 use Rattle.vr_ckpt.specs.declared.found.Load.TheVariants.{Loaded}
 use Rattle.vr_disk.specs.DiskState.{Face, IsFace}
 use Rattle.vr_ckpt.specs.declared.name.Name.{Name}
@@ -9,12 +9,12 @@ use Rattle.vr_header.specs.declared.header.Header.{Header}
 use Rattle.vr_header.specs.Made.{Whole}
 use Rattle.vr_msg.specs.declared.event.Event.{Event}
 use Rattle.vr_super.specs.Laws.{AllRead}
-use Rattle.vr_world.specs.Laws.{IsEvent}
-use Rattle.vr_world.specs.Replica.{Replica, header_at, is_absent, part_at, version}
-use Rattle.vr_world.specs.Rules.{react}
-use Rattle.vr_world.specs.Sound.{IsSavable, IsSound}
-use Rattle.vr_world.specs.Steps.{Setting, after_all}
-use Rattle.vr_world.specs.Words.{blocks_of, entry_of, places}
+use Rattle.vr_rules.specs.Laws.{IsEvent}
+use Rattle.vr_rules.specs.Replica.{Replica, header_at, is_absent, part_at, version}
+use Rattle.vr_rules.specs.Rules.{react}
+use Rattle.vr_rules.specs.Sound.{IsSavable, IsSound}
+use Rattle.vr_rules.specs.Steps.{Setting, after_all}
+use Rattle.vr_rules.specs.Words.{blocks_of, entry_of, places}
 use Rattle.law_8_repair.specs.Latest.{latest}
 use Rattle.law_8_repair.specs.Visits.{after_events}
 

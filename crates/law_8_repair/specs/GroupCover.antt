@@ -1,15 +1,15 @@
 -- Visits of running replicas find what doesn't read, in every run of a group.
 use Rattle.std.specs.Prelude.{ℕ, ◌^◌, ◌<◌, ◌≤◌, ◌≡◌, List, All, slice_get, Some}
 use Rattle.vr_base.specs.declared.kind.Kind.{Kind}
-use Rattle.vr_world.specs.Opening.{AreKinds}
+use Rattle.vr_rules.specs.Opening.{AreKinds}
 use Rattle.vr_disk.specs.DiskState.{IsFace}
 use Rattle.vr_msg.specs.declared.event.Event.{Event}
 use Rattle.vr_world.specs.Group.{Group, Member, Played, Run, fresh_group}
 use Rattle.vr_world.specs.GroupFit.{IsFitMove}
-use Rattle.vr_world.specs.Laws.{IsEvent}
+use Rattle.vr_rules.specs.Laws.{IsEvent}
 use Rattle.vr_world.specs.Lying.{Lying, lying}
-use Rattle.vr_world.specs.Replica.{Replica, version}
-use Rattle.vr_world.specs.Words.{places}
+use Rattle.vr_rules.specs.Replica.{Replica, version}
+use Rattle.vr_rules.specs.Words.{places}
 use Rattle.law_4_disks.specs.Worlds.{IsOfBytes}
 use Rattle.law_8_repair.specs.Cover.{KnowsFaults, visits_made}
 use Rattle.law_8_repair.specs.Latest.{latest}

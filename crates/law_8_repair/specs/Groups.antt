@@ -1,10 +1,10 @@
 -- In a run of a group each running replica has applied all that it can.
 use Rattle.std.specs.Prelude.{ℕ, ◌^◌, ◌<◌, ◌≤◌, ◌≡◌, List, All, slice_get, Some}
 use Rattle.vr_base.specs.declared.kind.Kind.{Kind}
-use Rattle.vr_world.specs.Opening.{AreKinds}
+use Rattle.vr_rules.specs.Opening.{AreKinds}
+use Rattle.vr_rules.specs.Replica.{Replica}
 use Rattle.vr_world.specs.Group.{Group, Member, Played, Run, fresh_group}
 use Rattle.vr_world.specs.GroupFit.{IsFitMove}
-use Rattle.vr_world.specs.Replica.{Replica}
 use Rattle.law_8_repair.specs.CaughtUp.{KeepsUp}
 
 abbrev pub AllKeepUp : Group → Type 0

@@ -4,22 +4,22 @@ use Rattle.vr_base.specs.Bytes.{IsBytes}
 use Rattle.vr_base.specs.declared.kind.Kind.{Kind}
 use Rattle.vr_disk.specs.DiskState.{Face, IsFace}
 use Rattle.vr_ckpt.specs.declared.name.Name.{Name}
-use Rattle.vr_ckpt.specs.Kv.{IsKv}
-use Rattle.vr_ckpt.specs.Sessions.{IsSessions}
+use Rattle.vr_state.specs.Kv.{IsKv}
+use Rattle.vr_state.specs.Sessions.{IsSessions}
 use Rattle.vr_ckpt.specs.Places.{is_place, keys_places, place_of, sessions_places}
 use Rattle.vr_ckpt.specs.declared.places.Places.{Places}
-use Rattle.vr_ckpt.specs.StateTexts.{key_payloads, session_payloads}
+use Rattle.vr_state.specs.StateTexts.{key_payloads, session_payloads}
 use Rattle.vr_ckpt.specs.declared.table.Payload.{Payload}
 use Rattle.vr_ckpt.specs.declared.table.PayloadTable.{PayloadTable}
 use Rattle.vr_msg.specs.declared.event.Event.{Event}
 use Rattle.vr_super.specs.Copies.{IsGood, SuperValue}
 use Rattle.vr_world.specs.GroupFit.{IsFitReplica}
-use Rattle.vr_world.specs.Laws.{IsEvent}
-use Rattle.vr_world.specs.Opening.{blank, fresh, opening}
-use Rattle.vr_world.specs.Replica.{Replica, is_spent}
-use Rattle.vr_world.specs.Rules.{react}
-use Rattle.vr_world.specs.Steps.{Setting}
-use Rattle.vr_world.specs.Words.{blocks_of}
+use Rattle.vr_rules.specs.Laws.{IsEvent}
+use Rattle.vr_rules.specs.Opening.{blank, fresh, opening}
+use Rattle.vr_rules.specs.Replica.{Replica, is_spent}
+use Rattle.vr_rules.specs.Rules.{react}
+use Rattle.vr_rules.specs.Steps.{Setting}
+use Rattle.vr_rules.specs.Words.{blocks_of}
 use Rattle.law_4_disks.specs.Stocks.{IsGivenEvent}
 use Rattle.law_8_repair.specs.Cover.{IsLaidOut}
 

@@ -1,8 +1,8 @@
 -- Visits come round: each takes the place after that of the one before.
 use Rattle.std.specs.Prelude.{◌+◌, ◌%◌, ◌≡◌, true, List, [], ◌∷◌, length}
-use Rattle.vr_world.specs.Replica.{Replica}
-use Rattle.vr_world.specs.Steps.{Setting}
-use Rattle.vr_world.specs.Words.{is_loaded, place_now, places, visit}
+use Rattle.vr_rules.specs.Replica.{Replica}
+use Rattle.vr_rules.specs.Steps.{Setting}
+use Rattle.vr_rules.specs.Words.{is_loaded, place_now, places, visit}
 
 -- visits one after the other, each of a disk as it is then
 unfoldable pub after_visits : {F : Type 0} → Setting F → List F → Replica → Replica

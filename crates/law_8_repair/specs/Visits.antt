@@ -5,12 +5,12 @@ use Rattle.vr_header.specs.declared.header.Header.{Header}
 use Rattle.vr_header.specs.declared.part.Part.TheVariants.{Here}
 use Rattle.vr_header.specs.Made.{Whole}
 use Rattle.vr_msg.specs.declared.event.Event.{Event}
-use Rattle.vr_world.specs.Laws.{IsEvent}
-use Rattle.vr_world.specs.Replica.{Replica, part_at, version}
-use Rattle.vr_world.specs.Rules.{react}
-use Rattle.vr_world.specs.Sound.{IsSound}
-use Rattle.vr_world.specs.Steps.{Setting, after_all}
-use Rattle.vr_world.specs.Words.{entry_of}
+use Rattle.vr_rules.specs.Laws.{IsEvent}
+use Rattle.vr_rules.specs.Replica.{Replica, part_at, version}
+use Rattle.vr_rules.specs.Rules.{react}
+use Rattle.vr_rules.specs.Sound.{IsSound}
+use Rattle.vr_rules.specs.Steps.{Setting, after_all}
+use Rattle.vr_rules.specs.Words.{entry_of}
 use Rattle.law_8_repair.specs.Latest.{latest}
 
 -- of the ops above the checkpoint whose slots were seen, each entry that is here reads

@@ -13,7 +13,7 @@ ghost use Rattle.law_8_repair.specs.Groups.{GroupsKeepUp};
 ghost use Rattle.law_8_repair.specs.Places.{PlacesStay};
 ghost use Rattle.law_8_repair.specs.Turns.{VisitsTurn};
 ghost use Rattle.law_8_repair.specs.Visits.{VisitsFind};
-ghost use Rattle.vr_world.specs.Sectors.{sectors_by};
+ghost use Rattle.vr_rules.specs.Sectors.{sectors_by};
 ghost use Rattle.vr_world.specs.Lying.{lying};
 
 /// After each step of a sound replica that had applied all that it could it has done so again, whatever reads.

@@ -17,17 +17,17 @@ use Rattle.vr_msg.specs.declared.output.Sent.{Sent}
 use Rattle.vr_msg.specs.declared.reply.ReplyFields.{ReplyFields}
 use Rattle.vr_msg.specs.declared.reply.ReplyKind.{ReplyKind}
 use Rattle.vr_msg.specs.declared.request.RequestFields.{RequestFields}
-use Rattle.vr_node.specs.Fit.{IsAsked}
+use Rattle.vr_rules.specs.Fit.{IsAsked}
 use Rattle.vr_world.specs.Commitment.{IsReplyOf, lines_by}
 use Rattle.vr_world.specs.Group.{Asked, Played}
 use Rattle.vr_world.specs.Lying.{Lying}
-use Rattle.vr_world.specs.Opening.{AreKinds}
+use Rattle.vr_rules.specs.Opening.{AreKinds}
 use Rattle.vr_world.specs.World.{Host}
 use Rattle.vr_world.specs.Safe.{IsTrueReply, applied_then, run_outputs}
-use Rattle.vr_world.proofs.FitMessages.{asked_may_come}
+use Rattle.vr_rules.proofs.FitMessages.{asked_may_come}
 use Rattle.law_1_machine.specs.Basics.{In}
 use Rattle.law_3_outputs.specs.Followed.{IsFitRun}
-use Rattle.law_3_outputs.proofs.StoredLists.{in_contains}
+use Rattle.law_2_chains.proofs.StoredLists.{in_contains}
 use Rattle.law_3_outputs.proofs.Sets.{in_get}
 use Rattle.law_6_one_log.specs.Outputs.{IsTrueAnswer, RestsOn}
 use Rattle.law_6_one_log.proofs.Traces.{said_in}

@@ -14,7 +14,7 @@ use Rattle.vr_header.specs.Names.{header_name}
 use Rattle.vr_header.specs.declared.operation.Operation.{Operation}
 use Rattle.vr_header.specs.declared.operation.Operation.TheVariants.{Register}
 use Rattle.vr_msg.specs.declared.request.RequestFields.{RequestFields}
-use Rattle.vr_node.specs.Fit.{IsAsked}
+use Rattle.vr_rules.specs.Fit.{IsAsked}
 use Rattle.vr_status.specs.declared.status.Status.{Status}
 use Rattle.vr_status.specs.declared.status.Status.TheVariants as status
 use Rattle.vr_trial.specs.Run as trial

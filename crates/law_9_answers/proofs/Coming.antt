@@ -12,19 +12,18 @@ use Rattle.vr_msg.specs.declared.output.Output.TheVariants as output
 use Rattle.vr_msg.specs.declared.output.Sent.{Sent}
 use Rattle.vr_msg.specs.declared.reply.ReplyFields.{ReplyFields}
 use Rattle.vr_msg.specs.declared.request.RequestFields.{RequestFields}
-use Rattle.vr_node.specs.Fit.{IsAsked}
-use Rattle.vr_node.specs.Outputs.{messages}
-use Rattle.vr_node.specs.Sectors.{sectors_by}
+use Rattle.vr_rules.specs.Fit.{IsAsked}
+use Rattle.vr_rules.specs.Outputs.{messages, asker_of}
+use Rattle.vr_rules.specs.Sectors.{sectors_by}
 use Rattle.vr_node.specs.declared.node.Node.{Node}
 use Rattle.vr_serve.specs.Runs.{Did}
-use Rattle.vr_world.specs.Asker.{Asker}
+use Rattle.vr_rules.specs.declared.asker.Asker.{Asker}
 use Rattle.vr_world.specs.Group.{Arrival, Asked, Message, Time}
 use Rattle.vr_world.specs.Lying.{Lying}
-use Rattle.vr_world.specs.Opening.{blank, opening}
-use Rattle.vr_world.specs.Outputs.{asker_of}
-use Rattle.vr_world.specs.Replica.{Replica, version}
-use Rattle.vr_world.specs.Rules.{asker_by, react}
-use Rattle.vr_world.specs.Steps.{Effect, outputs}
+use Rattle.vr_rules.specs.Opening.{blank, opening}
+use Rattle.vr_rules.specs.Replica.{Replica, version}
+use Rattle.vr_rules.specs.Rules.{asker_by, react}
+use Rattle.vr_rules.specs.Steps.{Effect, outputs}
 use Rattle.vr_world.specs.World.{Happened, World}
 use Rattle.law_1_machine.specs.Basics.{In}
 use Rattle.law_3_outputs.proofs.Sets.{get_in, in_left, in_right}

@@ -23,7 +23,7 @@ use Rattle.vr_msg.specs.declared.reply.ReplyFields.{ReplyFields}
 use Rattle.vr_msg.specs.declared.reply.ReplyKind.{ReplyKind}
 use Rattle.vr_msg.specs.declared.reply.ReplyKind.TheVariants as reply
 use Rattle.law_1_machine.specs.Basics.{In}
-use Rattle.law_3_outputs.proofs.StoredLists.{contains_in}
+use Rattle.law_2_chains.proofs.StoredLists.{contains_in}
 use Rattle.law_7_members.specs.Files.{ActBy}
 use Rattle.law_7_members.specs.Whole.{all_said}
 use Rattle.law_9_answers.specs.Heard.{IsPutOut, kind_of, heard}

@@ -17,7 +17,7 @@ use Rattle.vr_node.specs.declared.node.Node.{Node}
 use Rattle.vr_serve.specs.Runs.{Did}
 use Rattle.vr_world.specs.Group.{Asked}
 use Rattle.law_1_machine.specs.Basics.{In}
-use Rattle.law_3_outputs.proofs.StoredLists.{contains_in, in_contains}
+use Rattle.law_2_chains.proofs.StoredLists.{contains_in, in_contains}
 use Rattle.law_7_members.specs.Files.{ActBy, Handles, act_by}
 use Rattle.law_7_members.specs.Whole.{all_said}
 use Rattle.law_9_answers.specs.Heard.{IsNamed}

@@ -6,7 +6,7 @@ use Rattle.vr_header.specs.Made.{Whole}
 use Rattle.vr_header.specs.Names.{header_name}
 use Rattle.vr_header.specs.Spelling.{IsHeader}
 use Rattle.vr_header.specs.declared.header.Header.{Header}
-use Rattle.vr_lie.specs.Copies.{SuperValue}
+use Rattle.vr_super.specs.Copies.{SuperValue}
 use Rattle.vr_msg.specs.declared.event.Event.{Event}
 use Rattle.vr_msg.specs.declared.event.Event.TheVariants as event
 use Rattle.vr_msg.specs.declared.frame.Frame.TheVariants as frame
@@ -18,10 +18,10 @@ use Rattle.vr_msg.specs.declared.request.RequestFields.{RequestFields}
 use Rattle.vr_world.specs.Group as group
 use Rattle.vr_world.specs.Group.{Arrival, Asked, IsArrival, Member, Message, Move, Moved, Moves, Played, Runs, Time, fresh_group, made_by_effect, made_in, migration, opening_script, stepped}
 use Rattle.vr_world.specs.Lying.{Lying, lying}
-use Rattle.vr_world.specs.Replica.{Replica, header_at, part_at}
-use Rattle.vr_world.specs.Rules.{next_entry}
+use Rattle.vr_rules.specs.Replica.{Replica, header_at, part_at}
+use Rattle.vr_rules.specs.Rules.{next_entry}
 use Rattle.vr_world.specs.Safe.{run_outputs}
-use Rattle.vr_world.specs.Steps.{Write}
+use Rattle.vr_rules.specs.Steps.{Write}
 use Rattle.law_1_machine.specs.Basics.{In}
 use Rattle.law_1_machine.specs.Group.{Group, Made, made_at}
 use Rattle.law_1_machine.specs.History.{History}
@@ -30,12 +30,12 @@ use Rattle.law_1_machine.specs.Machine.{is_known}
 use Rattle.law_1_machine.specs.Parts.{header}
 use Rattle.law_1_machine.proofs.Moves.{reached_good}
 use Rattle.law_2_chains.proofs.Making.{written_made}
-use Rattle.law_2_chains.proofs.Taking.{log_reaches}
+use Rattle.vr_rules.proofs.Taking.{log_reaches}
 use Rattle.law_2_chains.proofs.Writing.{told_header}
-use Rattle.law_3_outputs.specs.Bridge.{Bridges, IsSent}
-use Rattle.law_3_outputs.specs.Chains.{Setup, WasMade, WasSent}
+use Rattle.law_2_chains.specs.Bridge.{Bridges, IsSent}
+use Rattle.law_2_chains.specs.Chains.{Setup, WasMade, WasSent}
 use Rattle.law_3_outputs.specs.Followed.{IsFitRun, IsFollowed}
-use Rattle.law_3_outputs.specs.Reflecting.{entries_by}
+use Rattle.law_2_chains.specs.Reflecting.{entries_by}
 use Rattle.law_3_outputs.specs.Written.{IsWellRead}
 use Rattle.law_3_outputs.proofs.Backed.{then_end}
 use Rattle.law_3_outputs.proofs.Fitting.{at_place, move_of}

@@ -6,7 +6,7 @@ use Rattle.vr_ask.specs.Asking.{Client}
 use Rattle.vr_ask.specs.Run as client
 use Rattle.vr_ask.specs.Run.{ClientEnds}
 use Rattle.vr_base.specs.declared.kind.Kind.{Kind}
-use Rattle.vr_world.specs.Opening.{AreKinds}
+use Rattle.vr_rules.specs.Opening.{AreKinds}
 use Rattle.vr_client.specs.declared.answer.Answer.{Answer}
 use Rattle.vr_edge.specs.Datagrams.{Came}
 use Rattle.vr_edge.specs.Told.{AppendsFront}

@@ -3,11 +3,10 @@ use Rattle.std.proofs.Common.{ℕ, ◌-◌, ◌≡◌, ◌∙◌, inl, inr, arit
 use Rattle.std.specs.Prelude.{slice_get, take}
 use Rattle.std.specs.Option.{option_map}
 use Rattle.std.proofs.lemmas.Bool.{cases_lt}
-use Rattle.vr_ckpt.specs.Folds.{answer_at, check, fresh_outcome, outcome_of, state_after}
-use Rattle.vr_ckpt.specs.Folds.{Answer as Said}
-use Rattle.vr_ckpt.specs.SessionAnswer.{SessionAnswer}
-use Rattle.vr_ckpt.specs.SessionAnswer.TheVariants as session
-use Rattle.vr_ckpt.specs.State.{State}
+use Rattle.vr_state.specs.Folds.{answer_at, check, fresh_outcome, outcome_of, state_after, Answer as Said}
+use Rattle.vr_state.specs.declared.session.SessionAnswer.{SessionAnswer}
+use Rattle.vr_state.specs.declared.session.SessionAnswer.TheVariants as session
+use Rattle.vr_state.specs.declared.state.State.{State}
 use Rattle.vr_header.specs.Made.{Whole}
 use Rattle.vr_header.specs.declared.header.Header.{Header}
 use Rattle.vr_header.specs.declared.outcome.Outcome.{Outcome}

@@ -12,22 +12,22 @@ use Rattle.vr_msg.specs.declared.frame.Frame.{Frame}
 use Rattle.vr_msg.specs.declared.output.Output.{Output}
 use Rattle.vr_msg.specs.declared.output.Output.TheVariants as output
 use Rattle.vr_msg.specs.declared.output.Sent.{Sent}
+use Rattle.vr_rules.specs.Steps.{Write}
+use Rattle.vr_world.specs.Commitment as said
+use Rattle.vr_world.specs.Commitment.{Evidence, HasSent, IsCommitted, Stored, Vouches}
+use Rattle.vr_world.specs.Group.{Played}
+use Rattle.vr_world.specs.Safe as safe
+use Rattle.vr_world.specs.Safe.{IsHashed, before, evidence, given, read, run_outputs, wrote}
+use Rattle.vr_world.specs.Storing.{done_in, run_stored, stored_from, stored_of, until_said}
 use Rattle.law_1_machine.specs.Basics.{In}
-use Rattle.law_3_outputs.specs.Chains.{Setup}
-use Rattle.law_3_outputs.specs.Commitment as said
-use Rattle.law_3_outputs.specs.Commitment.{Evidence, HasSent, IsCommitted, Stored, Vouches}
+use Rattle.law_2_chains.specs.Chains.{Setup}
+use Rattle.law_2_chains.proofs.StoredLists.{contains_in, in_contains}
 use Rattle.law_3_outputs.specs.Followed.{IsFitRun, IsFollowed, IsGoodEntry, stored_until}
-use Rattle.law_3_outputs.specs.Group.{Played}
-use Rattle.law_3_outputs.specs.Safe as safe
-use Rattle.law_3_outputs.specs.Safe.{IsHashed, before, evidence, given, read, run_outputs, wrote}
-use Rattle.law_3_outputs.specs.Steps.{Write}
-use Rattle.law_3_outputs.specs.Storing.{done_in, run_stored, stored_from, stored_of, until_said}
 use Rattle.law_3_outputs.proofs.Fitting.{writes_good}
 use Rattle.law_3_outputs.proofs.Forth.{Told, told, written_hashed}
 use Rattle.law_3_outputs.proofs.Log.{in_log, the_log}
 use Rattle.law_3_outputs.proofs.Sets.{get_in, in_get, in_left, in_right}
 use Rattle.law_3_outputs.proofs.Stored.{until_all}
-use Rattle.law_3_outputs.proofs.StoredLists.{contains_in, in_contains}
 use Rattle.law_3_outputs.proofs.Traces.{WasWritten, in_either, output_in, outputs_front}
 use Rattle.law_6_one_log.proofs.Following.{follows_it}
 use Rattle.law_9_asked.proofs.Scripts.{in_take}

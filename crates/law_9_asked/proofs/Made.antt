@@ -2,19 +2,19 @@
 use Rattle.std.proofs.Common.{ℕ, suc, ◌≤◌, ◌<◌, ◌≡◌, inl, inr, arith, refl, sym, ap, subst, Bool, true, List, ◌++◌}
 use Rattle.vr_header.specs.Made.{Whole}
 use Rattle.vr_header.specs.declared.header.Header.{Header}
-use Rattle.vr_lie.specs.Copies.{SuperValue}
+use Rattle.vr_super.specs.Copies.{SuperValue}
 use Rattle.vr_msg.specs.declared.frame.Frame.{Frame}
 use Rattle.vr_msg.specs.declared.frame.Frame.TheVariants as frame
 use Rattle.vr_msg.specs.declared.output.Output.TheVariants as output
 use Rattle.vr_msg.specs.declared.output.Sent.{Sent}
 use Rattle.vr_msg.specs.declared.request.RequestFields.{RequestFields}
-use Rattle.vr_world.specs.Asker.{Asker}
+use Rattle.vr_rules.specs.declared.asker.Asker.{Asker}
 use Rattle.vr_world.specs.Group as group
 use Rattle.vr_world.specs.Group.{Member, Move, Moved, Moves, Played, Run, Runs, made_by_effect, made_in, opening_script, stepped}
 use Rattle.vr_world.specs.Lying.{Lying, lying}
-use Rattle.vr_world.specs.Opening.{blank}
-use Rattle.vr_world.specs.Outputs.{messages}
-use Rattle.vr_world.specs.Steps.{Effect, Step, Write}
+use Rattle.vr_rules.specs.Opening.{blank}
+use Rattle.vr_rules.specs.Outputs.{messages}
+use Rattle.vr_rules.specs.Steps.{Effect, Step, Write}
 use Rattle.vr_world.proofs.InTwo.{opening_in_two}
 use Rattle.law_1_machine.specs.Basics.{In}
 use Rattle.law_1_machine.specs.Group.{Group, made_at}
@@ -22,8 +22,8 @@ use Rattle.law_1_machine.specs.History.{History}
 use Rattle.law_1_machine.specs.Invariant.{Invariant}
 use Rattle.law_1_machine.specs.Members as machine
 use Rattle.law_2_chains.proofs.Making.{logged_made}
-use Rattle.law_3_outputs.specs.Chains.{Setup, WasMade}
-use Rattle.law_3_outputs.specs.Reflecting.{entries_by}
+use Rattle.law_2_chains.specs.Chains.{Setup, WasMade}
+use Rattle.law_2_chains.specs.Reflecting.{entries_by}
 use Rattle.law_3_outputs.proofs.Sets.{in_left, in_right}
 use Rattle.law_3_outputs.proofs.Traces.{in_either}
 use Rattle.law_4_disks.specs.Worlds.{left}

@@ -9,18 +9,18 @@ use Rattle.vr_header.specs.NoCollision.{NoCollision}
 use Rattle.vr_header.specs.declared.header.Header.{Header}
 use Rattle.vr_msg.specs.declared.output.Output.TheVariants as output
 use Rattle.vr_msg.specs.declared.reply.ReplyFields.{ReplyFields}
+use Rattle.vr_rules.specs.Opening.{AreKinds}
+use Rattle.vr_world.specs.Commitment.{IsCommitted, lines_by}
+use Rattle.vr_world.specs.Group.{Group, Played, fresh_group}
+use Rattle.vr_world.specs.Lying.{Lying, hazards}
+use Rattle.vr_world.specs.Safe.{IsHashed, IsTrueReply, applied_then, before, evidence, run_outputs}
+use Rattle.vr_world.specs.World.{Happening, World, happen}
 use Rattle.law_1_machine.specs.Basics.{In}
-use Rattle.law_3_outputs.specs.Commitment.{IsCommitted, lines_by}
+use Rattle.law_2_chains.proofs.StoredLists.{contains_in}
 use Rattle.law_3_outputs.specs.Followed.{IsFitRun}
-use Rattle.law_3_outputs.specs.Group.{Group, Played, fresh_group}
-use Rattle.law_3_outputs.specs.Lying.{Lying, hazards}
-use Rattle.law_3_outputs.specs.Opening.{AreKinds}
-use Rattle.law_3_outputs.specs.Safe.{IsHashed, IsTrueReply, applied_then, before, evidence, run_outputs}
-use Rattle.law_3_outputs.specs.World.{Happening, World, happen}
 use Rattle.law_3_outputs.proofs.Backed.{one_whole}
 use Rattle.law_3_outputs.proofs.Log.{the_log}
 use Rattle.law_3_outputs.proofs.Sets.{in_get}
-use Rattle.law_3_outputs.proofs.StoredLists.{contains_in}
 use Rattle.law_3_outputs.proofs.Traces.{output_of_move}
 use Rattle.law_4_disks.specs.Worlds.{IsMatched, first_world, left}
 use Rattle.law_4_disks.proofs.Fresh.{schedules_begin}

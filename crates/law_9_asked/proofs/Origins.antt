@@ -6,8 +6,8 @@ use Rattle.vr_base.specs.Bytes.{name_of}
 use Rattle.vr_disk.specs.DiskState.{Fuse}
 use Rattle.vr_header.specs.Made.{Whole}
 use Rattle.vr_header.specs.declared.header.Header.{Header}
-use Rattle.vr_lie.specs.Calls.{mend_calls}
-use Rattle.vr_lie.specs.Copies.{SuperValue}
+use Rattle.vr_super.specs.Calls.{mend_calls}
+use Rattle.vr_super.specs.Copies.{SuperValue}
 use Rattle.vr_msg.specs.declared.event.Event.{Event}
 use Rattle.vr_msg.specs.declared.event.Event.TheVariants as event
 use Rattle.vr_msg.specs.declared.frame.Frame.{Frame}
@@ -15,14 +15,14 @@ use Rattle.vr_msg.specs.declared.frame.Frame.TheVariants as frame
 use Rattle.vr_msg.specs.declared.frame.Prepare.{Prepare}
 use Rattle.vr_msg.specs.declared.output.Sent.{Sent}
 use Rattle.vr_msg.specs.declared.request.RequestFields.{RequestFields}
-use Rattle.vr_world.specs.Asker.{Asker}
+use Rattle.vr_rules.specs.declared.asker.Asker.{Asker}
 use Rattle.vr_world.specs.Group as group
 use Rattle.vr_world.specs.Group.{Member, Move, Moved, Moves, Played, Run, Runs, made_by_effect, made_in, opening_script, stepped}
 use Rattle.vr_world.specs.Lying.{Lying, hazards, lying}
-use Rattle.vr_world.specs.Opening.{blank, opened, opening}
-use Rattle.vr_world.specs.Replica.{Replica, header_at, part_at, version}
-use Rattle.vr_world.specs.Rules.{next_entry, react}
-use Rattle.vr_world.specs.Steps.{Effect, Write, Mend}
+use Rattle.vr_rules.specs.Opening.{blank, opened, opening}
+use Rattle.vr_rules.specs.Replica.{Replica, header_at, part_at, version}
+use Rattle.vr_rules.specs.Rules.{next_entry, react}
+use Rattle.vr_rules.specs.Steps.{Effect, Write, Mend}
 use Rattle.vr_world.specs.World as world
 use Rattle.vr_world.specs.World.{Happening, Host, World, happens, in_version}
 use Rattle.law_1_machine.specs.Basics.{In}
@@ -34,12 +34,12 @@ use Rattle.law_1_machine.specs.Parts.{header}
 use Rattle.law_1_machine.proofs.Moves.{reached_good}
 use Rattle.law_2_chains.proofs.Making.{written_made}
 use Rattle.law_2_chains.proofs.Writing.{told_header}
-use Rattle.law_3_outputs.specs.Bridge.{Bridges, IsSent}
-use Rattle.law_3_outputs.specs.Chains.{Setup, WasMade, WasSent}
-use Rattle.law_3_outputs.specs.Reflecting.{entries_by}
+use Rattle.law_2_chains.specs.Bridge.{Bridges, IsSent}
+use Rattle.law_2_chains.specs.Chains.{Setup, WasMade, WasSent}
+use Rattle.law_2_chains.specs.Reflecting.{entries_by}
 use Rattle.law_3_outputs.proofs.Fitting.{at_place}
 use Rattle.law_3_outputs.proofs.Sets.{get_in, in_get, in_right}
-use Rattle.law_3_outputs.proofs.StoredLists.{contains_in, in_contains}
+use Rattle.law_2_chains.proofs.StoredLists.{contains_in, in_contains}
 use Rattle.law_3_outputs.proofs.Traces.{in_either}
 use Rattle.law_4_disks.specs.Worlds.{IsOneMove, Migration, begun_in, begun_of, handling, asking, left, migrating, moved_by, moved_of, moved_once, opening_as, read_in, starting, starting_by, stepping, unmoved}
 use Rattle.law_6_one_log.specs.ScheduleLaws.{IsUnforgedBeside}

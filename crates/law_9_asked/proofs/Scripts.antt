@@ -8,11 +8,11 @@ use Rattle.vr_header.specs.declared.header.Header.{Header}
 use Rattle.vr_msg.specs.declared.output.Output.{Output}
 use Rattle.vr_msg.specs.declared.output.Output.TheVariants as output
 use Rattle.vr_msg.specs.declared.output.Sent.{Sent}
+use Rattle.vr_rules.specs.Outputs.{messages}
+use Rattle.vr_rules.specs.Sectors.{calls_by}
+use Rattle.vr_rules.specs.Steps.{Effect, Write, Rewrite, Save, Mend, Checkpoint, PutBlock, Say, outputs}
 use Rattle.vr_world.specs.Group.{made_by_effect, made_in}
 use Rattle.vr_world.specs.Lying.{Lying}
-use Rattle.vr_world.specs.Outputs.{messages}
-use Rattle.vr_world.specs.Sectors.{calls_by}
-use Rattle.vr_world.specs.Steps.{Effect, Write, Rewrite, Save, Mend, Checkpoint, PutBlock, Say, outputs}
 use Rattle.law_1_machine.specs.Basics.{In}
 use Rattle.law_3_outputs.proofs.Sets.{in_left, in_right}
 use Rattle.law_3_outputs.proofs.Traces.{in_either}

@@ -1,7 +1,7 @@
 -- Which request an entry was made of, and when that was asked of a member.
 use Rattle.std.specs.Prelude.{ℕ, ◌-◌, ◌<◌, ◌≤◌, ◌≡◌, ◌⊎◌, List, ◌++◌, Contains, slice_get, take, Some}
-use Rattle.vr_ckpt.specs.Folds.{check, outcome_of, state_after}
-use Rattle.vr_ckpt.specs.SessionAnswer.TheVariants as session
+use Rattle.vr_state.specs.Folds.{check, outcome_of, state_after}
+use Rattle.vr_state.specs.declared.session.SessionAnswer.TheVariants as session
 use Rattle.vr_header.specs.Made.{Whole}
 use Rattle.vr_header.specs.Names.{no_name, request_header}
 use Rattle.vr_header.specs.declared.command.Command.TheVariants as command

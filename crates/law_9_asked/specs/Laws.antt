@@ -4,8 +4,8 @@ use Rattle.std.specs.List.{AllByRecursion}
 use Rattle.vr_base.specs.Groups.{least_members}
 use Rattle.vr_base.specs.declared.kind.Kind.{Kind}
 use Rattle.vr_header.specs.NoCollision.{NoCollision}
+use Rattle.vr_rules.specs.Opening.{AreKinds, IsKind}
 use Rattle.vr_world.specs.Lying.{hazards}
-use Rattle.vr_world.specs.Opening.{AreKinds, IsKind}
 use Rattle.vr_world.specs.World.{Happening, fresh_world, happen}
 use Rattle.law_4_disks.specs.Worlds.{IsLine, first_world}
 use Rattle.law_6_one_log.specs.Laws.{KeepsLog, KeepsOneLog}

@@ -14,7 +14,7 @@ use Rattle.vr_replay.proofs.Few.{few_lines}
 use Rattle.vr_replay.proofs.Headline.{schedule_read}
 use Rattle.vr_soak.specs.Made.{lines_from, size_of}
 use Rattle.vr_soak.proofs.Asked.{lines_asked, lines_count, lines_fit}
-use Rattle.vr_world.specs.Opening.{IsKind}
+use Rattle.vr_rules.specs.Opening.{IsKind}
 use Rattle.law_9_asked.proofs.Ordered.{schedules_keep_order}
 use Rattle.law_9_lines.specs.Laws.{LinesKeepOrder, ReplaysKeepOrder, SoaksKeepOrder}
 

@@ -13,7 +13,7 @@ use Rattle.vr_world.specs.Safe as safe
 use Rattle.vr_world.specs.World as world
 use Rattle.vr_world.specs.World.{Happened, Happening, Host, World, happen, nothing}
 use Rattle.law_1_machine.specs.Basics.{In}
-use Rattle.law_3_outputs.proofs.StoredLists.{contains_in, in_contains}
+use Rattle.law_2_chains.proofs.StoredLists.{contains_in, in_contains}
 use Rattle.law_3_outputs.proofs.Traces.{in_either}
 use Rattle.law_6_one_log.specs.Laws.{KeepsLog}
 use Rattle.law_6_one_log.specs.Schedules.{IsHashedOf, MayFollow, room}

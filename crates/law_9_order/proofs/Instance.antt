@@ -12,7 +12,7 @@ use Rattle.vr_msg.specs.declared.request.RequestFields.{RequestFields}
 use Rattle.vr_world.specs.Group.{Asked, Message}
 use Rattle.law_1_machine.specs.Basics.{In}
 use Rattle.law_3_outputs.proofs.Sets.{in_left, in_right}
-use Rattle.law_3_outputs.proofs.StoredLists.{contains_in, in_contains}
+use Rattle.law_2_chains.proofs.StoredLists.{contains_in, in_contains}
 use Rattle.law_7_members.specs.Files.{ActBy, Breaks, Handles, act_by, puts_out}
 use Rattle.law_7_members.specs.Whole.{all_said}
 use Rattle.law_9_answers.specs.Heard.{Heard}

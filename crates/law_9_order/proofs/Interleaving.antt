@@ -13,11 +13,11 @@ use Rattle.vr_msg.specs.declared.output.Output.TheVariants as output
 use Rattle.vr_msg.specs.declared.reply.Answered.{Answered}
 use Rattle.vr_msg.specs.declared.request.RequestFields.{RequestFields}
 use Rattle.vr_world.specs.Lying.{Lying}
-use Rattle.vr_world.specs.Opening.{AreKinds}
+use Rattle.vr_rules.specs.Opening.{AreKinds}
 use Rattle.vr_world.specs.World.{Host}
 use Rattle.law_1_machine.specs.Basics.{In}
 use Rattle.law_3_outputs.proofs.Sets.{in_left, in_right}
-use Rattle.law_3_outputs.proofs.StoredLists.{contains_in, in_contains}
+use Rattle.law_2_chains.proofs.StoredLists.{contains_in, in_contains}
 use Rattle.law_7_members.specs.Files.{ActBy, puts_out}
 use Rattle.law_7_members.specs.Whole.{KeepOneLog, all_said, world_of}
 use Rattle.law_9_answers.specs.Heard as heard

@@ -7,18 +7,19 @@ use Rattle.std.specs.Ordering.{nat_cmp}
 use Rattle.std.proofs.lemmas.Bool.{and_from, cases_eq, cases_lt, eq-eqb, or_left, or_right, true≢false}
 use Rattle.std.proofs.lemmas.List.{append_assoc}
 use Rattle.vr_base.specs.Versions.{session_limit}
-use Rattle.vr_ckpt.specs.Folds as folds
-use Rattle.vr_ckpt.specs.Folds.{answered, applied, begins_session, check, empty, executed, fresh_at, outcome_of, state_after}
-use Rattle.vr_ckpt.specs.SessionAnswer.{SessionAnswer}
-use Rattle.vr_ckpt.specs.SessionAnswer.TheVariants as answer
-use Rattle.vr_ckpt.specs.Sessions as sess
-use Rattle.vr_ckpt.specs.Sessions.{Map, checked, judged, oldest, without_oldest}
-use Rattle.vr_ckpt.specs.Session.{Session}
-use Rattle.vr_ckpt.specs.State.{State}
-use Rattle.vr_ckpt.proofs.SessionSteps.{find_put_other, find_without_other, find_without_own}
+use Rattle.vr_state.specs.Folds as folds
+use Rattle.vr_state.specs.Folds.{answered, applied, begins_session, check, empty, executed, fresh_at, outcome_of, state_after}
+use Rattle.vr_state.specs.declared.session.SessionAnswer.{SessionAnswer}
+use Rattle.vr_state.specs.declared.session.SessionAnswer.TheVariants as answer
+use Rattle.vr_state.specs.Sessions as sess
+use Rattle.vr_state.specs.Sessions.{Map, checked, judged, oldest, without_oldest}
+use Rattle.vr_state.specs.declared.session.Session.{Session}
+use Rattle.vr_state.specs.declared.state.State.{State}
+use Rattle.vr_state.proofs.SessionSteps.{find_put_other, find_without_other, find_without_own}
 use Rattle.vr_header.specs.Made.{Whole}
-use Rattle.vr_ckpt.specs.Asks.{is_fresh}
-use Rattle.vr_ckpt.specs.Finite.{find, put, without}
+use Rattle.vr_state.specs.Asks.{is_fresh}
+use Rattle.std.specs.FinMap.Entries.{find, put}
+use Rattle.vr_state.specs.Finite.{without}
 use Rattle.vr_msg.specs.declared.reply.Answered.{Answered}
 use Rattle.vr_msg.specs.declared.request.RequestFields.{RequestFields}
 use Rattle.law_6_one_log.specs.Outputs.{IsOnceInSession}

@@ -12,7 +12,7 @@ use Rattle.vr_msg.specs.declared.request.RequestFields.{RequestFields}
 use Rattle.vr_world.specs.Commitment.{IsOutcomeOf, IsReplyOf}
 use Rattle.law_1_machine.specs.Basics.{In}
 use Rattle.law_3_outputs.proofs.Sets.{in_left}
-use Rattle.law_3_outputs.proofs.StoredLists.{contains_in, in_contains}
+use Rattle.law_2_chains.proofs.StoredLists.{contains_in, in_contains}
 use Rattle.law_6_one_log.specs.Outputs.{IsOnceInSession}
 use Rattle.law_7_members.specs.Files.{ActBy}
 use Rattle.law_9_answers.specs.Heard.{Heard}

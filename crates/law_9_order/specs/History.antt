@@ -1,6 +1,6 @@
 -- What clients ask and hear, and what befalls members meanwhile, in the order of time; and when the log has that order.
 use Rattle.std.specs.Prelude.{ℕ, ◌-◌, ◌<◌, ◌≤◌, ◌≡◌, IsTrue, List, [], ◌∷◌, ◌++◌, Contains, Some, slice_get}
-use Rattle.vr_ckpt.specs.Folds.{begins_session, empty, state_after}
+use Rattle.vr_state.specs.Folds.{begins_session, empty, state_after}
 use Rattle.vr_client.specs.declared.answer.Answer.TheVariants as answer
 use Rattle.vr_header.specs.Made.{Whole}
 use Rattle.vr_msg.specs.declared.output.Output.TheVariants as output

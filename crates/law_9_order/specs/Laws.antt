@@ -15,7 +15,7 @@ use Rattle.vr_node.specs.declared.node.Node.{Node}
 use Rattle.vr_serve.specs.Runs.{Did}
 use Rattle.vr_world.specs.Group.{Asked, Message}
 use Rattle.vr_world.specs.Lying.{Lying}
-use Rattle.vr_world.specs.Opening.{AreKinds}
+use Rattle.vr_rules.specs.Opening.{AreKinds}
 use Rattle.vr_world.specs.World.{Host}
 use Rattle.law_6_one_log.specs.Schedules.{IsHashedOf}
 use Rattle.law_7_members.specs.Files.{ActBy, Breaks, Handles, act_by, all_lines}

@@ -6,8 +6,9 @@ use Rattle.std.proofs.lemmas.Bool.{le-ltb}
 use Rattle.std.proofs.lemmas.List.Elements.{All-weaker}
 use Rattle.std.proofs.lemmas.List.Sums.{prefix_len_passes}
 use Rattle.vr_header.specs.declared.part.Part.TheVariants.{Nothing}
+use Rattle.vr_header.specs.Parts.{has_header}
 use Rattle.vr_msg.specs.declared.statement.Statement.{Statement}
-use Rattle.vr_msg.specs.Logs.{IsStatement, has_header}
+use Rattle.vr_msg.specs.Logs.{IsStatement}
 use Rattle.vr_msg.specs.Choice.{stated_header}
 use Rattle.vr_choose.specs.Statements.{IsSomeStatement}
 

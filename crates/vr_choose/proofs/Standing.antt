@@ -8,8 +8,9 @@ use Rattle.std.proofs.lemmas.List.Elements.{All-contains}
 use Rattle.vr_header.specs.declared.header.Header.{Header}
 use Rattle.vr_header.specs.declared.part.Part.{Part}
 use Rattle.vr_header.specs.declared.part.Part.TheVariants.{Here, Lost, Wanted, Unknown, Nothing}
+use Rattle.vr_header.specs.Parts.{header_of}
 use Rattle.vr_msg.specs.declared.statement.Statement.{Statement}
-use Rattle.vr_msg.specs.Logs.{FromOp, IsEntryAt, IsPartAt, IsStatement, header_of}
+use Rattle.vr_msg.specs.Logs.{FromOp, IsEntryAt, IsPartAt, IsStatement}
 use Rattle.vr_msg.specs.Choice.{stated_header, top_view, top_commit, named, farthest, start_of, log_start, chosen_header}
 use Rattle.vr_choose.specs.Laws.{HeadersStand, HeadersFew}
 use Rattle.vr_choose.proofs.Logs.{found, chosen_front, chosen_open}

@@ -6,7 +6,8 @@ use Rattle.std.proofs.lemmas.List.Sums.{prefix_len_is}
 use Rattle.std.proofs.lemmas.List.Elements.{All-head, All-tail}
 use Rattle.vr_header.specs.declared.part.Part.{Part}
 use Rattle.vr_header.specs.declared.part.Part.TheVariants.{Nothing}
-use Rattle.vr_msg.specs.Logs.{IsStatement, FromOp, IsPartAt, has_header}
+use Rattle.vr_header.specs.Parts.{has_header}
+use Rattle.vr_msg.specs.Logs.{IsStatement, FromOp, IsPartAt}
 
 pub FromOp-push : {X : Type 0} (P : ℕ → X → Type 0) (op : ℕ) (xs : List X) (x : X) → FromOp P op xs → P (op + length xs) x → FromOp P op (xs ++ x ∷ [])
 FromOp-push P op [] x all is = let e : op + 0 ≡ op = omega arith in (rw e at is, tt)

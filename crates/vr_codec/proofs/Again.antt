@@ -23,7 +23,8 @@ use Rattle.vr_msg.specs.declared.statement.Statement.{Statement}
 use Rattle.vr_msg.specs.Asking.{IsKindValue, IsReplyKind}
 use Rattle.vr_msg.specs.declared.frame.SyncView.{SyncView}
 use Rattle.vr_msg.specs.Forms.{IsFrame, IsSyncView}
-use Rattle.vr_msg.specs.Logs.{FromOp, IsEntryAt, IsPartAt, IsStatement, has_header}
+use Rattle.vr_msg.specs.Logs.{FromOp, IsEntryAt, IsPartAt, IsStatement}
+use Rattle.vr_header.specs.Parts.{has_header}
 use Rattle.vr_codec.specs.Reading.{frame_for, kind_at}
 use Rattle.vr_codec.specs.Shapes.{body_fits, entry_fits, has_shape, is_asked, is_body, is_view, kind_fits, log_fits, numbers_fit, parts_fit, statement_fits, sync_fits, tags_run, unused_names_are_zero, unused_numbers_are_zero}
 use Rattle.vr_msg.specs.Spelling.{AreHeaders, IsBodyValue, IsName, body_bytes, command_for, frame_header, headers_bytes, kind_bytes, kind_number, kind_op, known, parts_bytes, sync_bytes, tag}

@@ -30,7 +30,8 @@ use Rattle.vr_msg.specs.declared.statement.DvcBody.{DvcBody}
 use Rattle.vr_msg.specs.declared.statement.Statement.{Statement}
 use Rattle.vr_msg.specs.Asking.{IsKindValue, IsReplyKind}
 use Rattle.vr_msg.specs.Forms.{IsFrame}
-use Rattle.vr_msg.specs.Logs.{IsStatement, has_header}
+use Rattle.vr_msg.specs.Logs.{IsStatement}
+use Rattle.vr_header.specs.Parts.{has_header}
 use Rattle.vr_codec.specs.Reading.{body_at, frame_for, headers_at, kind_at, parts_at}
 use Rattle.vr_codec.specs.Shapes.{body_fits, entry_fits, has_shape, is_asked, is_at, is_body, is_no_name, is_view, kind_fits, knows, log_fits, numbers_fit, parts_fit, sync_fits, tags_run, unused_names_are_zero, unused_numbers_are_zero, uses_aux, uses_client, uses_commit, uses_op, uses_parent, uses_replica, uses_request_name, uses_view}
 use Rattle.vr_msg.specs.Spelling.{AreHeaders, IsBodyValue, body_bytes, frame_header, headers_bytes, kind_bytes, kind_number, kind_op, known, parts_bytes, sync_bytes}

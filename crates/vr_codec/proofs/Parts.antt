@@ -14,7 +14,8 @@ use Rattle.vr_header.specs.declared.part.Part.TheVariants.{Here, Lost, Wanted, U
 use Rattle.vr_header.specs.Spelling.{decoded_header, header_bytes}
 use Rattle.vr_msg.proofs.Short.{length-tags}
 use Rattle.vr_msg.specs.declared.statement.DvcBody.{DvcBody}
-use Rattle.vr_msg.specs.Logs.{FromOp, IsPartAt, has_header}
+use Rattle.vr_msg.specs.Logs.{FromOp, IsPartAt}
+use Rattle.vr_header.specs.Parts.{has_header}
 use Rattle.vr_codec.specs.Reading.{body_at, part_of_tag, parts_at, rest_at}
 use Rattle.vr_codec.specs.Shapes.{after_tag, begins_entry, knows, tags_fit}
 use Rattle.vr_msg.specs.Spelling.{AreHeaders, headers_bytes, known, parts_bytes, tag}

@@ -1,6 +1,7 @@
 -- What the next call of an object in memory does.
 use Rattle.std.specs.Prelude.{ℕ, ◌-◌, min, Bool, if◌then◌else◌, Result, Ok, Err, length, vec_len, ◌==◌, ◌||◌}
-use Rattle.vr_edge.specs.Counts.{is_listed, one_more}
+use Rattle.vr_base.specs.Causes.{one_more}
+use Rattle.vr_edge.specs.Counts.{is_listed}
 use Rattle.vr_edge.specs.declared.mem_sink.MemSink.{MemSink}
 use Rattle.vr_edge.specs.declared.mem_source.MemSource.{MemSource}
 use Rattle.vr_edge.specs.declared.sink.WriteFailed.{WriteFailed}

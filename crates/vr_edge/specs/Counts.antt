@@ -1,7 +1,7 @@
 -- Numbers of calls, and counts of them.
 use Rattle.std.specs.Prelude.{ℕ, ◌<◌, ◌≤◌, ◌≡◌, List, Bool, ◌==◌, Result, Ok, IfOk, OnOk, OnErr}
 use Rattle.std.specs.List.{list_any}
-pub use Rattle.vr_base.specs.Causes.{one_more}
+use Rattle.vr_base.specs.Causes.{one_more}
 
 -- the call with this number is among these
 abbrev pub is_listed : List ℕ → ℕ → Bool

@@ -1,8 +1,8 @@
 //! A link in memory.
 ghost use Rattle.std.specs.Prelude.{◌≡◌, ◌≤◌, ◌<◌, ◌+◌, [], ◌∷◌, Option, Some, IfOk, IfSome, vec_capacity, vec_len, if◌then◌else◌, length};
 ghost use Rattle.std.specs.Option.{option_map, option_to_list};
-ghost use Rattle.vr_base.specs.Causes.{HasCause};
-ghost use Rattle.vr_edge.specs.Counts.{is_listed, one_more};
+ghost use Rattle.vr_base.specs.Causes.{HasCause, one_more};
+ghost use Rattle.vr_edge.specs.Counts.{is_listed};
 ghost use Rattle.vr_edge.specs.Attaching.{attached_by, texts_of};
 ghost use Rattle.vr_edge.specs.Datagrams.{sent_by, received_by};
 ghost use Rattle.vr_edge.specs.Logs.{told};

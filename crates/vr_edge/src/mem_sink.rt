@@ -2,7 +2,8 @@
 ghost use Rattle.std.specs.Prelude.{◌≡◌, ◌≤◌, [], Some, IfOk, length, vec_len, vec_capacity, if◌then◌else◌};
 ghost use Rattle.std.specs.Io.{WritesAtMost};
 ghost use Rattle.std.specs.Io.KnownBytes.{WriteAppends};
-ghost use Rattle.vr_edge.specs.Counts.{HasWriteCause, one_more};
+ghost use Rattle.vr_base.specs.Causes.{one_more};
+ghost use Rattle.vr_edge.specs.Counts.{HasWriteCause};
 
 use crate::calls::is_listed;
 use crate::{Sink, WriteFailed};

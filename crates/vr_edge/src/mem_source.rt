@@ -2,8 +2,7 @@
 ghost use Rattle.std.specs.Prelude.{◌≡◌, ◌≤◌, ◌<◌, [], Some, IfOk, drop, false, length, min, true, if◌then◌else◌};
 ghost use Rattle.std.specs.Io.{ReadsAtMost};
 ghost use Rattle.std.specs.Io.KnownBytes.{ReadConsumes};
-ghost use Rattle.vr_base.specs.Causes.{HasCause};
-ghost use Rattle.vr_edge.specs.Counts.{one_more};
+ghost use Rattle.vr_base.specs.Causes.{HasCause, one_more};
 ghost use Rattle.vr_edge.specs.Told.{ZeroAtEnd};
 
 use crate::calls::is_listed;

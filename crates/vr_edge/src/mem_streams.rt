@@ -1,8 +1,8 @@
 //! Streams in memory.
 ghost use Rattle.std.specs.Prelude.{◌≡◌, ◌≤◌, ◌<◌, ◌+◌, [], ◌∷◌, List, Option, Some, ℕ, IfOk, IfSome, is_some, OnErr, OnOk, if◌then◌else◌, length, vec_len, replicate, false, true, slice_get, slice_set, unwrap_or};
-ghost use Rattle.vr_base.specs.Causes.{HasCause};
+ghost use Rattle.vr_base.specs.Causes.{HasCause, one_more};
 ghost use Rattle.vr_edge.specs.Attaching.{attached_by, texts_of};
-ghost use Rattle.vr_edge.specs.Counts.{is_listed, one_more};
+ghost use Rattle.vr_edge.specs.Counts.{is_listed};
 ghost use Rattle.vr_edge.specs.Streaming.{IsPolled, polled_by, written_by};
 ghost use Rattle.vr_edge.specs.StreamScripts.{gives, is_left_out, left_behind};
 ghost use Rattle.vr_edge.specs.Stocks.{Fits, FitsOne, IsStock, Took, TookOne};

@@ -37,8 +37,8 @@ pub struct Outbox {
 }
 
 impl Outbox {
+    ghost use Rattle.vr_base.specs.Causes.{one_more};
     ghost use Rattle.vr_edge.specs.Sending.{outbox_told, has_room, datagram_at, marked};
-    ghost use Rattle.vr_edge.specs.Counts.{one_more};
     ghost use Rattle.vr_edge.specs.Told.{Grows};
 
     #[tactic(auto, unfolding(crate::specs::Sending::entries))]

@@ -6,32 +6,32 @@ use Rattle.vr_base.specs.declared.memory.NoMemory.{NoMemory as WantsMemory}
 use Rattle.vr_base.specs.declared.table.Config.{Config}
 use Rattle.vr_disk.specs.DiskState.{Disk, Face, Fate, Runs}
 use Rattle.vr_disk.specs.Regions.{sectors}
-use Rattle.vr_lie.specs.CopyVerdict.{CopyVerdict}
+use Rattle.vr_super.specs.declared.recovering.CopyVerdict.{CopyVerdict}
 use Rattle.vr_cells.specs.Seen.{copies, zero_cell}
 use Rattle.vr_msg.specs.declared.event.Event.{Event}
 use Rattle.vr_msg.specs.declared.output.Output.{Output}
 use Rattle.vr_msg.specs.declared.output.Output.TheVariants as output
 use Rattle.vr_lying.specs.Disks.{calm}
 use Rattle.vr_lying.specs.Laws.{revived}
-use Rattle.vr_lying.specs.Lying.{Lying, hazards}
+use Rattle.vr_world.specs.Lying.{Lying, hazards}
 use Rattle.vr_lying.specs.Told.{IsTold}
-use Rattle.vr_lying.specs.World.{Acted, Host, fresh_host, fused, handles, starts}
+use Rattle.vr_world.specs.World.{Acted, Host, fresh_host, fused, handles, starts}
 use Rattle.vr_lying.proofs.Telling.{zeros_lie}
-use Rattle.vr_replica.specs.Does.{Does}
-use Rattle.vr_replica.specs.Formatting.{format_calls}
-use Rattle.vr_replica.specs.Halt.{Halt}
-use Rattle.vr_replica.specs.Halt.TheVariants.{DiskFault}
-use Rattle.vr_replica.specs.Making.{Made}
-use Rattle.vr_replica.specs.Opening.{blank, fresh, opening}
-use Rattle.vr_replica.specs.Recovering.{RecoveredAny}
-use Rattle.vr_replica.specs.Refusal.{Refusal}
-use Rattle.vr_replica.specs.Refusal.TheVariants.{Halted, Lost}
-use Rattle.vr_replica.specs.Replica.{Replica, version}
-use Rattle.vr_replica.specs.Rules.{react}
+use Rattle.vr_step.specs.Does.{Does}
+use Rattle.vr_rules.specs.Formatting.{format_calls}
+use Rattle.vr_disk.specs.declared.fault.Halt.{Halt}
+use Rattle.vr_disk.specs.declared.fault.Halt.TheVariants.{DiskFault}
+use Rattle.vr_opening.specs.Making.{Made}
+use Rattle.vr_rules.specs.Opening.{blank, fresh, opening}
+use Rattle.vr_opening.specs.Recovering.{RecoveredAny}
+use Rattle.vr_opening.specs.declared.reopen.Refusal.{Refusal}
+use Rattle.vr_opening.specs.declared.reopen.Refusal.TheVariants.{Halted, Lost}
+use Rattle.vr_rules.specs.Replica.{Replica, version}
+use Rattle.vr_rules.specs.Rules.{react}
 use Rattle.vr_replica.specs.Running.{Running}
-use Rattle.vr_replica.specs.Sectors.{script_calls, sectors_by}
-use Rattle.vr_replica.specs.Steps.{Word, outputs}
-use Rattle.vr_replica.proofs.Opens.{opens_in}
+use Rattle.vr_rules.specs.Sectors.{script_calls, sectors_by}
+use Rattle.vr_rules.specs.Steps.{Word, outputs}
+use Rattle.vr_opening.proofs.Opens.{opens_in}
 use Rattle.vr_group.specs.Hosts.{HasActed, IsHostBy, host_by}
 use Rattle.vr_group.proofs.Steps.{fresh_made, host_halted, host_recovered, host_runs, host_went, recovery_halted, start_none, start_running}
 use Rattle.vr_embed.specs.Members.{Acts, Shows, ShowsActed, kind, with_held}

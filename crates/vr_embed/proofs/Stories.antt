@@ -12,9 +12,9 @@ use Rattle.vr_header.specs.declared.operation.Operation.TheVariants.{Get, Put, R
 use Rattle.vr_msg.specs.Asking.{IsRequest}
 use Rattle.vr_msg.specs.declared.output.Sent.{Sent}
 use Rattle.vr_msg.specs.declared.request.RequestFields.{RequestFields}
-use Rattle.vr_lying.specs.Lying.{hazards}
-use Rattle.vr_lying.specs.World.{Arrives, Asks, Fuses, Happening, Starts, fresh_world, happen}
-use Rattle.vr_replica.specs.Opening.{IsKind}
+use Rattle.vr_world.specs.Lying.{hazards}
+use Rattle.vr_world.specs.World.{Arrives, Asks, Fuses, Happening, Starts, fresh_world, happen}
+use Rattle.vr_rules.specs.Opening.{IsKind}
 use Rattle.law_4_disks.specs.Worlds.{IsLine}
 use Rattle.law_6_one_log.specs.Laws.{KeepsOneLog}
 use Rattle.law_6_one_log.specs.Schedules.{IsHashed}

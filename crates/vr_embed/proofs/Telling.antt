@@ -1,7 +1,7 @@
 -- The letters and the lines of outputs.
 use Rattle.std.proofs.Common.{◌≡◌, refl, sym, ap, ◌∙◌, List, [], ◌∷◌, ◌++◌, append_assoc}
 use Rattle.vr_msg.specs.declared.output.Output.{Output}
-use Rattle.vr_replica.specs.Outputs.{message_of, messages}
+use Rattle.vr_rules.specs.Outputs.{message_of, messages}
 use Rattle.vr_embed.specs.Groups.{told_line, told_lines}
 
 pub messages_more : (o : Output) (os : List Output) → messages (o ∷ os) ≡ message_of o ++ messages os

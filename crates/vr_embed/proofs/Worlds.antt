@@ -11,9 +11,9 @@ use Rattle.vr_base.specs.declared.memory.NoMemory.{NoMemory}
 use Rattle.vr_msg.specs.declared.event.Event.TheVariants as event
 use Rattle.vr_msg.specs.declared.output.Output.{Output}
 use Rattle.vr_msg.specs.declared.output.Sent.{Sent}
-use Rattle.vr_lying.specs.Lying.{Lying, hazards}
-use Rattle.vr_lying.specs.World.{Acted, Arrives, Happened, Happening, Host, Ticks, World, at_member, delivered, fresh_host, fresh_world, handles, happen, happens, nothing, with_member}
-use Rattle.vr_replica.specs.Outputs.{messages}
+use Rattle.vr_world.specs.Lying.{Lying, hazards}
+use Rattle.vr_world.specs.World.{Acted, Arrives, Happened, Happening, Host, Ticks, World, at_member, delivered, fresh_host, fresh_world, handles, happen, happens, nothing, with_member}
+use Rattle.vr_rules.specs.Outputs.{messages}
 use Rattle.vr_group.proofs.Goings.{happen_append, happen_one}
 use Rattle.vr_embed.specs.Groups.{ActsAt, Goes, HasHappened, ShowActed, ShowAll, ShowsWorld, letters, told_lines}
 use Rattle.vr_embed.specs.Members.{Acts, Shows, kind}

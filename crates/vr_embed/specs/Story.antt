@@ -4,8 +4,8 @@ use Rattle.vr_header.specs.NoCollision.{NoCollision}
 use Rattle.vr_header.specs.declared.operation.Operation.{Operation}
 use Rattle.vr_header.specs.declared.operation.Operation.TheVariants.{Register, Put, Get}
 use Rattle.vr_msg.specs.declared.request.RequestFields.{RequestFields}
-use Rattle.vr_lying.specs.Lying.{hazards}
-use Rattle.vr_lying.specs.World.{Asks, Fuses, Happening, Starts, fresh_world, happen}
+use Rattle.vr_world.specs.Lying.{hazards}
+use Rattle.vr_world.specs.World.{Asks, Fuses, Happening, Starts, fresh_world, happen}
 use Rattle.law_6_one_log.specs.Laws.{KeepsOneLog}
 use Rattle.law_6_one_log.specs.Schedules.{IsHashed}
 use Rattle.vr_embed.specs.declared.clock.Clock.{Clock}

@@ -1,9 +1,9 @@
 //! The members of a group, and the link between them.
 ghost use Rattle.std.specs.Prelude.{◌≡◌, ◌+◌, ◌<◌, ◌≤◌, ◌∷◌, ◌++◌, [], IfOk, OnOk, false, length, true};
-ghost use Rattle.vr_lying.specs.Lying.{Lying, hazards};
-ghost use Rattle.vr_lying.specs.World.{Asks, Fuses, Starts, World, at_member, fresh_world, handles};
+ghost use Rattle.vr_world.specs.Lying.{Lying, hazards};
+ghost use Rattle.vr_world.specs.World.{Asks, Fuses, Starts, World, at_member, fresh_world, handles};
 ghost use Rattle.vr_msg.specs.declared.event.Event.TheVariants as event;
-ghost use Rattle.vr_replica.specs.Outputs.{message_of, messages};
+ghost use Rattle.vr_rules.specs.Outputs.{message_of, messages};
 ghost use Rattle.vr_embed.specs.Groups.{Goes, HasHappened, ShowsWorld, letters, ticks, told_line, told_lines};
 ghost use Rattle.vr_embed.specs.Members.{kind};
 

@@ -1,7 +1,7 @@
 //! A member: its replica and its disk.
 ghost use Rattle.std.specs.Prelude.{◌≡◌, ◌<◌, ◌∷◌, [], None, IfOk, OnOk};
-ghost use Rattle.vr_lying.specs.Lying.{hazards};
-ghost use Rattle.vr_lying.specs.World.{fresh_host, fused, handles, starts};
+ghost use Rattle.vr_world.specs.Lying.{hazards};
+ghost use Rattle.vr_world.specs.World.{fresh_host, fused, handles, starts};
 ghost use Rattle.vr_lying.specs.Laws.{revived};
 ghost use Rattle.vr_msg.specs.declared.output.Output.TheVariants as output;
 ghost use Rattle.vr_embed.specs.Members.{Acts, Shows, kind};

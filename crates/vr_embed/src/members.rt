@@ -1,8 +1,8 @@
 //! The members of a group, each of which acts by its number.
 ghost use Rattle.std.specs.Prelude.{◌≡◌, [], IfOk, OnOk, map};
 ghost use Rattle.std.specs.List.{range_with_len};
-ghost use Rattle.vr_lying.specs.Lying.{hazards};
-ghost use Rattle.vr_lying.specs.World.{fresh_host, fused, handles, starts};
+ghost use Rattle.vr_world.specs.Lying.{hazards};
+ghost use Rattle.vr_world.specs.World.{fresh_host, fused, handles, starts};
 ghost use Rattle.vr_embed.specs.Groups.{ActsAt, ShowAll};
 ghost use Rattle.vr_embed.specs.Members.{kind};
 

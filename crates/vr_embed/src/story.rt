@@ -3,7 +3,7 @@ ghost use Rattle.std.specs.Prelude.{◌≡◌, ◌∷◌, [], false, true, IfOk,
 ghost use Rattle.vr_header.specs.Text.{is_text};
 ghost use Rattle.vr_header.specs.Bodies.{IsOperation};
 ghost use Rattle.vr_header.specs.declared.operation.Operation.TheVariants.{Get, Put, Register};
-ghost use Rattle.vr_lying.specs.World.{Asks, Fuses, Starts};
+ghost use Rattle.vr_world.specs.World.{Asks, Fuses, Starts};
 ghost use Rattle.vr_msg.specs.Asking.{IsRequest};
 ghost use Rattle.vr_embed.specs.Groups.{GoesOn, GoesOnBehind, ticks};
 ghost use Rattle.vr_embed.specs.Story.{IsTold, asked, asks, color, green, is_due, passed, round, shape};

@@ -13,9 +13,9 @@ use Rattle.vr_msg.specs.declared.event.Event.{Event}
 use Rattle.vr_msg.specs.declared.event.Event.TheVariants as event
 use Rattle.vr_msg.specs.declared.output.Output.{Output}
 use Rattle.vr_msg.specs.declared.output.Sent.{Sent}
-use Rattle.vr_lying.specs.Lying.{Lying, hazards}
-use Rattle.vr_lying.specs.World.{Acted, Arrives, Begins, Happened, Host, World, at_member, delivered, fresh_host, fresh_world, handles, happens, nothing, with_member}
-use Rattle.vr_replica.specs.Outputs.{messages}
+use Rattle.vr_world.specs.Lying.{Lying, hazards}
+use Rattle.vr_world.specs.World.{Acted, Arrives, Begins, Happened, Host, World, at_member, delivered, fresh_host, fresh_world, handles, happens, nothing, with_member}
+use Rattle.vr_rules.specs.Outputs.{messages}
 use Rattle.vr_group.specs.Group.{HasHappened}
 use Rattle.vr_group.specs.Hosts.{HasActed, HaveActed, acted_at}
 use Rattle.vr_group.specs.Outputs.{numbered, text_of}

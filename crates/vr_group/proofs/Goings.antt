@@ -9,9 +9,9 @@ use Rattle.vr_lines.specs.declared.line.Line.{Line}
 use Rattle.vr_lines.specs.declared.line.Line.TheVariants as line
 use Rattle.vr_msg.specs.declared.output.Output.{Output}
 use Rattle.vr_msg.specs.declared.output.Sent.{Sent}
-use Rattle.vr_lying.specs.Lying.{Lying, hazards}
-use Rattle.vr_lying.specs.World.{Acted, Happened, Happening, Host, World, at_member, delivered, happen, happens, nothing, with_member}
-use Rattle.vr_replica.specs.Outputs.{message_of, messages}
+use Rattle.vr_world.specs.Lying.{Lying, hazards}
+use Rattle.vr_world.specs.World.{Acted, Happened, Happening, Host, World, at_member, delivered, happen, happens, nothing, with_member}
+use Rattle.vr_rules.specs.Outputs.{message_of, messages}
 use Rattle.vr_group.specs.Group.{HasHappened, HaveHappened}
 use Rattle.vr_group.specs.Lines.{AreLinesOf, happening, happenings}
 use Rattle.vr_group.specs.Outputs.{numbered, puts_of, with_number, with_outputs}

@@ -9,9 +9,9 @@ use Rattle.vr_base.proofs.Members.{least_of}
 use Rattle.vr_lines.specs.Fits.{IsLineOf}
 use Rattle.vr_lines.specs.declared.line.Line.{Line}
 use Rattle.vr_lines.specs.declared.line.Line.TheVariants as line
-use Rattle.vr_lying.specs.Lying.{Lying, hazards}
-use Rattle.vr_lying.specs.World.{World, fresh_world, happen}
-use Rattle.vr_replica.specs.Opening.{IsKind}
+use Rattle.vr_world.specs.Lying.{Lying, hazards}
+use Rattle.vr_world.specs.World.{World, fresh_world, happen}
+use Rattle.vr_rules.specs.Opening.{IsKind}
 use Rattle.law_4_disks.specs.Worlds.{IsLine}
 use Rattle.law_6_one_log.specs.Schedules.{IsHashed, MayAll}
 use Rattle.law_6_one_log.proofs.Fresh.{schedules_are_runs}

@@ -7,27 +7,27 @@ use Rattle.vr_base.specs.declared.table.Config.{Config}
 use Rattle.vr_disk.specs.DiskState.{Call, Disk, Face, Fate, Fuse, RunsFrom, runs}
 use Rattle.vr_msg.specs.declared.output.Output.{Output}
 use Rattle.vr_msg.specs.declared.output.Output.TheVariants as output
-use Rattle.vr_replica.specs.Halt.{Halt}
-use Rattle.vr_replica.specs.Halt.TheVariants.{DiskFault, NoMemory}
-use Rattle.vr_replica.specs.Migrating.{migration_calls}
-use Rattle.vr_replica.specs.Migration.{MigratedAny, StopsMigration}
-use Rattle.vr_replica.specs.Recovering.{opens_as}
-use Rattle.vr_replica.specs.Refusal.{Refusal}
-use Rattle.vr_replica.specs.Refusal.TheVariants.{Halted, Lost, OtherMember}
+use Rattle.vr_disk.specs.declared.fault.Halt.{Halt}
+use Rattle.vr_disk.specs.declared.fault.Halt.TheVariants.{DiskFault, NoMemory}
+use Rattle.vr_rules.specs.Migrating.{migration_calls}
+use Rattle.vr_opening.specs.Migration.{MigratedAny, StopsMigration}
+use Rattle.vr_opening.specs.Recovering.{opens_as}
+use Rattle.vr_opening.specs.declared.reopen.Refusal.{Refusal}
+use Rattle.vr_opening.specs.declared.reopen.Refusal.TheVariants.{Halted, Lost, OtherMember}
 use Rattle.vr_replica.specs.Running.{Running}
-use Rattle.vr_replica.specs.Sectors.{sectors_by}
-use Rattle.vr_replica.proofs.Opens.{opens_in}
-use Rattle.vr_replica.proofs.Others.{by_version}
-use Rattle.vr_lie.specs.Calls.{mend_calls}
-use Rattle.vr_lie.specs.Copies.{SuperValue}
-use Rattle.vr_lie.specs.CopyVerdict.{CopyVerdict}
-use Rattle.vr_lie.specs.Opens.{found_of, good_copies, opens}
+use Rattle.vr_rules.specs.Sectors.{sectors_by}
+use Rattle.vr_opening.proofs.Opens.{opens_in}
+use Rattle.vr_opening.proofs.Others.{by_version}
+use Rattle.vr_super.specs.Calls.{mend_calls}
+use Rattle.vr_super.specs.Copies.{SuperValue}
+use Rattle.vr_super.specs.declared.recovering.CopyVerdict.{CopyVerdict}
+use Rattle.vr_super.specs.Opens.{found_of, good_copies, opens}
 use Rattle.vr_lie.specs.Told.{version_by}
 use Rattle.vr_lying.specs.Disks.{lying_of, told_by}
 use Rattle.vr_lying.specs.Laws.{WasCut, Went, revived}
-use Rattle.vr_lying.specs.Lying.{Lying, after_calls, cut_calls, hazards, in_edition, settled}
+use Rattle.vr_world.specs.Lying.{Lying, after_calls, cut_calls, hazards, in_edition, settled}
 use Rattle.vr_lying.specs.Told.{IsTold, burnt, host_on, lying_in}
-use Rattle.vr_lying.specs.World.{Acted, Host, if_first, migrated_or_halted, migrated_with, migrates, migration_halted, movable, stays}
+use Rattle.vr_world.specs.World.{Acted, Host, if_first, migrated_or_halted, migrated_with, migrates, migration_halted, movable, stays}
 use Rattle.vr_lying.specs.declared.disk.HostDisk.{HostDisk}
 use Rattle.vr_lying.proofs.Runs.{runs_cut, runs_went}
 use Rattle.vr_lying.proofs.Versions.{opens_by, version_told}

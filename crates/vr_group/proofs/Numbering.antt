@@ -3,7 +3,7 @@ use Rattle.std.proofs.Common.{◌≡◌, ℕ, ◌+◌, ◌<◌, ◌≤◌, ◌�
 use Rattle.std.proofs.lemmas.Grind.{flat_map-append}
 use Rattle.std.proofs.lemmas.List.{append-nil, at_drop_all, at_drop_more, map-append}
 use Rattle.vr_msg.specs.declared.output.Output.{Output}
-use Rattle.vr_replica.specs.Outputs.{message_of, messages}
+use Rattle.vr_rules.specs.Outputs.{message_of, messages}
 use Rattle.vr_group.specs.Outputs.{Numbered, line_text, numbered, outputs_of, put_as, put_of, puts_of, text_of, with_number, with_outputs}
 use Rattle.vr_group.specs.declared.outputs.Outputs.{Outputs}
 use Rattle.vr_group.specs.declared.outputs.Put.{Put}

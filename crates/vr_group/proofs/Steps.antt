@@ -13,25 +13,25 @@ use Rattle.vr_msg.specs.declared.output.Output.{Output}
 use Rattle.vr_msg.specs.declared.output.Output.TheVariants as output
 use Rattle.vr_msg.specs.declared.output.Sent.{Sent}
 use Rattle.vr_msg.specs.declared.request.RequestFields.{RequestFields}
-use Rattle.vr_replica.specs.Making.{Made}
-use Rattle.vr_replica.specs.Recovering.{RecoveredAny, opens_as}
-use Rattle.vr_replica.proofs.Opens.{opens_in}
-use Rattle.vr_replica.specs.Refusal.{Refusal}
-use Rattle.vr_replica.specs.Refusal.TheVariants.{Halted, Lost, OtherMember}
-use Rattle.vr_replica.specs.Does.{Does, LeftBy}
-use Rattle.vr_replica.specs.Halt.{Halt}
-use Rattle.vr_replica.specs.Halt.TheVariants.{DiskFault, NoMemory}
-use Rattle.vr_lie.specs.Copies.{SuperValue}
-use Rattle.vr_lie.specs.CopyVerdict.{CopyVerdict}
+use Rattle.vr_opening.specs.Making.{Made}
+use Rattle.vr_opening.specs.Recovering.{RecoveredAny, opens_as}
+use Rattle.vr_opening.proofs.Opens.{opens_in}
+use Rattle.vr_opening.specs.declared.reopen.Refusal.{Refusal}
+use Rattle.vr_opening.specs.declared.reopen.Refusal.TheVariants.{Halted, Lost, OtherMember}
+use Rattle.vr_step.specs.Does.{Does, LeftBy}
+use Rattle.vr_disk.specs.declared.fault.Halt.{Halt}
+use Rattle.vr_disk.specs.declared.fault.Halt.TheVariants.{DiskFault, NoMemory}
+use Rattle.vr_super.specs.Copies.{SuperValue}
+use Rattle.vr_super.specs.declared.recovering.CopyVerdict.{CopyVerdict}
 use Rattle.vr_lie.specs.Told.{version_by}
-use Rattle.vr_lying.specs.Lying.{Lying, after_calls, blank_lying, hazards, lying}
-use Rattle.vr_replica.specs.Formatting.{format_calls}
-use Rattle.vr_replica.specs.Opening.{blank, fresh, opened, opening}
-use Rattle.vr_replica.specs.Replica.{Replica, version}
-use Rattle.vr_replica.specs.Rules.{react}
-use Rattle.vr_replica.specs.Sectors.{sectors_by}
-use Rattle.vr_replica.specs.Steps.{Step, Word}
-use Rattle.vr_lying.specs.World.{Acted, Host, acts, asks, fresh_host, fresh_world, handles, in_version, starts, stays}
+use Rattle.vr_world.specs.Lying.{Lying, after_calls, blank_lying, hazards, lying}
+use Rattle.vr_rules.specs.Formatting.{format_calls}
+use Rattle.vr_rules.specs.Opening.{blank, fresh, opened, opening}
+use Rattle.vr_rules.specs.Replica.{Replica, version}
+use Rattle.vr_rules.specs.Rules.{react}
+use Rattle.vr_rules.specs.Sectors.{sectors_by}
+use Rattle.vr_rules.specs.Steps.{Step, Word}
+use Rattle.vr_world.specs.World.{Acted, Host, acts, asks, fresh_host, fresh_world, handles, in_version, starts, stays}
 use Rattle.vr_lying.specs.Told.{IsTold, burnt, host_on, lying_in, next_held}
 use Rattle.vr_lying.specs.Disks.{calm, told_by}
 use Rattle.vr_lying.specs.declared.disk.HostDisk.{HostDisk}

@@ -1,9 +1,9 @@
 -- What is done to a member.
 use Rattle.std.specs.Prelude.{ℕ, ◌-◌, ◌≤◌, ⊤}
 use Rattle.vr_lie.specs.Faults.{IsFault}
-use Rattle.vr_lying.specs.Lying.{Lying, hazards}
-use Rattle.vr_lying.specs.World.{Acted, Host, asks, fused, handles, lies, migrates, starts, stops}
-use Rattle.vr_replica.specs.Fit.{IsAsked}
+use Rattle.vr_world.specs.Lying.{Lying, hazards}
+use Rattle.vr_world.specs.World.{Acted, Host, asks, fused, handles, lies, migrates, starts, stops}
+use Rattle.vr_rules.specs.Fit.{IsAsked}
 use Rattle.vr_group.specs.declared.deed.Deed.{Deed}
 use Rattle.vr_group.specs.declared.deed.Deed.TheVariants.{Handle, Ask, Stop, Start, Migrate, Fuse, Lie}
 

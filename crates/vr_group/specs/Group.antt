@@ -1,7 +1,7 @@
 -- A group that goes on or has stopped.
 use Rattle.std.specs.Prelude.{ℕ, ◌≡◌, ◌++◌, Bool, List, length}
-use Rattle.vr_lying.specs.Lying.{Lying}
-use Rattle.vr_lying.specs.World.{Happened, World}
+use Rattle.vr_world.specs.Lying.{Lying}
+use Rattle.vr_world.specs.World.{Happened, World}
 use Rattle.vr_msg.specs.declared.output.Output.{Output}
 use Rattle.vr_group.specs.declared.members.Members.{Members}
 use Rattle.vr_group.specs.declared.outputs.Outputs.{Outputs}

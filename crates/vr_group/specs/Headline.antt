@@ -6,10 +6,10 @@ use Rattle.vr_base.specs.declared.kind.Kind.{Kind}
 use Rattle.vr_header.specs.NoCollision.{NoCollision}
 use Rattle.vr_lines.specs.declared.line.Line.{Line}
 use Rattle.vr_lines.specs.declared.line.Line.TheVariants.{Request}
-use Rattle.vr_lying.specs.Lying.{Lying, hazards}
-use Rattle.vr_replica.specs.Fit.{IsAsked}
-use Rattle.vr_replica.specs.Opening.{IsKind}
-use Rattle.vr_lying.specs.World.{World, fresh_world, happen}
+use Rattle.vr_world.specs.Lying.{Lying, hazards}
+use Rattle.vr_rules.specs.Fit.{IsAsked}
+use Rattle.vr_rules.specs.Opening.{IsKind}
+use Rattle.vr_world.specs.World.{World, fresh_world, happen}
 use Rattle.law_6_one_log.specs.Schedules.{IsHashed}
 use Rattle.law_6_one_log.specs.Laws.{KeepsOneLog}
 use Rattle.vr_group.specs.Lines.{happenings}

@@ -3,10 +3,10 @@ use Rattle.std.specs.Prelude.{ℕ, ◌≡◌, true, List, [], Option, IfSome}
 use Rattle.std.specs.Option.{option_map}
 use Rattle.vr_disk.specs.DiskState.{Disk}
 use Rattle.vr_msg.specs.declared.output.Output.{Output}
-use Rattle.vr_replica.specs.Replica.{version}
+use Rattle.vr_rules.specs.Replica.{version}
 use Rattle.vr_replica.specs.Running.{Running}
-use Rattle.vr_lying.specs.Lying.{Lying}
-use Rattle.vr_lying.specs.World.{Acted, Happened, Host, at_member}
+use Rattle.vr_world.specs.Lying.{Lying}
+use Rattle.vr_world.specs.World.{Acted, Happened, Host, at_member}
 use Rattle.vr_lie.specs.Told.{version_by}
 use Rattle.vr_lying.specs.Disks.{told_by}
 use Rattle.vr_lying.specs.Told.{IsTold, host_on}

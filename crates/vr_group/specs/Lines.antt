@@ -5,7 +5,7 @@ use Rattle.vr_lie.specs.declared.fault.Fault.TheVariants as fault
 use Rattle.vr_lines.specs.Fits.{IsLineOf}
 use Rattle.vr_lines.specs.declared.line.Line.{Line}
 use Rattle.vr_lines.specs.declared.line.Line.TheVariants.{Cluster, Request, Deliver, Tick, Stop, Start, Migrate, Fuse, Damage, Stale, Unread, Misdirect}
-use Rattle.vr_lying.specs.World.{Happening, Begins, AsksInVersion, Arrives, Ticks, Stops, Starts, Migrates, Fuses, Lies}
+use Rattle.vr_world.specs.World.{Happening, Begins, AsksInVersion, Arrives, Ticks, Stops, Starts, Migrates, Fuses, Lies}
 
 abbrev pub happening : Line → Happening
 happening (Cluster n kind) = Begins kind n

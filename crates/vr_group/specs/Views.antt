@@ -2,9 +2,9 @@
 use Rattle.std.specs.Prelude.{ℕ, max, map}
 use Rattle.std.specs.List.{fold}
 use Rattle.std.specs.Option.{option_map_or}
-use Rattle.vr_lie.specs.Opens.{found_of, good_copies}
-use Rattle.vr_lying.specs.Lying.{Lying}
-use Rattle.vr_lying.specs.World.{Host, World}
+use Rattle.vr_super.specs.Opens.{found_of, good_copies}
+use Rattle.vr_world.specs.Lying.{Lying}
+use Rattle.vr_world.specs.World.{Host, World}
 
 -- the view of a replica; of a stopped one that of the value that its disk opens as, 0 where there is none
 abbrev pub view_of : Host Lying → ℕ

@@ -1,8 +1,8 @@
 //! What clients ask.
 ghost use Rattle.std.specs.Prelude.{◌≡◌, ◌<◌, ◌^◌, IfOk, max};
-ghost use Rattle.vr_lying.specs.World.{in_version};
+ghost use Rattle.vr_world.specs.World.{in_version};
 ghost use Rattle.vr_msg.specs.declared.event.Event.TheVariants as event;
-ghost use Rattle.vr_replica.specs.Fit.{IsAsked};
+ghost use Rattle.vr_rules.specs.Fit.{IsAsked};
 
 use std::alloc::{AllocError, Global};
 use vr_base::Version;

@@ -2,10 +2,10 @@
 ghost use Rattle.std.specs.Prelude.{◌≡◌, ◌<◌, ◌∷◌, [], None, IfOk, OnOk, true};
 ghost use Rattle.std.specs.Option.{option_map_or};
 ghost use Rattle.vr_base.specs.Groups.{is_size};
-ghost use Rattle.vr_lie.specs.Opens as superblock;
+ghost use Rattle.vr_super.specs.Opens as superblock;
 ghost use Rattle.vr_lie.specs.Told.{version_by};
-ghost use Rattle.vr_lying.specs.Lying.{hazards, settled};
-ghost use Rattle.vr_lying.specs.World.{fresh_host, handles, migrates, starts};
+ghost use Rattle.vr_world.specs.Lying.{hazards, settled};
+ghost use Rattle.vr_world.specs.World.{fresh_host, handles, migrates, starts};
 ghost use Rattle.vr_msg.specs.declared.output.Output.TheVariants as output;
 ghost use Rattle.vr_lying.specs.Disks.{lying_of, told_by};
 ghost use Rattle.vr_lying.specs.Laws.{revived};
@@ -32,8 +32,8 @@ pub struct Host {
 }
 
 impl Model for Host {
-    ghost use Rattle.vr_lying.specs.Lying.{Lying};
-    ghost use Rattle.vr_lying.specs.World as world;
+    ghost use Rattle.vr_world.specs.Lying.{Lying};
+    ghost use Rattle.vr_world.specs.World as world;
     ghost use Rattle.vr_group.specs.Hosts.{IsHost, host_of};
 
     ghost Value = { world.Host Lying };

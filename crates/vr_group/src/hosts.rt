@@ -2,8 +2,8 @@
 ghost use Rattle.std.specs.Prelude.{◌≡◌, [], IfOk, OnOk, map, true};
 ghost use Rattle.std.specs.List.{range_with_len};
 ghost use Rattle.vr_base.specs.Groups.{is_size};
-ghost use Rattle.vr_lying.specs.Lying.{hazards};
-ghost use Rattle.vr_lying.specs.World.{fresh_host};
+ghost use Rattle.vr_world.specs.Lying.{hazards};
+ghost use Rattle.vr_world.specs.World.{fresh_host};
 ghost use Rattle.vr_group.specs.Deeds.{IsDeed, act_of};
 ghost use Rattle.vr_group.specs.Hosts.{HaveActed};
 

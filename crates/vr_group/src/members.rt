@@ -2,8 +2,8 @@
 ghost use Rattle.std.specs.Prelude.{ℕ, ◌≡◌, [], IfOk, OnOk, true};
 ghost use Rattle.vr_base.specs.Groups.{is_size};
 ghost use Rattle.vr_lines.specs.Fits.{IsLineOf};
-ghost use Rattle.vr_lying.specs.Lying.{hazards};
-ghost use Rattle.vr_lying.specs.World.{Arrives, at_member, fresh_world, happens};
+ghost use Rattle.vr_world.specs.Lying.{hazards};
+ghost use Rattle.vr_world.specs.World.{Arrives, at_member, fresh_world, happens};
 ghost use Rattle.vr_group.specs.Deeds.{IsDeed, act_of};
 ghost use Rattle.vr_group.specs.Headline.{HasAsked};
 ghost use Rattle.vr_group.specs.Lines.{happening};

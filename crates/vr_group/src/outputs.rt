@@ -1,6 +1,6 @@
 //! What is put out, and the messages among it.
 ghost use Rattle.std.specs.Prelude.{◌≡◌, ◌≤◌, ◌+◌, ◌++◌, ◌∷◌, [], length, OnOk};
-ghost use Rattle.vr_replica.specs.Outputs.{message_of, messages};
+ghost use Rattle.vr_rules.specs.Outputs.{message_of, messages};
 ghost use Rattle.vr_group.specs.Outputs.{line_text, numbered, outputs_of, put_as, puts_of, text_of, with_number};
 ghost use Rattle.vr_text.specs.Fronts.{IsFront};
 

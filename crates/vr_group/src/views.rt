@@ -1,8 +1,8 @@
 //! The views of members.
 ghost use Rattle.std.specs.Prelude.{◌≡◌, ◌<◌, map, max, length, get_or};
 ghost use Rattle.std.specs.List.{fold};
-ghost use Rattle.vr_lying.specs.World.{Host as Member};
-ghost use Rattle.vr_lying.specs.Lying.{Lying};
+ghost use Rattle.vr_world.specs.World.{Host as Member};
+ghost use Rattle.vr_world.specs.Lying.{Lying};
 ghost use Rattle.vr_group.specs.Views.{view_of};
 
 use crate::Host;

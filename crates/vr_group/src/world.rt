@@ -3,8 +3,8 @@ ghost use Rattle.std.specs.Prelude.{ℕ, ◌≡◌, ◌<◌, ◌^◌, ◌++◌, 
 ghost use Rattle.vr_base.specs.Groups.{is_size};
 ghost use Rattle.vr_base.specs.declared.kind.Kind.{Kind};
 ghost use Rattle.vr_lines.specs.Fits.{IsLineOf};
-ghost use Rattle.vr_lying.specs.Lying.{hazards};
-ghost use Rattle.vr_lying.specs.World.{fresh_world, happen, happens, no_world};
+ghost use Rattle.vr_world.specs.Lying.{hazards};
+ghost use Rattle.vr_world.specs.World.{fresh_world, happen, happens, no_world};
 ghost use Rattle.vr_group.specs.Group.{HaveHappened, world_of};
 ghost use Rattle.vr_group.specs.Headline.{HasAsked, HaveAsked, IsJustMade, LinesKeepOneLog};
 ghost use Rattle.vr_group.specs.Lines.{AreLinesOf, happening, happenings, version_behind};

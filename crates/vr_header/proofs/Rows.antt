@@ -1,6 +1,7 @@
 -- The definitions at values that were worked out by hand or by another program.
 use Rattle.std.specs.Prelude.{ℕ, ◌≡◌, ◌+◌, List, [], ◌∷◌, ◌++◌, take, drop, length, map, replicate, slice_set, refl, true, false, Some, None, Ok, codes}
-use Rattle.vr_base.specs.Bytes.{sha256, first_words, schedule, rounds, compress, hash_after, digest_bytes, bytes16, bytes32, bytes64, name_of, number, piece}
+use Rattle.sha2.specs.Sha256.{sha256, first_words, schedule, rounds, compress, hash_after, digest_bytes}
+use Rattle.vr_base.specs.Bytes.{bytes16, bytes32, bytes64, name_of, number, piece}
 use Rattle.vr_header.specs.declared.command.Command.TheVariants.{Entry, Commit}
 use Rattle.vr_header.specs.declared.header.Header.{Header}
 use Rattle.vr_header.specs.declared.header.HeaderFault.TheVariants.{Short, BadSum, BadCommand, BadVersion, BadSize, NotZero}

@@ -7,10 +7,10 @@ use Rattle.vr_header.specs.declared.part.Part.{Part}
 use Rattle.vr_header.specs.declared.part.Part.TheVariants.{Here, Lost, Wanted, Unknown, Nothing}
 use Rattle.vr_header.specs.Made.{IsEntryHeader}
 use Rattle.vr_msg.specs.declared.output.Output.{Output}
-use Rattle.vr_msg.specs.Logs.{header_of}
-use Rattle.vr_memory.specs.Replica.{Replica, part_at}
-use Rattle.vr_memory.specs.Rules.{acknowledge_stored}
-use Rattle.vr_memory.specs.Steps.{Word}
+use Rattle.vr_header.specs.Parts.{header_of}
+use Rattle.vr_rules.specs.Replica.{Replica, part_at}
+use Rattle.vr_rules.specs.Rules.{acknowledge_stored}
+use Rattle.vr_rules.specs.Steps.{Word}
 use Rattle.vr_step.specs.Does.{Does}
 use Rattle.vr_step.proofs.Stepping.{does_by, does_quiet, says_by}
 use Rattle.vr_memory.specs.Ready.{IsReady}

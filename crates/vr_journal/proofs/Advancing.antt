@@ -10,12 +10,12 @@ use Rattle.vr_header.specs.declared.part.Part.TheVariants.{Here, Lost, Wanted, U
 use Rattle.vr_header.specs.Made.{Whole}
 use Rattle.vr_msg.specs.declared.output.Output.{Output}
 use Rattle.vr_journal.specs.Waits.{Waits, applies_next}
-use Rattle.vr_memory.specs.Replica.{Replica, head, is_here, part_at}
-use Rattle.vr_memory.specs.Words.{advanced, apply, apply_entry, apply_next, has_quorum, is_loaded, with_entry, with_entry_at}
+use Rattle.vr_rules.specs.Replica.{Replica, head, is_here, part_at}
+use Rattle.vr_rules.specs.Words.{advanced, apply, apply_entry, apply_next, has_quorum, is_loaded, with_entry, with_entry_at}
 use Rattle.vr_step.specs.Does.{Does}
 use Rattle.vr_step.proofs.Stepping.{does_by, does_quiet, does_then}
-use Rattle.vr_memory.specs.Steps.{Word, times, when}
-use Rattle.vr_memory.specs.Sound.{IsCaughtUp}
+use Rattle.vr_rules.specs.Steps.{Word, times, when}
+use Rattle.vr_rules.specs.Sound.{IsCaughtUp}
 
 -- where the next entry isn't here it isn't applied
 part_quiet : (w : Whole → Word Face) (p : Part) (r : Replica) (d : Option Disk) (o : List Output) → is_here p ≡ false → Does (with_entry w p) r r d d o o (Ok tt)

@@ -4,9 +4,9 @@ use Rattle.std.specs.Prelude.{◌&&◌, nat_lt}
 use Rattle.vr_disk.specs.DiskState.{Disk}
 use Rattle.vr_header.specs.Made.{Whole}
 use Rattle.vr_msg.specs.declared.output.Output.{Output}
-use Rattle.vr_memory.specs.Replica.{Replica, part_at}
-use Rattle.vr_memory.specs.Outputs.{commit_line, applied_reply}
-use Rattle.vr_memory.specs.Words.{applied, apply_entry, apply_next, with_entry, with_entry_at, is_loaded, is_checkpoint, make_checkpoint}
+use Rattle.vr_rules.specs.Replica.{Replica, part_at}
+use Rattle.vr_rules.specs.Outputs.{commit_line, applied_reply}
+use Rattle.vr_rules.specs.Words.{applied, apply_entry, apply_next, with_entry, with_entry_at, is_loaded, is_checkpoint, make_checkpoint}
 use Rattle.vr_disk.specs.declared.fault.Halt.{Halt}
 use Rattle.vr_step.specs.Does.{Does}
 use Rattle.vr_memory.specs.Ready.{due}

@@ -1,8 +1,8 @@
 -- What loading a checkpoint leaves.
 use Rattle.std.proofs.Common.{ℕ, ◌≡◌, ◌≤◌, refl, subst, List, [], ◌∷◌, Option, Some, None, true, false, Result, Ok}
 use Rattle.std.specs.Prelude.{IfSome, nat_lt}
-use Rattle.vr_ckpt.specs.State.{State}
-use Rattle.vr_ckpt.specs.StateTexts.{state_decoded}
+use Rattle.vr_state.specs.declared.state.State.{State}
+use Rattle.vr_state.specs.StateTexts.{state_decoded}
 use Rattle.vr_ckpt.specs.declared.found.Load.{Load}
 use Rattle.vr_ckpt.specs.declared.found.Load.TheVariants.{Loaded, Missing}
 use Rattle.vr_ckpt.specs.declared.table.PayloadTable.{PayloadTable}
@@ -10,16 +10,16 @@ use Rattle.vr_ckpt.specs.Loads.{loaded}
 use Rattle.vr_disk.specs.DiskState.{Disk}
 use Rattle.vr_ckpt.specs.declared.name.Name.{Name}
 use Rattle.vr_msg.specs.declared.output.Output.{Output}
-use Rattle.vr_ckpt.specs.StateFault.{StateFault}
-use Rattle.vr_memory.specs.Replica.{Replica, version}
-use Rattle.vr_memory.specs.Sound.{IsSavable}
-use Rattle.vr_memory.specs.Words.{load, loads, loaded_state, usable, with_state, with_missing, checkpoint_at}
-use Rattle.vr_memory.proofs.SavesWell.{savable_alike}
-use Rattle.vr_ckpt.specs.Fitting.{Fits}
-use Rattle.vr_ckpt.proofs.Fitting.{fits_means}
-use Rattle.vr_memory.proofs.Wording.{kept_loads, usable_is}
+use Rattle.vr_state.specs.declared.fault.StateFault.{StateFault}
+use Rattle.vr_rules.specs.Replica.{Replica, version}
+use Rattle.vr_rules.specs.Sound.{IsSavable}
+use Rattle.vr_rules.specs.Words.{load, loads, loaded_state, usable, with_state, with_missing, checkpoint_at}
+use Rattle.vr_rules.proofs.SavesWell.{savable_alike}
+use Rattle.vr_state.specs.Fitting.{Fits}
+use Rattle.vr_state.proofs.Fitting.{fits_means}
+use Rattle.vr_rules.proofs.Wording.{kept_loads, usable_is}
 use Rattle.vr_step.specs.Does.{Does, Finds}
-use Rattle.vr_memory.proofs.Versions.{loads_stay}
+use Rattle.vr_rules.proofs.Versions.{loads_stay}
 use Rattle.vr_step.proofs.Stepping.{does_by, does_quiet, does_reading, change_by}
 use Rattle.vr_memory.specs.Ready.{IsReady, MayLoad}
 

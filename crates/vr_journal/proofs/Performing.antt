@@ -5,26 +5,24 @@ use Rattle.vr_disk.specs.declared.fault.Halt.{Halt}
 use Rattle.vr_disk.specs.declared.fault.Halt.TheVariants.{DiskFault, NoMemory}
 use Rattle.vr_header.specs.Made.{Whole}
 use Rattle.vr_rings.specs.Calls.{again_calls, new_calls, header_calls}
-use Rattle.vr_ckpt.specs.Grid.{put_calls}
+use Rattle.vr_ckpt.specs.Grid.{put_calls, Leaves}
 use Rattle.vr_ckpt.specs.declared.name.Name.{Name}
 use Rattle.vr_header.specs.declared.header.Header.{Header}
 use Rattle.vr_journal.specs.Effects.{rewrites, puts}
-use Rattle.vr_memory.specs.Replica.{Replica, part_at, version}
+use Rattle.vr_rules.specs.Replica.{Replica, part_at, version}
 use Rattle.vr_super.specs.Calls.{write_calls}
 use Rattle.vr_super.specs.Copies.{SuperValue}
-use Rattle.vr_memory.specs.Words.{writes, saves, value_of, may_be_stored}
-use Rattle.vr_ckpt.specs.Texts.{Texts}
-use Rattle.vr_ckpt.specs.State.{State}
-use Rattle.vr_ckpt.specs.StateTexts.{texts_of}
+use Rattle.vr_rules.specs.Words.{writes, saves, value_of, may_be_stored, checkpoints, checkpoint_of, with_checkpoint, make_checkpoint, save}
+use Rattle.vr_state.specs.declared.texts.Texts.{Texts}
+use Rattle.vr_state.specs.declared.state.State.{State}
+use Rattle.vr_state.specs.StateTexts.{texts_of}
 use Rattle.vr_ckpt.specs.declared.table.PayloadTable.{PayloadTable}
 use Rattle.vr_ckpt.specs.declared.saving.SavedCheckpoint as checkpoint
 use Rattle.vr_ckpt.specs.Saves.{save_calls, saved_checkpoint}
-use Rattle.vr_ckpt.specs.Grid.{Leaves}
 use Rattle.vr_msg.specs.declared.output.Output.{Output}
-use Rattle.vr_memory.specs.Steps.{◌⨾◌, change, does}
-use Rattle.vr_memory.specs.Words.{checkpoints, checkpoint_of, with_checkpoint, make_checkpoint, save}
+use Rattle.vr_rules.specs.Steps.{◌⨾◌, change, does}
 use Rattle.vr_step.proofs.Stepping.{performs_ok, performs_fault, performs_want, performed, performs_halted, does_by, does_reading, does_then, does_no_memory, change_by_then}
-use Rattle.vr_memory.proofs.Versions.{checkpoint_stays}
+use Rattle.vr_rules.proofs.Versions.{checkpoint_stays}
 use Rattle.vr_step.specs.Does.{Does, Finds, Performs, PerformsTo, done}
 
 -- calls that don't depend on what the disk holds

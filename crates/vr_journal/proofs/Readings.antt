@@ -6,13 +6,13 @@ use Rattle.vr_header.specs.declared.part.Part.{Part}
 use Rattle.vr_header.specs.declared.part.Part.TheVariants.{Here, Lost, Wanted, Unknown, Nothing}
 use Rattle.vr_header.specs.Made.{Whole}
 use Rattle.vr_memory.specs.Ready.{IsReady}
-use Rattle.vr_msg.specs.Logs.{header_of}
+use Rattle.vr_header.specs.Parts.{header_of}
 use Rattle.vr_msg.specs.declared.output.Output.{Output}
 use Rattle.vr_journal.specs.Reads.{Reads}
-use Rattle.vr_memory.specs.Replica.{Replica, is_here, part_at, version}
-use Rattle.vr_memory.specs.Outputs.{prepare, send_to_all}
-use Rattle.vr_memory.specs.Steps.{Word, says}
-use Rattle.vr_memory.specs.Words.{entry_of, lost, prepare_again, with_entry, with_entry_at}
+use Rattle.vr_rules.specs.Replica.{Replica, is_here, part_at, version}
+use Rattle.vr_rules.specs.Outputs.{prepare, send_to_all}
+use Rattle.vr_rules.specs.Steps.{Word, says}
+use Rattle.vr_rules.specs.Words.{entry_of, lost, prepare_again, with_entry, with_entry_at}
 use Rattle.vr_disk.specs.declared.fault.Halt.{Halt}
 use Rattle.vr_step.specs.Does.{Does, Finds}
 use Rattle.vr_step.proofs.Stepping.{does_by, does_quiet, found_then, found_lost, says_by}

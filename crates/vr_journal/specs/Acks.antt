@@ -4,8 +4,8 @@ use Rattle.vr_base.specs.Bytes.{name_of}
 use Rattle.vr_header.specs.declared.part.Part.{Part}
 use Rattle.vr_header.specs.declared.part.Part.TheVariants.{Here, Lost, Wanted, Unknown, Nothing}
 use Rattle.vr_msg.specs.declared.output.Output.{Output}
-use Rattle.vr_memory.specs.Outputs.{prepare_ok, to_primary}
-use Rattle.vr_memory.specs.Replica.{Replica, part_at}
+use Rattle.vr_rules.specs.Outputs.{prepare_ok, to_primary}
+use Rattle.vr_rules.specs.Replica.{Replica, part_at}
 
 abbrev pub ack_of : Part → Replica → List Output
 ack_of (Here h) r = to_primary (prepare_ok name_of h) r

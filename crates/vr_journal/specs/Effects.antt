@@ -2,8 +2,8 @@
 use Rattle.std.specs.Prelude.{ℕ, List}
 use Rattle.vr_header.specs.declared.header.Header.{Header}
 use Rattle.vr_ckpt.specs.declared.name.Name.{Name}
-use Rattle.vr_memory.specs.Replica.{Replica}
-use Rattle.vr_memory.specs.Steps.{Effect, Rewrite, PutBlock}
+use Rattle.vr_rules.specs.Replica.{Replica}
+use Rattle.vr_rules.specs.Steps.{Effect, Rewrite, PutBlock}
 
 unfoldable pub rewrites : Header → Replica → Effect
 rewrites h r = Rewrite h

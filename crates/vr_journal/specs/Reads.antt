@@ -3,9 +3,9 @@ use Rattle.std.specs.Prelude.{ℕ, ◌≡◌, List, Option, Some, None, Result, 
 use Rattle.vr_disk.specs.DiskState.{Disk, Face}
 use Rattle.vr_header.specs.Made.{Whole}
 use Rattle.vr_msg.specs.declared.output.Output.{Output}
-use Rattle.vr_memory.specs.Replica.{Replica}
-use Rattle.vr_memory.specs.Steps.{Word}
-use Rattle.vr_memory.specs.Words.{with_entry_at}
+use Rattle.vr_rules.specs.Replica.{Replica}
+use Rattle.vr_rules.specs.Steps.{Word}
+use Rattle.vr_rules.specs.Words.{with_entry_at}
 use Rattle.vr_disk.specs.declared.fault.Halt.{Halt}
 use Rattle.vr_step.specs.Does.{Does}
 

@@ -2,8 +2,8 @@
 use Rattle.std.specs.Prelude.{ℕ, List, Option, Ok}
 use Rattle.vr_disk.specs.DiskState.{Disk, Face}
 use Rattle.vr_msg.specs.declared.output.Output.{Output}
-use Rattle.vr_memory.specs.Replica.{Replica}
-use Rattle.vr_memory.specs.Steps.{Word, by, each}
+use Rattle.vr_rules.specs.Replica.{Replica}
+use Rattle.vr_rules.specs.Steps.{Word, by, each}
 use Rattle.vr_msg.specs.Choice.{ops}
 use Rattle.vr_step.specs.Does.{Does}
 

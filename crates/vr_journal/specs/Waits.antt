@@ -1,10 +1,10 @@
 -- Steps that end at once: of what was before, or known, or counts without a quorum.
 use Rattle.std.specs.Prelude.{◌+◌, ◌≡◌, ◌&&◌, nat_lt, Bool, true, false, Result, is_ok}
-use Rattle.vr_memory.specs.Replica.{Replica, is_here, part_at}
-use Rattle.vr_memory.specs.Words.{has_quorum, is_loaded}
-use Rattle.vr_memory.specs.Rule.{Rule}
-use Rattle.vr_memory.specs.Rule.TheVariants.{Ignored, PreparedBefore, Other, ChangeBefore}
-use Rattle.vr_memory.specs.Sound.{IsCaughtUp}
+use Rattle.vr_rules.specs.Replica.{Replica, is_here, part_at}
+use Rattle.vr_rules.specs.Words.{has_quorum, is_loaded}
+use Rattle.vr_rules.specs.declared.rule.Rule.{Rule}
+use Rattle.vr_rules.specs.declared.rule.Rule.TheVariants.{Ignored, PreparedBefore, Other, ChangeBefore}
+use Rattle.vr_rules.specs.Sound.{IsCaughtUp}
 use Rattle.vr_disk.specs.declared.fault.Halt.{Halt}
 
 -- the next op hasn't its quorum, and all that can be is applied, as it is at each replica that runs

@@ -4,8 +4,8 @@ ghost use Rattle.vr_base.specs.Bytes.{name_of};
 ghost use Rattle.vr_journal.specs.Acks.{stored_ack};
 ghost use Rattle.vr_journal.specs.Telling.{Tells, each_to};
 ghost use Rattle.vr_memory.specs.Ready.{IsReady};
-ghost use Rattle.vr_memory.specs.Replica.{last_view};
-ghost use Rattle.vr_memory.specs.Rules.{acknowledge_stored};
+ghost use Rattle.vr_rules.specs.Replica.{last_view};
+ghost use Rattle.vr_rules.specs.Rules.{acknowledge_stored};
 
 use std::alloc::AllocError;
 use vr_header::Part;

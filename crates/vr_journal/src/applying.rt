@@ -1,10 +1,11 @@
 //! Apply: the stored entries up to the commit number, in order.
 ghost use Rattle.std.specs.Prelude.{◌≡◌, ◌<◌, ◌≤◌, ◌+◌, ◌^◌, IfOk, true};
 ghost use Rattle.vr_ckpt.specs.Saves.{saved_checkpoint};
-ghost use Rattle.vr_ckpt.specs.StateTexts.{texts_of};
-ghost use Rattle.vr_memory.specs.Replica.{part_at, version};
-ghost use Rattle.vr_memory.specs.Words.{checkpoints, make_checkpoint, is_checkpoint, applied, apply_entry, apply_next, apply, with_entry, learn};
-ghost use Rattle.vr_step.specs.Does.{Caused, PerformsTo, done};
+ghost use Rattle.vr_state.specs.StateTexts.{texts_of};
+ghost use Rattle.vr_rules.specs.Replica.{part_at, version};
+ghost use Rattle.vr_rules.specs.Words.{checkpoints, make_checkpoint, is_checkpoint, applied, apply_entry, apply_next, apply, with_entry, learn};
+ghost use Rattle.vr_disk.specs.Counts.{Caused};
+ghost use Rattle.vr_step.specs.Does.{PerformsTo, done};
 ghost use Rattle.vr_header.specs.declared.part.Part.TheVariants.{Here};
 ghost use Rattle.vr_memory.specs.Ready.{MayApply, HasApplied, due};
 ghost use Rattle.vr_journal.specs.Acts.{Acts, MayAct, Spends};
@@ -185,7 +186,7 @@ fn apply_next<D: SectorDisk>(
 /// each: commit line, reply where the replica leads, state; at a multiple of 32 also the checkpoint, written and saved before the next op.
 /// One that is `Here` and doesn't read becomes `Lost`, and ends it. After an `Err` the disk has had its calls up to the stop; of replica
 /// and outputs nothing is said.
-#[tactic(auto, using(vr_step::proofs::Stepping::loops, vr_memory::proofs::Memory::few_to_apply), unfolding(crate::specs::Words::apply))]
+#[tactic(auto, using(vr_step::proofs::Stepping::loops, vr_memory::proofs::Memory::few_to_apply), unfolding(vr_rules::specs::Words::apply))]
 pub fn apply<D: SectorDisk>(
     replica: &mut Replica,
     alloc: Global,
@@ -206,7 +207,7 @@ pub fn apply<D: SectorDisk>(
 /// The commit number becomes the greater of itself and this one, which counts only up to the head. Then ops are applied up to it, ascending
 /// (`apply`): as long as no block is missing and the next one is `Here` and reads; one that doesn't read becomes `Lost`. After an `Err` the
 /// disk has had its calls up to the stop; of replica and outputs nothing is said.
-#[tactic(auto, using(vr_step::proofs::Stepping::steps, vr_memory::proofs::Memory::readies, vr_memory::proofs::Memory::window_of), unfolding(crate::specs::Words::learn))]
+#[tactic(auto, using(vr_step::proofs::Stepping::steps, vr_memory::proofs::Memory::readies, vr_memory::proofs::Memory::window_of), unfolding(vr_rules::specs::Words::learn))]
 pub fn learn<D: SectorDisk>(
     replica: &mut Replica,
     alloc: Global,

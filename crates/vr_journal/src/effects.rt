@@ -1,8 +1,8 @@
 //! The effects of a replica on its disk, each by the call of its storage crate.
 ghost use Rattle.std.specs.Prelude.{◌≡◌, ◌≤◌, ◌+◌, OnOk, is_ok, is_some, true};
 ghost use Rattle.vr_base.specs.Causes.{HasCause};
-ghost use Rattle.vr_memory.specs.Replica.{version};
-ghost use Rattle.vr_memory.specs.Words.{writes, saves, with_saved, value_of};
+ghost use Rattle.vr_rules.specs.Replica.{version};
+ghost use Rattle.vr_rules.specs.Words.{writes, saves, with_saved, value_of};
 ghost use Rattle.vr_ckpt.specs.Blocks.{named};
 ghost use Rattle.vr_journal.specs.Effects.{rewrites, puts};
 ghost use Rattle.vr_rings.specs.Slots.{Takes};

@@ -1,7 +1,7 @@
 //! The checkpoint is loaded.
 ghost use Rattle.std.specs.Prelude.{◌≡◌, IfOk, nat_lt};
-ghost use Rattle.vr_memory.specs.Replica.{version};
-ghost use Rattle.vr_memory.specs.Words.{load, checkpoint_at};
+ghost use Rattle.vr_rules.specs.Replica.{version};
+ghost use Rattle.vr_rules.specs.Words.{load, checkpoint_at};
 ghost use Rattle.vr_step.specs.Does.{Finds};
 ghost use Rattle.vr_memory.specs.Ready.{MayLoad};
 ghost use Rattle.vr_journal.specs.Acts.{Acts, Keeps, Untouched};

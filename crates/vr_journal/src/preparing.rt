@@ -1,8 +1,8 @@
 //! Entries that are prepared again.
 ghost use Rattle.std.specs.Prelude.{◌≤◌};
+ghost use Rattle.vr_rules.specs.Replica.{last_view};
+ghost use Rattle.vr_rules.specs.Words.{prepare_again};
 ghost use Rattle.vr_memory.specs.Ready.{IsReady};
-ghost use Rattle.vr_memory.specs.Replica.{last_view};
-ghost use Rattle.vr_memory.specs.Words.{prepare_again};
 ghost use Rattle.vr_journal.specs.Acts.{Acts, Keeps};
 
 use crate::reading::read_entry;

@@ -9,11 +9,3 @@ pub mod Rows
 pub mod Slotted
 pub mod Tables
 pub mod Trials
-pub use Rattle.vr_super.proofs.Best
-pub use Rattle.vr_rings.proofs.Cutting
-pub use Rattle.vr_super.proofs.Format
-pub use Rattle.vr_super.proofs.Keeping
-pub use Rattle.vr_rings.proofs.Leaving
-pub use Rattle.vr_super.proofs.Readings
-pub use Rattle.vr_rings.proofs.Spelling
-pub use Rattle.vr_rings.proofs.Standing

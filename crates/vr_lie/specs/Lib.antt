@@ -2,11 +2,3 @@ pub mod Faults
 pub mod Laws
 pub mod Table
 pub mod Told
-pub use Rattle.vr_super.specs.Calls
-pub use Rattle.vr_super.specs.Copies
-pub use Rattle.vr_super.specs.declared.recovering.CopyVerdict
-pub use Rattle.vr_rings.specs.Held
-pub use Rattle.vr_super.specs.Opens
-pub use Rattle.vr_rings.specs.Slots
-pub use Rattle.vr_mem.specs.Lies
-pub use Rattle.vr_mem.specs.Seen

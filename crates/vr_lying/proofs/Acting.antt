@@ -5,15 +5,15 @@ use Rattle.std.proofs.lemmas.Bool.{le-leb, lt-leb}
 use Rattle.vr_disk.specs.DiskState as disk
 use Rattle.vr_disk.specs.DiskState.{Call, Disk, Face, Fuse, Runs, runs}
 use Rattle.vr_disk.proofs.Together.{after_all_append}
-use Rattle.vr_lie.specs.Copies.{SuperValue}
+use Rattle.vr_super.specs.Copies.{SuperValue}
 use Rattle.vr_lie.specs.Faults.{held_at}
 use Rattle.vr_msg.specs.declared.output.Output.{Output}
-use Rattle.vr_lie.specs.Held.{held_after_all}
+use Rattle.vr_rings.specs.Held.{held_after_all}
 use Rattle.vr_world.specs.Lying.{Lying, after_calls, hazards, lying, settled}
-use Rattle.vr_world.specs.Migrating.{migration_calls}
-use Rattle.vr_world.specs.Replica.{Replica}
-use Rattle.vr_world.specs.Sectors.{calls_by, script_calls}
-use Rattle.vr_world.specs.Steps.{Effect, Step, after_all, outputs}
+use Rattle.vr_rules.specs.Migrating.{migration_calls}
+use Rattle.vr_rules.specs.Replica.{Replica}
+use Rattle.vr_rules.specs.Sectors.{calls_by, script_calls}
+use Rattle.vr_rules.specs.Steps.{Effect, Step, after_all, outputs}
 use Rattle.vr_world.specs.World.{Acted, Host, halted, migrated_or_halted, migrated_with, migration_halted, went, went_or_halted}
 use Rattle.vr_lying.specs.Told.{burnt, host_on, lying_in}
 use Rattle.vr_lying.specs.Laws.{ActsGo, ActsHalt, MigrationsGo, MigrationsHalt, WasCut, Went}

@@ -4,8 +4,8 @@ use Rattle.std.specs.Prelude.{IfSome}
 use Rattle.std.proofs.lemmas.List.{ext_get_or}
 use Rattle.std.proofs.lemmas.List.FromFn.{get_or-map-range_with_len, length-map-range_with_len}
 use Rattle.vr_disk.specs.DiskState.{Call, Disk, Face, Fuse, after, after_all, cut, cut_at, ran, runs}
+use Rattle.vr_rings.specs.Held.{held_after, held_after_all, held_cut, held_cut_at}
 use Rattle.vr_lie.specs.Faults.{held_at}
-use Rattle.vr_lie.specs.Held.{held_after, held_after_all, held_cut, held_cut_at}
 use Rattle.vr_world.specs.Lying.{Lying, after_calls, cut_calls, each_slot}
 use Rattle.vr_lying.specs.Told.{IsTold, burnt, lying_in, next_held}
 use Rattle.vr_lying.specs.Laws.{CutsTell, RunsTell, WasCut, Went}

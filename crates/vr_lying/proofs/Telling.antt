@@ -4,12 +4,12 @@ use Rattle.std.specs.Prelude.{replicate}
 use Rattle.std.proofs.lemmas.List.{get_or-replicate, length-replicate}
 use Rattle.vr_disk.specs.DiskState.{Beside, Call, CallVerdict, Goes, Fails, Cuts, Disk, Face, Fate, IsFace, Attaches, Runs, attach_fails, attached, attached_as, judged, ran, ran_as, runs}
 use Rattle.vr_disk.specs.Regions.{sectors}
+use Rattle.vr_cells.specs.Seen as mem
+use Rattle.vr_cells.specs.Seen.{copies}
+use Rattle.vr_super.specs.Opens.{mode_in}
+use Rattle.vr_rings.specs.Held.{looked}
 use Rattle.vr_lie.specs.Faults.{HeldLooked, HeldRan, KeepsPremise, faulted, held_as, held_at}
 use Rattle.vr_lie.specs.declared.fault.Fault.{Fault}
-use Rattle.vr_lie.specs.Held.{looked}
-use Rattle.vr_lie.specs.Opens.{mode_in}
-use Rattle.vr_lie.specs.Seen as mem
-use Rattle.vr_lie.specs.Seen.{copies}
 use Rattle.vr_world.specs.Lying.{Lying, blank_lying, each_slot, in_edition, keeps_premise, lied_to, unless_kept_out, zero_face}
 use Rattle.vr_world.proofs.Premises.{premise, premise_so}
 use Rattle.vr_lying.specs.Told.{lying_in, slots}

@@ -5,14 +5,14 @@ use Rattle.std.proofs.lemmas.Bool.{cases_lt, eqb-true}
 use Rattle.vr_disk.specs.DiskState.{Call, CallVerdict, Face, Goes, Write}
 use Rattle.vr_disk.specs.Regions.{prepare_place}
 use Rattle.vr_disk.specs.Sectors.{together}
-use Rattle.vr_lie.specs.Copies.{SuperValue}
+use Rattle.vr_super.specs.Copies.{SuperValue}
+use Rattle.vr_super.specs.Opens.{opens}
+use Rattle.vr_rings.specs.Held.{entry_of_both, held_after, keeps}
 use Rattle.vr_lie.specs.Faults.{held_at}
-use Rattle.vr_lie.specs.Held.{entry_of_both, held_after, keeps}
-use Rattle.vr_lie.specs.Opens.{opens}
 use Rattle.vr_lie.specs.Told.{version_by}
-use Rattle.vr_world.specs.Opening.{blank}
-use Rattle.vr_world.specs.Replica.{version}
-use Rattle.vr_world.specs.Sectors.{of_version, sectors_by}
+use Rattle.vr_rules.specs.Opening.{blank}
+use Rattle.vr_rules.specs.Replica.{version}
+use Rattle.vr_rules.specs.Sectors.{of_version, sectors_by}
 use Rattle.vr_lying.specs.Disks.{lying_of, told_by}
 use Rattle.vr_lying.specs.Told.{IsTold, lying_in, next_held}
 use Rattle.vr_lying.specs.declared.disk.HostDisk.{HostDisk}

@@ -14,15 +14,15 @@ use Rattle.vr_msg.specs.declared.frame.Frame.{Frame}
 use Rattle.vr_msg.specs.declared.frame.SyncView.{SyncView}
 use Rattle.vr_msg.specs.declared.output.Output.{Output}
 use Rattle.vr_msg.specs.declared.statement.Statement.{Statement}
-use Rattle.vr_lie.specs.Copies.{SuperValue}
+use Rattle.vr_super.specs.Copies.{SuperValue}
 use Rattle.vr_ckpt.specs.declared.name.Name.{Name}
-use Rattle.vr_world.specs.Replica.{Replica, forgetting, is_alone, part_at, with_part, last_view}
-use Rattle.vr_world.specs.Steps.{Effect, Rewrite, Mend, Setting, Step, Word, ◌⨾◌, quiet, change, does, says, by, naming, reading, when, times, each, after_all}
-use Rattle.vr_world.specs.Outputs.{applied_reply, commit_line, send_to_all, start_line, start_view_change, wait_line, to_primary, do_view_change}
-use Rattle.vr_world.specs.Words.{Log, accept, advance, advanced, apply, apply_entry, apply_next, applied, ask, ask_for, ask_peer, begin_view, checkpoints, chosen_log, choose_line, decided, enter, entered, learn, learned, load, loads, lost, make_checkpoint, obey_choice, or_lost, prepare_again, resend, rested, save, saves, speak, stated, stored, take, taken, try, try_log, turned, with_checkpoint, with_entry, with_entry_at, with_saved, write, writes, blocks_of, is_loaded, jump, jumped, least_absent, mend_header, op_of_slot, place_now, visit, visit_block, visit_place, visit_read, visit_slot, with_cursor, with_worn}
-use Rattle.vr_world.specs.Opening.{Slot, announce, clouded, entry_header, heard_itself, in_next_view, leave_view, mend_slot, old_headers, old_part, opening, part_by, recover_old, recover_op, recover_parts, resuming, rewrite, slot_verdict}
+use Rattle.vr_rules.specs.Replica.{Replica, forgetting, is_alone, part_at, with_part, last_view}
+use Rattle.vr_rules.specs.Steps.{Effect, Rewrite, Mend, Setting, Step, Word, ◌⨾◌, quiet, change, does, says, by, naming, reading, when, times, each, after_all}
+use Rattle.vr_rules.specs.Outputs.{applied_reply, commit_line, send_to_all, start_line, start_view_change, wait_line, to_primary, do_view_change}
+use Rattle.vr_rules.specs.Words.{Log, accept, advance, advanced, apply, apply_entry, apply_next, applied, ask, ask_for, ask_peer, begin_view, checkpoints, chosen_log, choose_line, decided, enter, entered, learn, learned, load, loads, lost, make_checkpoint, obey_choice, or_lost, prepare_again, resend, rested, save, saves, speak, stated, stored, take, taken, try, try_log, turned, with_checkpoint, with_entry, with_entry_at, with_saved, write, writes, blocks_of, is_loaded, jump, jumped, least_absent, mend_header, op_of_slot, place_now, visit, visit_block, visit_place, visit_read, visit_slot, with_cursor, with_worn}
+use Rattle.vr_rules.specs.Opening.{Slot, announce, clouded, entry_header, heard_itself, in_next_view, leave_view, mend_slot, old_headers, old_part, opening, part_by, recover_old, recover_op, recover_parts, resuming, rewrite, slot_verdict}
 use Rattle.vr_world.specs.Lying.{Lying, lying}
-use Rattle.vr_world.specs.Sectors.{sectors_by}
+use Rattle.vr_rules.specs.Sectors.{sectors_by}
 use Rattle.vr_world.proofs.FitLies.{same_face, same_version}
 use Rattle.vr_msg.specs.Choice.{ops}
 use Rattle.vr_recover.specs.declared.readings.Verdict.{Verdict}

@@ -3,14 +3,14 @@ use Rattle.std.specs.Prelude.{ℕ, ◌<◌, ◌≤◌, ◌≡◌, true, false, L
 use Rattle.vr_disk.specs.DiskState.{Call, Disk, Fuse, Runs, runs}
 use Rattle.vr_msg.specs.declared.event.Event.{Event}
 use Rattle.vr_msg.specs.declared.output.Output.TheVariants as output
-use Rattle.vr_lie.specs.Copies.{SuperValue}
+use Rattle.vr_super.specs.Copies.{SuperValue}
+use Rattle.vr_rules.specs.Migrating.{migration_calls}
+use Rattle.vr_rules.specs.Opening.{blank, opening}
+use Rattle.vr_rules.specs.Replica.{Replica}
+use Rattle.vr_rules.specs.Rules.{react}
+use Rattle.vr_rules.specs.Sectors.{script_calls, sectors_by}
+use Rattle.vr_rules.specs.Steps.{Step, outputs}
 use Rattle.vr_world.specs.Lying.{Lying, after_calls, cut_calls, hazards, lying}
-use Rattle.vr_world.specs.Migrating.{migration_calls}
-use Rattle.vr_world.specs.Opening.{blank, opening}
-use Rattle.vr_world.specs.Replica.{Replica}
-use Rattle.vr_world.specs.Rules.{react}
-use Rattle.vr_world.specs.Sectors.{script_calls, sectors_by}
-use Rattle.vr_world.specs.Steps.{Step, outputs}
 use Rattle.vr_world.specs.World.{acts, migrated_or_halted}
 use Rattle.vr_lying.specs.Told.{IsTold, burnt, host_on, lying_in, next_held, settled_on}
 

@@ -2,8 +2,8 @@
 use Rattle.std.specs.Prelude.{ℕ, ◌-◌, ◌≡◌, false, List, [], length, Option, Some, None}
 use Rattle.vr_disk.specs.DiskState.{Beside, Call, CallVerdict, Disk, Face, Fuse}
 use Rattle.vr_lie.specs.Faults.{held_as, held_at}
+use Rattle.vr_rules.specs.Replica.{Replica}
 use Rattle.vr_world.specs.Lying.{Lying, each_slot, settled}
-use Rattle.vr_world.specs.Replica.{Replica}
 use Rattle.vr_world.specs.World.{Host}
 
 -- what a call leaves of what the slots hold, in a file of a version

@@ -3,5 +3,3 @@ pub mod Cells
 pub mod Honesty
 pub mod Owed
 pub mod Told
-pub use Rattle.vr_cells.specs.Lies
-pub use Rattle.vr_cells.specs.Seen

@@ -1,11 +1,11 @@
 -- What applying an entry does.
 use Rattle.std.proofs.Common.{◌≡◌, ◌∙◌, ℕ, cond, List, [], ◌∷◌, ◌++◌, append_assoc}
-use Rattle.vr_ckpt.specs.ReplyBody.{ReplyBody}
-use Rattle.vr_ckpt.specs.ReplyBody.TheVariants as body
-use Rattle.vr_ckpt.specs.Fitting.{ReplyFits}
-use Rattle.vr_ckpt.proofs.Fitting.{reply_fits as state_reply_fits}
-use Rattle.vr_ckpt.specs.State.{State}
-use Rattle.vr_ckpt.specs.Folds as state
+use Rattle.vr_state.specs.declared.reply.ReplyBody.{ReplyBody}
+use Rattle.vr_state.specs.declared.reply.ReplyBody.TheVariants as body
+use Rattle.vr_state.specs.Fitting.{ReplyFits}
+use Rattle.vr_state.proofs.Fitting.{reply_fits as state_reply_fits}
+use Rattle.vr_state.specs.declared.state.State.{State}
+use Rattle.vr_state.specs.Folds as state
 use Rattle.vr_header.specs.declared.header.Header.{Header}
 use Rattle.vr_header.specs.Made.{Whole, IsEntry}
 use Rattle.vr_rules.proofs.Replying.{reply_numbered}

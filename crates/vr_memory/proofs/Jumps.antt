@@ -12,7 +12,7 @@ use Rattle.vr_ckpt.specs.declared.name.Name.{Name}
 use Rattle.vr_header.specs.declared.part.Part.{Part}
 use Rattle.vr_header.specs.declared.part.Part.TheVariants.{Nothing}
 use Rattle.vr_msg.specs.declared.frame.SyncView.{SyncView}
-use Rattle.vr_msg.specs.Logs.{has_header}
+use Rattle.vr_header.specs.Parts.{has_header}
 use Rattle.vr_rules.specs.Replica.{Replica, forgetting, head, part_at}
 use Rattle.vr_rules.specs.Words.{is_chain, jumped, jumped_part, no_statements}
 use Rattle.vr_rules.proofs.Heads.{Spans, head_reaches, part_within}

@@ -1,15 +1,15 @@
 -- A state that was loaded, or none.
 use Rattle.std.proofs.Common.{◌≡◌, refl, List, [], ◌∷◌, Some, None, Ok, ℕ, true, false}
-use Rattle.vr_ckpt.specs.Texts.{Texts}
-use Rattle.vr_ckpt.specs.State.{State}
-use Rattle.vr_ckpt.specs.StateTexts.{state_decoded}
-use Rattle.vr_ckpt.specs.Fitting.{fits}
+use Rattle.vr_state.specs.declared.texts.Texts.{Texts}
+use Rattle.vr_state.specs.declared.state.State.{State}
+use Rattle.vr_state.specs.StateTexts.{state_decoded}
+use Rattle.vr_state.specs.Fitting.{fits}
+use Rattle.vr_state.specs.declared.fault.StateFault.{StateFault}
+use Rattle.vr_state.specs.declared.fault.StateFault.TheVariants as fault
+use Rattle.vr_state.specs.Table.{IsOrNoMemory}
 use Rattle.vr_ckpt.specs.declared.found.Load.TheVariants.{Loaded}
 use Rattle.vr_ckpt.specs.declared.table.PayloadTable.{PayloadTable}
 use Rattle.vr_ckpt.specs.declared.name.Name.{Name}
-use Rattle.vr_ckpt.specs.StateFault.{StateFault}
-use Rattle.vr_ckpt.specs.StateFault.TheVariants as fault
-use Rattle.vr_ckpt.specs.Table.{IsOrNoMemory}
 use Rattle.vr_rules.specs.Replica.{Replica, version}
 use Rattle.vr_rules.specs.Words.{loads, usable, with_state, with_missing}
 

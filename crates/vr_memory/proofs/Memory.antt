@@ -1,10 +1,10 @@
 -- Bounds that sound replicas have, and changes of ready ones.
 use Rattle.vr_rings.specs.Slots.{Takes}
-use Rattle.vr_ckpt.specs.Folds as state
-use Rattle.vr_ckpt.proofs.Fitting.{Fits-applied}
-use Rattle.vr_ckpt.specs.Fitting.{Fits}
-use Rattle.std.proofs.Common.{arith, ◌≡◌, ◌≤◌, ◌<◌, ◌+◌, ◌-◌, ◌^◌, ◌%◌, refl, sym, subst, ℕ, length, List}
-use Rattle.std.proofs.lemmas.List.{length-set}
+use Rattle.vr_state.specs.Folds as state
+use Rattle.vr_state.proofs.Fitting.{Fits-applied}
+use Rattle.vr_state.specs.Fitting.{Fits}
+use Rattle.std.proofs.Common.{arith, ◌≡◌, ◌≤◌, ◌<◌, ◌+◌, ◌-◌, ◌^◌, ◌%◌, refl, sym, subst, ℕ, length, List, ◌∙◌, ap, Result, Ok, Err}
+use Rattle.std.proofs.lemmas.List.{length-set, nil_from_length}
 use Rattle.vr_super.specs.Copies.{IsGood, SuperValue}
 use Rattle.vr_super.specs.declared.fields.Fields.{Fields}
 use Rattle.vr_header.specs.declared.header.Header.{Header}
@@ -12,29 +12,24 @@ use Rattle.vr_header.specs.declared.part.Part.{Part}
 use Rattle.vr_header.specs.declared.part.Part.TheVariants.{Here}
 use Rattle.vr_header.specs.Made.{Whole, IsEntry}
 use Rattle.vr_rules.specs.Replica.{Replica, head, run, forgetting, with_part, part_at, last_view, version}
-use Rattle.vr_rules.specs.Words.{value_of, with_saved, rested, stored, lost, entered, learned, applied}
+use Rattle.vr_rules.specs.Words.{value_of, with_saved, rested, stored, lost, entered, learned, applied, with_checkpoint, is_checkpoint, is_loaded}
 use Rattle.vr_rules.proofs.SavesCore.{value_is_good}
 use Rattle.vr_rules.proofs.SavesWell.{savable_alike, savable_saved}
-use Rattle.vr_rules.proofs.SavesParts.{savable_stored, savable_lost, savable_entered}
-use Rattle.vr_rules.proofs.Storing.{MayStore as May, kept_stored, kept_lost}
+use Rattle.vr_rules.proofs.SavesParts.{savable_stored, savable_lost, savable_entered, savable_move, topped_moved}
+use Rattle.vr_rules.proofs.Storing.{MayStore as May, kept_stored, kept_lost, kept_applied, kept_moved, head_number}
 use Rattle.vr_rules.proofs.Wording.{kept_entered}
 use Rattle.vr_rules.proofs.Heads.{head_within, head_from, known_within, knows_some}
-use Rattle.vr_msg.specs.Logs.{header_of}
+use Rattle.vr_header.specs.Parts.{header_of}
 use Rattle.vr_rules.proofs.Keeping.{spans_of, sound_alike, sound_commit}
-use Rattle.vr_rules.proofs.Storing.{kept_applied, kept_moved, head_number}
-use Rattle.vr_rules.proofs.SavesParts.{savable_move, topped_moved}
 use Rattle.vr_rules.proofs.SavesSectors.{sectors_fit}
-use Rattle.vr_rules.specs.Words.{with_checkpoint, is_checkpoint, is_loaded}
-use Rattle.vr_ckpt.specs.Texts.{Texts}
+use Rattle.vr_state.specs.declared.texts.Texts.{Texts}
 use Rattle.vr_ckpt.specs.declared.table.PayloadTable.{PayloadTable}
 use Rattle.vr_ckpt.specs.declared.saving.SavedCheckpoint as checkpoint
 use Rattle.vr_ckpt.specs.Places.{IsCheckpoint}
 use Rattle.vr_ckpt.specs.Saves.{saved_checkpoint}
 use Rattle.vr_rules.specs.Sound.{IsNameBytes}
 use Rattle.std.specs.Prelude.{max, min, OnOk, Bool, true, false, ◌&&◌, nat_lt}
-use Rattle.std.proofs.Common.{◌∙◌, ap, Result, Ok, Err}
 use Rattle.std.proofs.lemmas.Bool.{and_parts, ltb-true, eqb-true, eqb-false}
-use Rattle.std.proofs.lemmas.List.{nil_from_length}
 use Rattle.vr_memory.specs.Ready.{IsReady, HasWindow, MayStore, MayApply, HasApplied, Readiness}
 
 pub record Bounds (r : Replica) : Type 0 where

@@ -13,7 +13,7 @@ use Rattle.vr_header.specs.declared.part.Part.{Part}
 use Rattle.vr_header.specs.declared.part.Part.TheVariants.{Here, Lost, Wanted, Unknown, Nothing}
 use Rattle.vr_header.specs.Made.{IsEntryHeader}
 use Rattle.vr_msg.specs.Choice.{ops}
-use Rattle.vr_msg.specs.Logs.{header_of}
+use Rattle.vr_header.specs.Parts.{header_of}
 use Rattle.vr_rules.specs.Replica.{Replica, head, is_absent, is_alone, part_at, parts_from}
 use Rattle.vr_rules.specs.Rules.{not_worn, without}
 use Rattle.vr_rules.specs.Words.{advanced, has_quorum, least_absent, turned}

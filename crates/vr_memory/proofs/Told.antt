@@ -7,7 +7,8 @@ use Rattle.vr_msg.specs.declared.frame.Frame.{Frame}
 use Rattle.vr_msg.specs.declared.statement.Statement.{Statement}
 use Rattle.vr_header.specs.declared.part.Part.TheVariants.{Nothing}
 use Rattle.vr_msg.specs.Forms.{IsDoViewChange, IsStartView, IsSyncView}
-use Rattle.vr_msg.specs.Logs.{FromOp, IsEntryAt, has_header}
+use Rattle.vr_msg.specs.Logs.{FromOp, IsEntryAt}
+use Rattle.vr_header.specs.Parts.{has_header}
 use Rattle.vr_rules.specs.Deciding.{reaches_down}
 use Rattle.vr_rules.specs.Replica.{Replica, head, last_view, part_at, run, run_start, statement_of, knows, version}
 use Rattle.vr_rules.specs.Outputs.{send_to_all}

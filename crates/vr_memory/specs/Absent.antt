@@ -4,7 +4,7 @@ use Rattle.std.specs.Option.{option_and_then}
 use Rattle.vr_header.specs.declared.header.Header.{Header}
 use Rattle.vr_header.specs.declared.part.Part.{Part}
 use Rattle.vr_header.specs.declared.part.Part.TheVariants.{Here, Lost, Wanted, Unknown, Nothing}
-use Rattle.vr_msg.specs.Logs.{header_of}
+use Rattle.vr_header.specs.Parts.{header_of}
 use Rattle.vr_rules.specs.Replica.{is_absent}
 
 abbrev pub absent_header : Part → Option Header

@@ -2,7 +2,7 @@
 ghost use Rattle.std.specs.Prelude.{◌≡◌, ◌≤◌, ◌<◌, ◌++◌, ◌&&◌, IfOk, OnOk, length, nat_lt, true};
 ghost use Rattle.vr_base.specs.Bytes.{name_of};
 ghost use Rattle.vr_header.specs.Made.{IsEntryHeader};
-ghost use Rattle.vr_msg.specs.Logs.{has_header};
+ghost use Rattle.vr_header.specs.Parts.{has_header};
 ghost use Rattle.vr_memory.specs.Ready.{IsReady};
 ghost use Rattle.vr_rules.specs.Deciding.{reaches_down};
 ghost use Rattle.vr_rules.specs.Outputs.{get_block, get_prepare, get_sync, give_block, give_prepare, send_to, sync_view};

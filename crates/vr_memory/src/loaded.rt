@@ -1,7 +1,7 @@
 //! What a checkpoint that was loaded leaves.
 ghost use Rattle.std.specs.Prelude.{◌≡◌, ◌∷◌, [], IfOk, OnOk};
+ghost use Rattle.vr_state.specs.StateTexts.{state_decoded};
 ghost use Rattle.vr_ckpt.specs.declared.found.Load.{Load};
-ghost use Rattle.vr_ckpt.specs.StateTexts.{state_decoded};
 ghost use Rattle.vr_rules.specs.Words.{loads, usable, with_state};
 
 use crate::Replica;

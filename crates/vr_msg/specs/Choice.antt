@@ -10,7 +10,7 @@ use Rattle.vr_msg.specs.declared.statement.Statement.{Statement}
 use Rattle.vr_msg.specs.declared.choice.Choice.{Choice}
 use Rattle.vr_msg.specs.declared.choice.Choice.TheVariants.{Ends, WaitsAt, TooFew}
 use Rattle.vr_header.specs.Same.{same_header}
-use Rattle.vr_msg.specs.Logs.{header_of}
+use Rattle.vr_header.specs.Parts.{header_of}
 
 -- What a statement says of op k: it has nothing before its list and past it.
 abbrev pub stated_part : ℕ → Statement → Part

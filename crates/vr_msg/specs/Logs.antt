@@ -5,7 +5,7 @@ use Rattle.vr_header.specs.declared.header.Header.{Header}
 use Rattle.vr_header.specs.declared.part.Part.{Part}
 use Rattle.vr_header.specs.declared.part.Part.TheVariants.{Here, Lost, Wanted, Unknown, Nothing}
 use Rattle.vr_header.specs.Made.{IsEntryHeader}
-pub use Rattle.vr_header.specs.Parts.{header_of, has_header}
+use Rattle.vr_header.specs.Parts.{has_header}
 use Rattle.vr_msg.specs.declared.statement.Statement.{Statement}
 use Rattle.vr_msg.specs.Numbers.{IsNumber}
 

@@ -12,6 +12,7 @@ use Rattle.vr_header.specs.Bodies.{operation_bytes, outcome_bytes}
 use Rattle.vr_header.specs.Made.{entry_bytes}
 use Rattle.vr_header.specs.Names.{no_name}
 use Rattle.vr_header.specs.Spelling.{header_bytes, IsHeader}
+use Rattle.vr_header.specs.Parts.{header_of}
 use Rattle.vr_msg.specs.declared.frame.Frame.{Frame}
 use Rattle.vr_msg.specs.declared.frame.Frame.TheVariants as frame
 use Rattle.vr_msg.specs.declared.frame.SyncView.{SyncView}
@@ -19,7 +20,6 @@ use Rattle.vr_msg.specs.declared.reply.ReplyKind.{ReplyKind}
 use Rattle.vr_msg.specs.declared.reply.ReplyKind.TheVariants as reply
 use Rattle.vr_msg.specs.declared.statement.DvcBody.{DvcBody}
 use Rattle.vr_msg.specs.Forms.{IsFrame}
-use Rattle.vr_msg.specs.Logs.{header_of}
 
 -- the command of each kind of message
 abbrev pub command_for : Frame → Command

@@ -3,7 +3,8 @@ use Rattle.std.proofs.Common.{ℕ, ◌≡◌, ◌⊎◌, inl, inr, refl, sym, ap
 use Rattle.std.specs.Prelude.{Contains, slice_get}
 use Rattle.std.specs.List.{AllByRecursion}
 use Rattle.std.specs.Option.{option_map}
-use Rattle.vr_base.specs.Bytes.{sha256, first_words, schedule, rounds, compress, hash_after, digest_bytes, bytes16, bytes32, bytes64, name_of}
+use Rattle.sha2.specs.Sha256.{sha256, first_words, schedule, rounds, compress, hash_after, digest_bytes}
+use Rattle.vr_base.specs.Bytes.{bytes16, bytes32, bytes64, name_of}
 use Rattle.vr_base.specs.Kinds.{strict}
 use Rattle.vr_base.specs.declared.mode.Mode.TheVariants.{Strict}
 use Rattle.vr_header.specs.Bodies.{operation_bytes}

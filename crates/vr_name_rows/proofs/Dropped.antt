@@ -1,6 +1,7 @@
 -- What the steps are of a group whose new primary drops an entry that only the stopped one has: of the other two.
 use Rattle.std.proofs.Common.{ℕ, ◌≡◌, ◌%◌, ◌++◌, List, [], ◌∷◌, map, cond, Option, Some, replicate, refl, ap, ◌∙◌, true, false}
-use Rattle.vr_base.specs.Bytes.{sha256, first_words, schedule, rounds, compress, hash_after, digest_bytes, bytes16, bytes32, bytes64, name_of}
+use Rattle.sha2.specs.Sha256.{sha256, first_words, schedule, rounds, compress, hash_after, digest_bytes}
+use Rattle.vr_base.specs.Bytes.{bytes16, bytes32, bytes64, name_of}
 use Rattle.vr_base.specs.Replicas.{no_replicas, with_replica}
 use Rattle.vr_base.specs.declared.mode.Mode.TheVariants.{Strict}
 use Rattle.vr_header.specs.Bodies.{operation_bytes}

@@ -25,7 +25,7 @@ use Rattle.law_4_disks.specs.Worlds.{AreBeside, IsHashedAt, IsHashedCut, Work, b
 use Rattle.law_4_disks.proofs.Fresh.{fresh_beside, schedules_begin}
 use Rattle.law_6_one_log.specs.Schedules.{IsHashedOf, IsUsedAt}
 use Rattle.law_6_one_log.proofs.Blank.{reads_nothing}
-use Rattle.law_3_outputs.proofs.StoredLists.{contains_in}
+use Rattle.law_2_chains.proofs.StoredLists.{contains_in}
 use Rattle.vr_name_rows.proofs.Disks.{IsOf, IsOfIn, Plain, PlainIn}
 
 -- ---- a disk that was just formatted

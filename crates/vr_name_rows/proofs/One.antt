@@ -1,7 +1,8 @@
 -- A group of one on a file of version 2: its entries, its steps, and that the names of what it hashes don't collide.
 use Rattle.std.proofs.Common.{ℕ, ◌≡◌, inl, inr, arith, refl, sym, ap, ◌∙◌, subst, cond, eqb, get_or, List, [], ◌∷◌, ◌++◌, codes, drop, replicate, Some, true, false}
 use Rattle.std.specs.List.{AllByRecursion}
-use Rattle.vr_base.specs.Bytes.{IsBytes, sha256, first_words, schedule, rounds, compress, hash_after, digest_bytes, bytes16, bytes32, bytes64, name_of}
+use Rattle.sha2.specs.Sha256.{sha256, first_words, schedule, rounds, compress, hash_after, digest_bytes}
+use Rattle.vr_base.specs.Bytes.{IsBytes, bytes16, bytes32, bytes64, name_of}
 use Rattle.vr_base.proofs.AreBytes.{IsBytes-name_of}
 use Rattle.vr_base.specs.declared.kind.Kind.{Kind}
 use Rattle.vr_base.specs.declared.mode.Mode.TheVariants.{Strict}

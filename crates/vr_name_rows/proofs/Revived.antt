@@ -1,7 +1,8 @@
 -- A member that was halted before the entry was stored is recovered as one that has nothing, and a view changes: its steps.
 use Rattle.std.proofs.Common.{ℕ, ◌≡◌, List, [], ◌∷◌, map, Some, refl, ap, ◌∙◌, true}
 use Rattle.std.specs.List.{AllByRecursion}
-use Rattle.vr_base.specs.Bytes.{name_of, sha256}
+use Rattle.sha2.specs.Sha256.{sha256}
+use Rattle.vr_base.specs.Bytes.{name_of}
 use Rattle.vr_base.specs.Replicas.{no_replicas, with_replica}
 use Rattle.vr_base.specs.declared.mode.Mode.TheVariants.{Strict}
 use Rattle.vr_msg.specs.Choice.{choice, named_by, row_end, log_headers}

@@ -1,6 +1,7 @@
 -- How two members are started: one that lost both places of an entry, and one that has it.
 use Rattle.std.proofs.Common.{ℕ, ◌≡◌, refl, ap, ◌∙◌, cond, eqb, false, true, List, [], ◌∷◌, ◌++◌, map, Some, None}
-use Rattle.vr_base.specs.Bytes.{sha256, name_of}
+use Rattle.sha2.specs.Sha256.{sha256}
+use Rattle.vr_base.specs.Bytes.{name_of}
 use Rattle.vr_header.specs.Same.{same_header}
 use Rattle.vr_super.specs.Opens.{opens}
 use Rattle.vr_rules.specs.Replica.{Replica, forgetting, head, part_at, run, with_part}

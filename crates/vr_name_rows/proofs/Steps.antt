@@ -1,7 +1,8 @@
 -- What the steps of the plain path are, on disks of which it is known what they read as.
 use Rattle.std.proofs.Common.{ℕ, ◌+◌, ◌%◌, ◌≡◌, ◌&&◌, nat_lt, cond, map, List, [], ◌∷◌, ◌++◌, Option, Some, None, replicate, refl, ap, ◌∙◌, true, false}
 use Rattle.std.specs.Option.{option_and_then}
-use Rattle.vr_base.specs.Bytes.{sha256, first_words, schedule, rounds, compress, hash_after, digest_bytes, bytes16, bytes32, bytes64, name_of}
+use Rattle.sha2.specs.Sha256.{sha256, first_words, schedule, rounds, compress, hash_after, digest_bytes}
+use Rattle.vr_base.specs.Bytes.{bytes16, bytes32, bytes64, name_of}
 use Rattle.vr_base.specs.Kinds.{of_mode}
 use Rattle.vr_base.specs.declared.mode.Mode.{Mode}
 use Rattle.vr_base.specs.Replicas.{no_replicas, with_replica}

@@ -4,7 +4,8 @@ use Rattle.std.specs.Prelude.{is_some}
 use Rattle.std.specs.Option.{option_and_then, option_map}
 use Rattle.std.proofs.lemmas.Bool.{cases_eq, cases_lt}
 use Rattle.std.proofs.lemmas.List.{get_or-take, get_or_append_left, length-append}
-use Rattle.vr_base.specs.Bytes.{sha256, first_words, schedule, rounds, compress, hash_after, digest_bytes, bytes16, bytes32, bytes64, name_of, piece}
+use Rattle.sha2.specs.Sha256.{sha256, first_words, schedule, rounds, compress, hash_after, digest_bytes}
+use Rattle.vr_base.specs.Bytes.{bytes16, bytes32, bytes64, name_of, piece}
 use Rattle.vr_base.specs.declared.mode.Mode.{Mode}
 use Rattle.vr_disk.specs.DiskState.{Cell, Face, IsFace, blank as no_cell, cell, damaged, reads}
 use Rattle.vr_disk.specs.Regions.{block_place, header_place, prepare_place, sectors}
@@ -13,7 +14,7 @@ use Rattle.vr_disk.proofs.Together.{together_first, together_same}
 use Rattle.vr_header.specs.Made.{Whole, entry_bytes}
 use Rattle.vr_header.specs.Spelling.{header_bytes, named_bytes}
 use Rattle.vr_header.specs.Bodies.{operation_bytes}
-use Rattle.vr_lie.specs.Lies.{lied}
+use Rattle.vr_cells.specs.Lies.{lied}
 use Rattle.vr_super.specs.Opens.{copy_reading, good_copy, mode_in, opens}
 use Rattle.vr_rings.specs.Held.{Holds, MayRead, is_header_sector}
 use Rattle.vr_rings.specs.Slots.{IsWhole, header_in, header_of, header_reading, padded, prepare_bytes, prepare_reading, sector_of, whole_in, whole_of}

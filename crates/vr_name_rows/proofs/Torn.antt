@@ -1,7 +1,8 @@
 -- A write of the first entry that is cut at the third sector of its prepare, all three left damaged.
 use Rattle.std.proofs.Common.{ℕ, ◌*◌, ◌≤◌, ◌<◌, ◌≡◌, ◌≢◌, ◌⊎◌, inl, inr, arith, refl, sym, ap, ◌∙◌, subst, drop, take, List, [], ◌∷◌, ◌++◌, length, get_or, set, Some, get_or-set_other, get_or-set_same, length-set}
 use Rattle.std.specs.List.{AllByRecursion}
-use Rattle.vr_base.specs.Bytes.{sha256, first_words, schedule, rounds, compress, hash_after, digest_bytes, bytes16, bytes32, bytes64, name_of, piece}
+use Rattle.sha2.specs.Sha256.{sha256, first_words, schedule, rounds, compress, hash_after, digest_bytes}
+use Rattle.vr_base.specs.Bytes.{bytes16, bytes32, bytes64, name_of, piece}
 use Rattle.vr_disk.specs.DiskState.{Call, Cell, Face, Waiting, Write, blank as no_cell, cell, cut, damaged, reads, waits, written}
 use Rattle.vr_disk.specs.Regions.{sectors}
 use Rattle.vr_disk.specs.Sectors.{together, writes}

@@ -1,6 +1,7 @@
 -- What the superblock of a member names at first, and the name of that, computed over 10,224 bytes.
 use Rattle.std.proofs.Common.{ℕ, ◌≡◌, List, [], ◌∷◌, refl}
-use Rattle.vr_base.specs.Bytes.{sha256, first_words, schedule, rounds, compress, hash_after, digest_bytes, bytes16, bytes32, bytes64, name_of}
+use Rattle.sha2.specs.Sha256.{sha256, first_words, schedule, rounds, compress, hash_after, digest_bytes}
+use Rattle.vr_base.specs.Bytes.{bytes16, bytes32, bytes64, name_of}
 use Rattle.vr_base.specs.Kinds.{strict}
 use Rattle.vr_super.specs.Copies.{front_bytes, list_bytes, named_bytes, zeros}
 use Rattle.vr_rules.specs.Opening.{first_value}

@@ -19,7 +19,7 @@ use Rattle.vr_node.specs.Running.{EndsAttached, GroupEnds, IsCut, NodeEnds, Outs
 use Rattle.vr_node.specs.Steps.{steps}
 use Rattle.vr_node.specs.Stops.{disk_after, status_of}
 use Rattle.vr_node.specs.declared.node.Node.{Node}
-use Rattle.vr_replica.specs.Replica.{version}
+use Rattle.vr_rules.specs.Replica.{version}
 use Rattle.vr_serve.specs.Causes.{Counts, HasCauses, counts}
 use Rattle.vr_serve.specs.Causes as serve
 use Rattle.vr_serve.specs.Runs.{IsServed}

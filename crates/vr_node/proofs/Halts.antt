@@ -7,9 +7,9 @@ use Rattle.vr_msg.specs.declared.event.Event.{Event}
 use Rattle.vr_msg.specs.declared.output.Output.{Output}
 use Rattle.vr_node.specs.Steps.{steps, stops}
 use Rattle.vr_node.specs.declared.node.Node.{Node}
-use Rattle.vr_replica.specs.Does.{Does}
-use Rattle.vr_replica.specs.Replica.{version}
-use Rattle.vr_replica.specs.Rules.{react}
+use Rattle.vr_step.specs.Does.{Does}
+use Rattle.vr_rules.specs.Replica.{version}
+use Rattle.vr_rules.specs.Rules.{react}
 
 pub went : (node node' : Node) (d d' : Option Disk) (event : Event) (out : List Output) (result : Result (Unit {0}) Halt) → (1 ≤ version node.replica.memory) × (version node.replica.memory ≤ 2)
     → Does (react event) node.replica.memory node'.replica.memory d d' [] out result → OnOk result (steps node d event out node' d')

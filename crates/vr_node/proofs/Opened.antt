@@ -5,12 +5,12 @@ use Rattle.vr_base.specs.declared.table.Config.{Config}
 use Rattle.vr_disk.specs.DiskState.{Disk}
 use Rattle.vr_msg.specs.declared.output.Output.{Output}
 use Rattle.vr_node.specs.Opening.{Opening}
-use Rattle.vr_replica.specs.Recovering.{Recovered}
-use Rattle.vr_replica.specs.Refusal.TheVariants as found
+use Rattle.vr_opening.specs.Recovering.{Recovered}
+use Rattle.vr_opening.specs.declared.reopen.Refusal.TheVariants as found
 use Rattle.vr_replica.specs.Running.{Running}
 use Rattle.vr_status.specs.declared.status.Status.{Status}
 use Rattle.vr_status.specs.declared.status.Status.TheVariants as status
-use Rattle.vr_replica.specs.Halt.TheVariants as halt
+use Rattle.vr_disk.specs.declared.fault.Halt.TheVariants as halt
 use Rattle.vr_super.specs.declared.recovering.CopyVerdict.{CopyVerdict}
 
 -- what is put out by an opening that failed is nothing

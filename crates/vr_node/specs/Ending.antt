@@ -12,7 +12,7 @@ use Rattle.vr_node.specs.Steps.{steps}
 use Rattle.vr_node.specs.Stops.{disk_after}
 use Rattle.vr_node.specs.declared.node.Node.{Node}
 use Rattle.vr_node.specs.declared.role.Role.{Role}
-use Rattle.vr_replica.specs.Replica.{version}
+use Rattle.vr_rules.specs.Replica.{version}
 use Rattle.vr_serve.specs.Causes.{Counts, HasCauses, counts}
 use Rattle.vr_serve.specs.Runs.{IsServed}
 use Rattle.vr_serve.specs.declared.stop.Stop.{Stop}

@@ -4,11 +4,3 @@ pub mod Opening
 pub mod Running
 pub mod Steps
 pub mod Stops
-pub use Rattle.vr_replica.specs.Does
-pub use Rattle.vr_replica.specs.Fit
-pub use Rattle.vr_replica.specs.Formatting
-pub use Rattle.vr_replica.specs.Migrating
-pub use Rattle.vr_replica.specs.Outputs
-pub use Rattle.vr_replica.specs.Replica
-pub use Rattle.vr_replica.specs.Rules
-pub use Rattle.vr_replica.specs.Sectors

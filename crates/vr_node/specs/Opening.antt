@@ -7,15 +7,15 @@ use Rattle.vr_disk.specs.Counts.{CountsFault}
 use Rattle.vr_disk.specs.DiskState.{Disk}
 use Rattle.vr_disk.specs.declared.disk.SectorDisk as of_disk
 use Rattle.vr_msg.specs.declared.output.Output.{Output}
-use Rattle.vr_replica.specs.Making.{Made}
-use Rattle.vr_replica.specs.Recovering.{Recovered}
-use Rattle.vr_replica.specs.FreshFault.TheVariants as made
-use Rattle.vr_replica.specs.Refusal.TheVariants as found
+use Rattle.vr_opening.specs.Making.{Made}
+use Rattle.vr_opening.specs.Recovering.{Recovered}
+use Rattle.vr_opening.specs.declared.new_member.FreshFault.TheVariants as made
+use Rattle.vr_opening.specs.declared.reopen.Refusal.TheVariants as found
 use Rattle.vr_replica.specs.Running.{Running}
-use Rattle.vr_replica.specs.Replica.{Replica}
+use Rattle.vr_rules.specs.Replica.{Replica}
 use Rattle.vr_status.specs.declared.status.Status.{Status}
 use Rattle.vr_status.specs.declared.status.Status.TheVariants.{SuperLost, OtherMember, DiskFault, NoMemory, Occupied}
-use Rattle.vr_replica.specs.Halt.TheVariants as halt
+use Rattle.vr_disk.specs.declared.fault.Halt.TheVariants as halt
 use Rattle.vr_super.specs.declared.recovering.CopyVerdict.{CopyVerdict}
 
 -- files of a kind are of version 1 or 2, and of groups of so many members as that version allows

@@ -14,7 +14,7 @@ use Rattle.vr_msg.specs.declared.output.Output.{Output}
 use Rattle.vr_node.specs.Opening.{Opens, OpensNone}
 use Rattle.vr_node.specs.Steps.{steps, stops}
 use Rattle.vr_node.specs.declared.node.Node.{Node}
-use Rattle.vr_replica.specs.Replica.{version}
+use Rattle.vr_rules.specs.Replica.{version}
 use Rattle.vr_serve.specs.Causes.{Counts}
 use Rattle.vr_serve.specs.Runs.{End, IsCutBefore, IsCutInTurn, IsServed, end_at}
 use Rattle.vr_serve.specs.declared.stop.Stop.{Stop}

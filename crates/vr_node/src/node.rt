@@ -1,6 +1,6 @@
 //! A replica as the loop of turns takes it.
 ghost use Rattle.std.specs.Prelude.{◌≡◌};
-ghost use Rattle.vr_replica.specs.Replica.{version};
+ghost use Rattle.vr_rules.specs.Replica.{version};
 
 use std::alloc::Global;
 use vr_base::Version;

@@ -2,19 +2,19 @@
 use Rattle.std.proofs.Common.{arith, ◌≡◌, ◌≤◌, ◌∙◌, sym, ap, subst, true, false, List, ◌++◌, Option, Result, Ok}
 use Rattle.std.specs.Prelude.{nat_lt}
 use Rattle.vr_disk.specs.DiskState.{Disk}
+use Rattle.vr_disk.specs.declared.fault.Halt.{Halt}
 use Rattle.vr_msg.specs.declared.frame.Commit.{Commit}
 use Rattle.vr_msg.specs.declared.output.Output.{Output}
-use Rattle.vr_journal.specs.Deciding.{first_of, commit_table}
-use Rattle.vr_journal.specs.Rule.{Rule}
-use Rattle.vr_journal.specs.Rule.TheVariants.{Ignored, CommitBefore, CommitLater, CommitHeard}
-use Rattle.vr_journal.specs.Outputs.{send_to, get_view}
-use Rattle.vr_journal.specs.Replica.{Replica, head, last_view}
-use Rattle.vr_journal.specs.Rules.{obey_commit, on_commit}
-use Rattle.vr_journal.specs.Steps.{◌⨾◌, change}
-use Rattle.vr_journal.specs.Words.{rested, learn}
-use Rattle.vr_journal.specs.Halt.{Halt}
-use Rattle.vr_journal.specs.Does.{Does}
-use Rattle.vr_journal.proofs.Stepping.{does_by, does_quiet, says_by}
+use Rattle.vr_rules.specs.Deciding.{first_of, commit_table}
+use Rattle.vr_rules.specs.declared.rule.Rule.{Rule}
+use Rattle.vr_rules.specs.declared.rule.Rule.TheVariants.{Ignored, CommitBefore, CommitLater, CommitHeard}
+use Rattle.vr_rules.specs.Outputs.{send_to, get_view}
+use Rattle.vr_rules.specs.Replica.{Replica, head, last_view}
+use Rattle.vr_rules.specs.Rules.{obey_commit, on_commit}
+use Rattle.vr_rules.specs.Steps.{◌⨾◌, change}
+use Rattle.vr_rules.specs.Words.{rested, learn}
+use Rattle.vr_step.specs.Does.{Does}
+use Rattle.vr_step.proofs.Stepping.{does_by, does_quiet, says_by}
 use Rattle.vr_normal.specs.declared.learning.CommitRule.{CommitRule}
 use Rattle.vr_normal.specs.declared.learning.CommitRule.TheVariants as rule
 use Rattle.vr_normal.specs.Messages.{IsCommitting}

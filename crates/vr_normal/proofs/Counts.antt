@@ -5,22 +5,22 @@ use Rattle.std.proofs.lemmas.Bool.{and_parts, ltb-true, leb-true}
 use Rattle.std.proofs.lemmas.List.{length-set}
 use Rattle.vr_base.specs.Bytes.{name_of}
 use Rattle.vr_disk.specs.DiskState.{Disk}
+use Rattle.vr_disk.specs.declared.fault.Halt.{Halt}
 use Rattle.vr_msg.specs.declared.frame.PrepareOk.{PrepareOk}
 use Rattle.vr_msg.specs.declared.output.Output.{Output}
-use Rattle.vr_journal.specs.Deciding.{first_of, prepare_ok_table}
-use Rattle.vr_journal.specs.Rule.{Rule}
-use Rattle.vr_journal.specs.Rule.TheVariants.{Ignored, Counted}
-use Rattle.vr_journal.specs.Replica.{Replica, head, leads}
-use Rattle.vr_journal.specs.Rules.{acknowledged, obey_prepare_ok, on_prepare_ok}
-use Rattle.vr_journal.specs.Steps.{◌⨾◌, change}
-use Rattle.vr_journal.specs.Words.{advance}
-use Rattle.vr_journal.proofs.Keeping.{sound_ackers}
-use Rattle.vr_journal.proofs.Ruling.{by_rows}
-use Rattle.vr_journal.proofs.SavesWell.{savable_alike}
-use Rattle.vr_journal.specs.Halt.{Halt}
-use Rattle.vr_journal.specs.Does.{Does}
-use Rattle.vr_journal.proofs.Stepping.{does_by, does_naming, does_quiet}
-use Rattle.vr_journal.specs.Ready.{IsReady}
+use Rattle.vr_rules.specs.Deciding.{first_of, prepare_ok_table}
+use Rattle.vr_rules.specs.declared.rule.Rule.{Rule}
+use Rattle.vr_rules.specs.declared.rule.Rule.TheVariants.{Ignored, Counted}
+use Rattle.vr_rules.specs.Replica.{Replica, head, leads}
+use Rattle.vr_rules.specs.Rules.{acknowledged, obey_prepare_ok, on_prepare_ok}
+use Rattle.vr_rules.specs.Steps.{◌⨾◌, change}
+use Rattle.vr_rules.specs.Words.{advance}
+use Rattle.vr_rules.proofs.Keeping.{sound_ackers}
+use Rattle.vr_rules.proofs.Ruling.{by_rows}
+use Rattle.vr_rules.proofs.SavesWell.{savable_alike}
+use Rattle.vr_step.specs.Does.{Does}
+use Rattle.vr_step.proofs.Stepping.{does_by, does_naming, does_quiet}
+use Rattle.vr_memory.specs.Ready.{IsReady}
 use Rattle.vr_normal.specs.declared.counting.CountRule.{CountRule}
 use Rattle.vr_normal.specs.declared.counting.CountRule.TheVariants as rule
 use Rattle.vr_normal.specs.Named.{count_rule}

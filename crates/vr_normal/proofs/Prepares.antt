@@ -4,22 +4,22 @@ use Rattle.std.specs.Prelude.{nat_lt, nat_le}
 use Rattle.std.proofs.lemmas.Bool.{ltb-false, leb-false}
 use Rattle.vr_base.specs.Bytes.{name_of}
 use Rattle.vr_disk.specs.DiskState.{Disk}
+use Rattle.vr_disk.specs.declared.fault.Halt.{Halt}
 use Rattle.vr_header.specs.Made.{IsEntryHeader}
 use Rattle.vr_header.specs.Spelling.{IsHeader}
 use Rattle.vr_msg.specs.declared.frame.Prepare.{Prepare}
 use Rattle.vr_msg.specs.declared.output.Output.{Output}
-use Rattle.vr_journal.specs.Deciding.{first_of, is_from_primary, prepare_table}
-use Rattle.vr_journal.specs.Rule.{Rule}
-use Rattle.vr_journal.specs.Rule.TheVariants.{Ignored, PreparedBefore, PreparedLater, Past, Beyond, Known, Next, Ahead, Other}
-use Rattle.vr_journal.specs.Outputs.{send_to, get_view}
-use Rattle.vr_journal.specs.Replica.{Replica, last_view, window_end}
-use Rattle.vr_journal.specs.Rules.{obey_prepare, on_prepare}
-use Rattle.vr_journal.specs.Words.{rested}
-use Rattle.vr_journal.proofs.Ruling.{by_rows, group_of_primary, IsFor}
-use Rattle.vr_journal.specs.Halt.{Halt}
-use Rattle.vr_journal.specs.Does.{Does}
-use Rattle.vr_journal.proofs.Stepping.{does_by, does_naming, does_quiet, says_by, change_by}
-use Rattle.vr_journal.specs.Ready.{MayStore}
+use Rattle.vr_rules.specs.Deciding.{first_of, is_from_primary, prepare_table}
+use Rattle.vr_rules.specs.declared.rule.Rule.{Rule}
+use Rattle.vr_rules.specs.declared.rule.Rule.TheVariants.{Ignored, PreparedBefore, PreparedLater, Past, Beyond, Known, Next, Ahead, Other}
+use Rattle.vr_rules.specs.Outputs.{send_to, get_view}
+use Rattle.vr_rules.specs.Replica.{Replica, last_view, window_end}
+use Rattle.vr_rules.specs.Rules.{obey_prepare, on_prepare}
+use Rattle.vr_rules.specs.Words.{rested}
+use Rattle.vr_rules.proofs.Ruling.{by_rows, group_of_primary, IsFor}
+use Rattle.vr_step.specs.Does.{Does}
+use Rattle.vr_step.proofs.Stepping.{does_by, does_naming, does_quiet, says_by, change_by}
+use Rattle.vr_memory.specs.Ready.{MayStore}
 use Rattle.vr_normal.specs.declared.storing.PrepareRule.{PrepareRule}
 use Rattle.vr_normal.specs.declared.storing.PrepareRule.TheVariants as rule
 use Rattle.vr_normal.specs.Messages.{IsPreparing}

@@ -1,6 +1,6 @@
 -- Requests: which rule applies, and what it is.
-use Rattle.vr_ckpt.proofs.Fitting.{check_fits}
-use Rattle.vr_ckpt.specs.Fitting.{AnswerFits}
+use Rattle.vr_state.proofs.Fitting.{check_fits}
+use Rattle.vr_state.specs.Fitting.{AnswerFits}
 use Rattle.std.proofs.Common.{arith, ℕ, zero, suc, ◌≡◌, ◌≤◌, ◌<◌, ◌+◌, ◌-◌, ◌^◌, ◌∙◌, refl, sym, ap, subst, Bool, true, false, not, List, [], ◌∷◌, ◌++◌, take, drop, get_or, add-one, append-nil, Option, Result, Ok}
 use Rattle.std.specs.Prelude.{◌||◌, nat_lt, nat_le}
 use Rattle.std.specs.List.{list_any}
@@ -14,23 +14,23 @@ use Rattle.vr_header.specs.Spelling.{IsHeader}
 use Rattle.vr_msg.specs.declared.output.Output.{Output}
 use Rattle.vr_msg.specs.declared.reply.ReplyKind.TheVariants as reply
 use Rattle.vr_msg.specs.declared.request.RequestFields.{RequestFields}
-use Rattle.vr_journal.proofs.Replying as sessions
-use Rattle.vr_journal.specs.Deciding.{first_of, is_in_flight, request_table, session_answer}
-use Rattle.vr_journal.specs.Rule.{Rule}
-use Rattle.vr_journal.specs.Rule.TheVariants.{Ignored, Redirected, Behind, InFlight, Answered, Full, Made}
-use Rattle.vr_journal.specs.Outputs.{replies}
-use Rattle.vr_journal.specs.Asker.{Asker}
-use Rattle.vr_journal.specs.Replica.{Replica, head, is_primary, is_started, leads, version}
-use Rattle.vr_journal.specs.Rules.{asker_by, make, next_entry, obey_request, on_request, stored_reply}
-use Rattle.vr_journal.specs.Steps.{by}
-use Rattle.vr_journal.specs.Words.{is_loaded}
-use Rattle.vr_journal.proofs.Ruling.{by_rows, IsFor, for_of}
-use Rattle.vr_ckpt.specs.SessionAnswer.{SessionAnswer}
-use Rattle.vr_ckpt.specs.SessionAnswer.TheVariants as answer
-use Rattle.vr_journal.specs.Halt.{Halt}
-use Rattle.vr_journal.specs.Does.{Does}
-use Rattle.vr_journal.proofs.Stepping.{does_by, does_naming, does_quiet, says_by}
-use Rattle.vr_journal.specs.Ready.{IsReady, MayStore}
+use Rattle.vr_rules.proofs.Replying as sessions
+use Rattle.vr_rules.specs.Deciding.{first_of, is_in_flight, request_table, session_answer}
+use Rattle.vr_rules.specs.declared.rule.Rule.{Rule}
+use Rattle.vr_rules.specs.declared.rule.Rule.TheVariants.{Ignored, Redirected, Behind, InFlight, Answered, Full, Made}
+use Rattle.vr_rules.specs.Outputs.{replies}
+use Rattle.vr_rules.specs.declared.asker.Asker.{Asker}
+use Rattle.vr_rules.specs.Replica.{Replica, head, is_primary, is_started, leads, version}
+use Rattle.vr_rules.specs.Rules.{asker_by, make, next_entry, obey_request, on_request, stored_reply}
+use Rattle.vr_rules.specs.Steps.{by}
+use Rattle.vr_rules.specs.Words.{is_loaded}
+use Rattle.vr_rules.proofs.Ruling.{by_rows, IsFor, for_of}
+use Rattle.vr_state.specs.declared.session.SessionAnswer.{SessionAnswer}
+use Rattle.vr_state.specs.declared.session.SessionAnswer.TheVariants as answer
+use Rattle.vr_disk.specs.declared.fault.Halt.{Halt}
+use Rattle.vr_step.specs.Does.{Does}
+use Rattle.vr_step.proofs.Stepping.{does_by, does_naming, does_quiet, says_by}
+use Rattle.vr_memory.specs.Ready.{IsReady, MayStore}
 use Rattle.vr_normal.specs.declared.requesting.RequestRule.{RequestRule}
 use Rattle.vr_normal.specs.declared.requesting.RequestRule.TheVariants as rule
 use Rattle.vr_normal.specs.Named.{request_rule}

@@ -1,6 +1,6 @@
 -- What an event leads to is the rule of that name.
-use Rattle.vr_journal.specs.Rule.TheVariants as rules
-use Rattle.vr_journal.specs.Rule.{Rule}
+use Rattle.vr_rules.specs.declared.rule.Rule.TheVariants as rules
+use Rattle.vr_rules.specs.declared.rule.Rule.{Rule}
 use Rattle.vr_normal.specs.declared.counting.CountRule.{CountRule}
 use Rattle.vr_normal.specs.declared.counting.CountRule.TheVariants as count
 use Rattle.vr_normal.specs.declared.learning.CommitRule.{CommitRule}

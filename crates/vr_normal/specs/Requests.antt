@@ -5,14 +5,14 @@ use Rattle.vr_msg.specs.declared.reply.ReplyKind.TheVariants as reply
 use Rattle.vr_msg.specs.declared.request.RequestFields.{RequestFields}
 use Rattle.vr_msg.specs.Normal.{last_op, pipeline}
 use Rattle.vr_msg.specs.Numbers.{IsNumber}
-use Rattle.vr_journal.specs.Deciding.{Table, session_answer}
-use Rattle.vr_journal.specs.Rule.TheVariants.{Answered, Full, Made}
-use Rattle.vr_journal.specs.Outputs.{replies}
-use Rattle.vr_journal.specs.Asker.{Asker}
-use Rattle.vr_journal.specs.Replica.{Replica, head}
-use Rattle.vr_ckpt.specs.Asks.{is_fresh}
-use Rattle.vr_ckpt.specs.SessionAnswer.{SessionAnswer}
-use Rattle.vr_ckpt.specs.SessionAnswer.TheVariants as answer
+use Rattle.vr_rules.specs.Deciding.{Table, session_answer}
+use Rattle.vr_rules.specs.declared.rule.Rule.TheVariants.{Answered, Full, Made}
+use Rattle.vr_rules.specs.Outputs.{replies}
+use Rattle.vr_rules.specs.declared.asker.Asker.{Asker}
+use Rattle.vr_rules.specs.Replica.{Replica, head}
+use Rattle.vr_state.specs.Asks.{is_fresh}
+use Rattle.vr_state.specs.declared.session.SessionAnswer.{SessionAnswer}
+use Rattle.vr_state.specs.declared.session.SessionAnswer.TheVariants as answer
 use Rattle.vr_normal.specs.declared.requesting.RequestRule.{RequestRule}
 use Rattle.vr_normal.specs.declared.requesting.RequestRule.TheVariants as request
 

@@ -6,14 +6,14 @@ use Rattle.vr_base.specs.Bytes.{name_of}
 use Rattle.vr_header.specs.declared.header.Header.{Header}
 use Rattle.vr_header.specs.declared.part.Part.{Part}
 use Rattle.vr_header.specs.Names.{header_name}
+use Rattle.vr_header.specs.Parts.{header_of}
 use Rattle.vr_msg.specs.declared.frame.Commit.{Commit}
 use Rattle.vr_msg.specs.declared.frame.PrepareOk.{PrepareOk}
-use Rattle.vr_msg.specs.Logs.{header_of}
 use Rattle.vr_msg.specs.Normal.{same_sum}
-use Rattle.vr_journal.specs.Deciding.{is_named, is_unknown}
-use Rattle.vr_journal.specs.Replica.{Replica, head, head_header, leads}
-use Rattle.vr_journal.specs.Rules.{ask_view}
-use Rattle.vr_journal.specs.Steps.{Word, by, when}
+use Rattle.vr_rules.specs.Deciding.{is_named, is_unknown}
+use Rattle.vr_rules.specs.Replica.{Replica, head, head_header, leads}
+use Rattle.vr_rules.specs.Rules.{ask_view}
+use Rattle.vr_rules.specs.Steps.{Word, by, when}
 
 -- where the log of the primary is longer, it is asked for
 unfoldable pub asks_behind : {F : Type 0} → Commit → Word F

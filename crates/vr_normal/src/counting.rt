@@ -1,13 +1,13 @@
 //! Acknowledgements are counted: prepare_oks.
 ghost use Rattle.std.specs.Prelude.{◌≡◌, true};
 ghost use Rattle.vr_base.specs.Bytes.{name_of};
-ghost use Rattle.vr_journal.specs.Ready.{IsReady};
+ghost use Rattle.vr_memory.specs.Ready.{IsReady};
 ghost use Rattle.vr_journal.specs.Waits.{EndsAtOnce, Waits, passes};
-ghost use Rattle.vr_journal.specs.Deciding.{first_of, prepare_ok_table};
-ghost use Rattle.vr_journal.specs.Rule.TheVariants.{Counted};
-ghost use Rattle.vr_journal.specs.Rules.{acknowledged, on_prepare_ok};
-ghost use Rattle.vr_journal.specs.Steps.{◌⨾◌, change};
-ghost use Rattle.vr_journal.specs.Words.{advance};
+ghost use Rattle.vr_rules.specs.Deciding.{first_of, prepare_ok_table};
+ghost use Rattle.vr_rules.specs.declared.rule.Rule.TheVariants.{Counted};
+ghost use Rattle.vr_rules.specs.Rules.{acknowledged, on_prepare_ok};
+ghost use Rattle.vr_rules.specs.Steps.{◌⨾◌, change};
+ghost use Rattle.vr_rules.specs.Words.{advance};
 ghost use Rattle.vr_normal.specs.Named.{count_rule};
 ghost use Rattle.vr_normal.specs.Words.{is_open};
 ghost use Rattle.vr_normal.specs.declared.counting.CountRule.TheVariants as CountRule;
@@ -29,7 +29,7 @@ pub enum CountRule {
 
 // Whether the replica leads, the message is of its view, and its op is above the commit number, at most the head, and has a known header of
 // this name.
-#[tactic(auto, using(vr_journal::proofs::Memory::window_of, vr_journal::proofs::Memory::some_member))]
+#[tactic(auto, using(vr_memory::proofs::Memory::window_of, vr_memory::proofs::Memory::some_member))]
 fn is_open(replica: &Replica, ack: &PrepareOk) -> bool
     requires { IsReady replica.now }
     ensures { result ≡ is_open ack.now replica.now }
@@ -43,7 +43,7 @@ fn is_open(replica: &Replica, ack: &PrepareOk) -> bool
 
 /// `Counted` where the message is of this version and group and from another replica, the replica leads, and it is of that very view. And
 /// its op has to be above the commit number, at most the head, and to have a known header of this name. Else `Ignored`.
-#[tactic(auto, unfolding(vr_journal::specs::Deciding::first_of))]
+#[tactic(auto, unfolding(vr_rules::specs::Deciding::first_of))]
 pub fn decide_prepare_ok(replica: &Replica, ack: &PrepareOk) -> CountRule
     requires { IsReady replica.now }
     ensures { first_of (prepare_ok_table name_of ack.now replica.now) ≡ count_rule result }
@@ -60,7 +60,7 @@ pub fn decide_prepare_ok(replica: &Replica, ack: &PrepareOk) -> CountRule
 // The sender is added to those that have acknowledged this op. Then advance: the commit number rises, up to the head, as long as the next
 // op has its quorum, and what is committed is applied. Where that neither raises nor applies anything (`Waits`), it answers `Ok` and leaves
 // the very same disk. After an `Err` the disk has had its calls up to the stop; of replica and outputs nothing is said.
-#[tactic(auto, using(vr_journal::proofs::Stepping::steps, crate::proofs::Counts::counted_from, crate::proofs::Counts::counted_within, crate::proofs::Counts::ready_counted))]
+#[tactic(auto, using(vr_step::proofs::Stepping::steps, crate::proofs::Counts::counted_from, crate::proofs::Counts::counted_within, crate::proofs::Counts::ready_counted))]
 fn count<D: SectorDisk>(
     replica: &mut Replica,
     alloc: Global,

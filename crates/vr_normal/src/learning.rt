@@ -1,12 +1,12 @@
 //! How far the log is committed is learned: commits.
 ghost use Rattle.std.specs.Prelude.{◌≡◌, ◌≤◌, ◌++◌, nat_lt, OnOk};
-ghost use Rattle.vr_journal.specs.Ready.{IsReady};
-ghost use Rattle.vr_journal.specs.Deciding.{commit_table, first_of};
-ghost use Rattle.vr_journal.specs.Outputs.{get_view, send_to};
-ghost use Rattle.vr_journal.specs.Replica.{head, last_view};
-ghost use Rattle.vr_journal.specs.Rules.{on_commit};
-ghost use Rattle.vr_journal.specs.Steps.{◌⨾◌, change};
-ghost use Rattle.vr_journal.specs.Words.{learn, rested};
+ghost use Rattle.vr_memory.specs.Ready.{IsReady};
+ghost use Rattle.vr_rules.specs.Deciding.{commit_table, first_of};
+ghost use Rattle.vr_rules.specs.Outputs.{get_view, send_to};
+ghost use Rattle.vr_rules.specs.Replica.{head, last_view};
+ghost use Rattle.vr_rules.specs.Rules.{on_commit};
+ghost use Rattle.vr_rules.specs.Steps.{◌⨾◌, change};
+ghost use Rattle.vr_rules.specs.Words.{learn, rested};
 ghost use Rattle.vr_normal.specs.Messages.{IsCommitting};
 ghost use Rattle.vr_normal.specs.Named.{commit_rule};
 ghost use Rattle.vr_normal.specs.Words.{asks_behind};
@@ -46,7 +46,7 @@ pub fn ask_view(replica: &Replica, view: u32, to: u8, out: &mut Outbox) -> Resul
 
 /// The first that holds: `Ignored` unless it is of this version and group and from its view's primary, another replica; `CommitBefore`
 /// below the view. Then `CommitLater` above the log view; else `CommitHeard`.
-#[tactic(auto, using(vr_journal::proofs::Memory::some_member), unfolding(vr_journal::specs::Deciding::first_of))]
+#[tactic(auto, using(vr_memory::proofs::Memory::some_member), unfolding(vr_rules::specs::Deciding::first_of))]
 pub fn decide_commit(replica: &Replica, commit: &Commit) -> CommitRule
     requires { IsReady replica.now }
     ensures { first_of (commit_table commit.now replica.now) ≡ commit_rule result }
@@ -63,7 +63,7 @@ pub fn decide_commit(replica: &Replica, commit: &Commit) -> CommitRule
 }
 
 // Whether the head that the commit tells of is above the replica's.
-#[tactic(auto, using(vr_journal::proofs::Memory::window_of))]
+#[tactic(auto, using(vr_memory::proofs::Memory::window_of))]
 fn is_behind(replica: &Replica, commit: &Commit) -> bool
     requires { IsReady replica.now }
     ensures { result ≡ nat_lt (head replica.now) commit.now.head }
@@ -73,7 +73,7 @@ fn is_behind(replica: &Replica, commit: &Commit) -> bool
 
 // Where the head that the commit tells of is above the replica's, one get_view of the commit's view goes to its sender; else nothing is put
 // out. Replica and disk are left as they are; after an `Err` nothing is said of outputs.
-#[tactic(auto, using(crate::proofs::Commits::behind, vr_journal::proofs::Stepping::wants))]
+#[tactic(auto, using(crate::proofs::Commits::behind, vr_step::proofs::Stepping::wants))]
 fn ask_behind<D: SectorDisk>(
     replica: &Replica,
     _disk: &mut D,
@@ -93,7 +93,7 @@ fn ask_behind<D: SectorDisk>(
 // In this order: idle is 0; where the commit's head is above the replica's, a get_view of its view goes to its sender. Then its commit
 // number is learned, at most up to the head, and what is committed is applied. After an `Err` the disk has had its calls up to the stop; of
 // replica and outputs nothing is said.
-#[tactic(auto, using(vr_journal::proofs::Stepping::steps, vr_journal::proofs::Memory::readies))]
+#[tactic(auto, using(vr_step::proofs::Stepping::steps, vr_memory::proofs::Memory::readies))]
 fn hear<D: SectorDisk>(
     replica: &mut Replica,
     alloc: Global,
@@ -114,7 +114,7 @@ fn hear<D: SectorDisk>(
 /// done. Above the log view a get_view of its view goes to the sender, and that is all. Else idle is 0, and where its head is above the
 /// replica's, that get_view goes out. Then its commit number is learned, at most up to the head, and what is committed is applied. After an
 /// `Err` the disk has had its calls up to the stop; of replica and outputs nothing is said.
-#[tactic(auto, using(crate::proofs::Commits::rules, crate::proofs::Commits::view_fits, vr_journal::proofs::Stepping::wants))]
+#[tactic(auto, using(crate::proofs::Commits::rules, crate::proofs::Commits::view_fits, vr_step::proofs::Stepping::wants))]
 pub fn handle_commit<D: SectorDisk>(
     replica: &mut Replica,
     alloc: Global,

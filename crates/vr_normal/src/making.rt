@@ -2,13 +2,13 @@
 ghost use Rattle.std.specs.Prelude.{◌≡◌, ◌<◌, ◌≤◌, ◌+◌, ◌^◌, IfOk};
 ghost use Rattle.vr_base.specs.Bytes.{name_of};
 ghost use Rattle.vr_header.specs.Names.{name_by};
-ghost use Rattle.vr_journal.specs.Ready.{IsReady, MayStore};
+ghost use Rattle.vr_memory.specs.Ready.{IsReady, MayStore};
 ghost use Rattle.vr_msg.specs.Asking.{IsRequest};
-ghost use Rattle.vr_journal.specs.Deciding.{first_of, request_table};
-ghost use Rattle.vr_journal.specs.Rule.TheVariants.{Made};
-ghost use Rattle.vr_journal.specs.Replica.{head, head_header, last_view, version};
-ghost use Rattle.vr_journal.specs.Rules.{make, next_entry};
-ghost use Rattle.vr_journal.specs.Steps.{by};
+ghost use Rattle.vr_rules.specs.Deciding.{first_of, request_table};
+ghost use Rattle.vr_rules.specs.declared.rule.Rule.TheVariants.{Made};
+ghost use Rattle.vr_rules.specs.Replica.{head, head_header, last_view, version};
+ghost use Rattle.vr_rules.specs.Rules.{make, next_entry};
+ghost use Rattle.vr_rules.specs.Steps.{by};
 ghost use Rattle.vr_journal.specs.Acts.{Acts, MaySend};
 
 use crate::entries::header_of;
@@ -20,7 +20,7 @@ use vr_journal::{Halt, Replica, advance, write};
 use vr_msg::{Outbox, Request};
 
 /// The name of the header that is known at the head; where none is, that of the group's root.
-#[tactic(auto, using(vr_journal::proofs::Memory::window_of))]
+#[tactic(auto, using(vr_memory::proofs::Memory::window_of))]
 pub fn head_name(replica: &Replica) -> Sum
     requires { IsReady replica.now }
     ensures { result ≡ name_by name_of (head_header name_of replica.now) }
@@ -32,7 +32,7 @@ pub fn head_name(replica: &Replica) -> Sum
 }
 
 // The op after the head, at most 2^62.
-#[tactic(auto, using(vr_journal::proofs::Memory::window_of))]
+#[tactic(auto, using(vr_memory::proofs::Memory::window_of))]
 fn next_op(replica: &Replica) -> u64
     requires ready { IsReady replica.now }
     requires room { head replica.now < 2 ^ 62 }
@@ -44,7 +44,7 @@ fn next_op(replica: &Replica) -> u64
 
 // The entry of this request, of the request's version, made in the replica's view for the op after the head, with the head's name as its
 // parent. An `Err` is want of memory.
-#[tactic(auto, unfolding(vr_journal::specs::Rules::next_entry))]
+#[tactic(auto, unfolding(vr_rules::specs::Rules::next_entry))]
 fn next_entry(replica: &Replica, alloc: Global, request: &Request) -> Result<Entry, AllocError>
     requires ready { IsReady replica.now }
     requires view { replica.now.view ≤ last_view }
@@ -66,7 +66,7 @@ fn next_entry(replica: &Replica, alloc: Global, request: &Request) -> Result<Ent
 // In this order: the entry is written into its slot, and `Here`; a prepare of it goes to each other replica, ascending. Then the commit
 // number rises as long as the next op has its quorum, and what is committed is applied. After an `Err` the disk has had its calls up to the
 // stop; of replica and outputs nothing is said.
-#[tactic(auto, using(vr_journal::proofs::Stepping::steps, vr_journal::proofs::Memory::readies), unfolding(vr_journal::specs::Rules::make))]
+#[tactic(auto, using(vr_step::proofs::Stepping::steps, vr_memory::proofs::Memory::readies), unfolding(vr_rules::specs::Rules::make))]
 fn make<D: SectorDisk>(
     replica: &mut Replica,
     alloc: Global,
@@ -88,7 +88,7 @@ fn make<D: SectorDisk>(
 /// Rule 6, which has to apply: the entry of this request is made in the replica's view for the op after the head, on the head's name. In
 /// this order: it is written, and `Here`; a prepare of it goes to each other replica, ascending; the commit number rises as quorums allow;
 /// what is committed is applied. After an `Err` the disk has had its calls up to the stop; of replica and outputs nothing is said.
-#[tactic(auto, using(vr_journal::proofs::Stepping::steps, crate::proofs::Requests::may_make, crate::proofs::Requests::made_taken, crate::proofs::Requests::made_view, crate::proofs::Requests::head_room))]
+#[tactic(auto, using(vr_step::proofs::Stepping::steps, crate::proofs::Requests::may_make, crate::proofs::Requests::made_taken, crate::proofs::Requests::made_view, crate::proofs::Requests::head_room))]
 pub fn make_next<D: SectorDisk>(
     replica: &mut Replica,
     alloc: Global,

@@ -2,16 +2,16 @@
 ghost use Rattle.std.specs.Prelude.{◌≡◌, ◌≤◌, ◌-◌, ◌++◌, ◌||◌, not, nat_le, nat_lt, slice_index_or, IfOk, OnOk};
 ghost use Rattle.vr_base.specs.Bytes.{name_of};
 ghost use Rattle.vr_header.specs.declared.part.Part.TheVariants.{Nothing};
-ghost use Rattle.vr_journal.specs.Ready.{IsReady};
+ghost use Rattle.vr_memory.specs.Ready.{IsReady};
 ghost use Rattle.vr_msg.specs.Asking.{IsKindValue, IsReplyKind, IsRequest};
 ghost use Rattle.vr_msg.specs.Normal.{last_op, pipeline};
-ghost use Rattle.vr_journal.specs.Deciding.{first_of, is_in_flight, request_table};
-ghost use Rattle.vr_journal.specs.Outputs.{replies};
-ghost use Rattle.vr_journal.specs.Replica.{head, last_view, version};
-ghost use Rattle.vr_journal.specs.Rules.{asker_by, on_request};
-ghost use Rattle.vr_journal.specs.Words.{is_loaded};
-ghost use Rattle.vr_ckpt.specs.Asks.{is_fresh};
-ghost use Rattle.vr_ckpt.specs.Fitting.{AnswerFits};
+ghost use Rattle.vr_rules.specs.Deciding.{first_of, is_in_flight, request_table};
+ghost use Rattle.vr_rules.specs.Outputs.{replies};
+ghost use Rattle.vr_rules.specs.Replica.{head, last_view, version};
+ghost use Rattle.vr_rules.specs.Rules.{asker_by, on_request};
+ghost use Rattle.vr_rules.specs.Words.{is_loaded};
+ghost use Rattle.vr_state.specs.Asks.{is_fresh};
+ghost use Rattle.vr_state.specs.Fitting.{AnswerFits};
 ghost use Rattle.vr_normal.specs.Named.{request_rule};
 ghost use Rattle.vr_normal.specs.Requests.{Answers, HasNumber, open_rows, stored_replies};
 ghost use Rattle.vr_normal.specs.Words.{any_of, is_of};
@@ -51,7 +51,7 @@ pub enum RequestRule {
 // ---- which rule applies
 
 // Whether the Part at this place knows a header, and that is of this client. Past the list it isn't.
-#[tactic(auto, using(vr_journal::proofs::Lists::past_is, vr_journal::proofs::Lists::found_is))]
+#[tactic(auto, using(vr_window::proofs::Lists::past_is, vr_window::proofs::Lists::found_is))]
 fn is_of(parts: &Window<Part>, client: u64, at: usize) -> bool
     ensures { result ≡ is_of client (slice_index_or parts.now at Nothing) }
 {
@@ -78,7 +78,7 @@ fn any_of(parts: &Window<Part>, client: u64, from: usize, end: usize) -> bool
 }
 
 // Whether an op above the commit number, at most the head, has a known header of this client.
-#[tactic(auto, using(vr_journal::proofs::Memory::window_of, vr_journal::proofs::Memory::commit_fits, crate::proofs::Requests::flight_is))]
+#[tactic(auto, using(vr_memory::proofs::Memory::window_of, vr_memory::proofs::Memory::commit_fits, crate::proofs::Requests::flight_is))]
 fn is_in_flight(replica: &Replica, client: u64) -> bool
     requires { IsReady replica.now }
     ensures { result ≡ is_in_flight client replica.now }
@@ -97,7 +97,7 @@ fn is_late(replica: &Replica) -> bool
 }
 
 // Whether the head is at least 8 above the commit number, or at least 2^62.
-#[tactic(auto, using(vr_journal::proofs::Memory::window_of))]
+#[tactic(auto, using(vr_memory::proofs::Memory::window_of))]
 fn is_full(replica: &Replica) -> bool
     requires { IsReady replica.now }
     ensures { result ≡ (nat_le pipeline (head replica.now - replica.now.commit) || nat_le last_op (head replica.now)) }
@@ -118,7 +118,7 @@ fn is_fresh(answer: &SessionAnswer) -> bool
 
 // `Answered`, with what the sessions answer, where that isn't `Fresh`. Else `Full` where the head is at least 8 above the commit number, or
 // at least 2^62; else `Made`. The rules in front of these aren't looked at. An `Err` is want of memory.
-#[tactic(auto, unfolding(vr_journal::specs::Deciding::first_of, crate::specs::Requests::Answers))]
+#[tactic(auto, unfolding(vr_rules::specs::Deciding::first_of, crate::specs::Requests::Answers))]
 fn decide_open(replica: &Replica, request: &RequestFields) -> Result<RequestRule, NoMemory>
     requires { IsReady replica.now }
     ensures rule { IfOk result (λ x. first_of (open_rows request.now replica.now) ≡ request_rule x) }
@@ -138,7 +138,7 @@ fn decide_open(replica: &Replica, request: &RequestFields) -> Result<RequestRule
 /// missing or applied is below the commit number. `InFlight` where an op above the commit number, up to the head, is of the client;
 /// `Answered`, with what the sessions answer, where that isn't `Fresh`. `Full` where the head is at least 8 above the commit number, or at
 /// least 2^62; else `Made`. An `Err` is want of memory.
-#[tactic(auto, using(vr_journal::proofs::Memory::some_member), unfolding(vr_journal::specs::Deciding::first_of, crate::specs::Requests::Answers))]
+#[tactic(auto, using(vr_memory::proofs::Memory::some_member), unfolding(vr_rules::specs::Deciding::first_of, crate::specs::Requests::Answers))]
 pub fn decide_request(replica: &Replica, request: &RequestFields) -> Result<RequestRule, NoMemory>
     requires { IsReady replica.now }
     ensures rule { IfOk result (λ x. first_of (request_table request.now replica.now) ≡ request_rule x) }
@@ -220,7 +220,7 @@ fn reply_stored(
 // `Answered`: reply what the sessions answer, which it has (`Answers`). `Made`: the next entry is made, written, prepared to each other
 // replica, and counted; what is committed is applied. In all others replica and disk are left as they are. After an `Err` the disk has had
 // its calls up to the stop; of replica and outputs nothing is said.
-#[tactic(auto, using(crate::proofs::Requests::rules, vr_journal::proofs::Stepping::wants))]
+#[tactic(auto, using(crate::proofs::Requests::rules, vr_step::proofs::Stepping::wants))]
 fn obey_request<D: SectorDisk>(
     replica: &mut Replica,
     alloc: Global,
@@ -263,7 +263,7 @@ fn obey_request<D: SectorDisk>(
 /// or why there is none. The head is at least 8 above the commit number or at least 2^62, reply `busy`. Else, in this order: the next entry
 /// is written; a prepare goes to each other replica; the commit number rises as quorums allow; what is committed is applied. After an `Err`
 /// the disk has had its calls up to the stop; of replica and outputs nothing is said.
-#[tactic(auto, using(vr_journal::proofs::Stepping::wants))]
+#[tactic(auto, using(vr_step::proofs::Stepping::wants))]
 pub fn handle_request<D: SectorDisk>(
     replica: &mut Replica,
     alloc: Global,

@@ -1,28 +1,27 @@
 -- A replica as it begins, and what it does once its Parts are found.
-use Rattle.std.proofs.Common.{arith, ◌≡◌, ◌<◌, ◌+◌, ◌-◌, ◌^◌, ◌∙◌, inr, refl, sym, subst, Bool, List, [], ◌++◌, Option, true, false, Result, Ok}
+use Rattle.std.proofs.Common.{arith, ◌≡◌, ◌<◌, ◌+◌, ◌-◌, ◌^◌, ◌∙◌, inr, refl, sym, subst, Bool, List, [], ◌++◌, Option, true, false, Result, Ok, cond, append-nil}
 use Rattle.std.specs.Prelude.{nat_le}
 use Rattle.std.proofs.lemmas.Bool.{and_parts, eqb-true, ltb-false}
 use Rattle.vr_disk.specs.DiskState.{Disk}
 use Rattle.vr_msg.specs.declared.output.Output.{Output}
 use Rattle.vr_super.specs.Copies.{SuperValue, IsGood}
-use Rattle.vr_journal.specs.Replica.{Replica, leads, is_started, is_primary, is_spent, last_view}
-use Rattle.vr_journal.specs.Outputs.{send_to_all, start_line, start_view_change}
-use Rattle.std.proofs.Common.{cond, append-nil}
-use Rattle.vr_journal.specs.Steps.{when, says}
-use Rattle.vr_journal.specs.Words.{with_saved, save}
-use Rattle.vr_journal.specs.Opening.{blank, in_next_view, leave_view, heard_itself, announce, going_on, resuming}
-use Rattle.vr_journal.proofs.Slots.{value_is}
-use Rattle.vr_journal.proofs.Openings.{partly_blank, kept_next}
-use Rattle.vr_journal.specs.Found.{Lists}
-use Rattle.vr_journal.proofs.SavesFound.{lists_head, list_size}
-use Rattle.vr_journal.proofs.SavesOpening.{savable_next}
-use Rattle.vr_journal.proofs.SavesWell.{savable_alike}
-use Rattle.vr_journal.proofs.Keeping.{sound_alike}
-use Rattle.vr_journal.specs.Halt.{Halt}
-use Rattle.vr_journal.specs.Does.{Does}
-use Rattle.vr_journal.specs.Ready.{IsReady, MayLoad}
+use Rattle.vr_rules.specs.Replica.{Replica, leads, is_started, is_primary, is_spent, last_view}
+use Rattle.vr_rules.specs.Outputs.{send_to_all, start_line, start_view_change}
+use Rattle.vr_rules.specs.Steps.{when, says}
+use Rattle.vr_rules.specs.Words.{with_saved, save}
+use Rattle.vr_rules.specs.Opening.{blank, in_next_view, leave_view, heard_itself, announce, going_on, resuming}
+use Rattle.vr_rules.proofs.Slots.{value_is}
+use Rattle.vr_rules.proofs.Openings.{partly_blank, kept_next}
+use Rattle.vr_rules.specs.Found.{Lists}
+use Rattle.vr_rules.proofs.SavesFound.{lists_head, list_size}
+use Rattle.vr_rules.proofs.SavesOpening.{savable_next}
+use Rattle.vr_rules.proofs.SavesWell.{savable_alike}
+use Rattle.vr_rules.proofs.Keeping.{sound_alike}
+use Rattle.vr_disk.specs.declared.fault.Halt.{Halt}
+use Rattle.vr_step.specs.Does.{Does}
+use Rattle.vr_memory.specs.Ready.{IsReady, MayLoad}
 use Rattle.vr_opening.specs.Finding.{IsOpeningOld}
-use Rattle.vr_journal.proofs.Stepping.{does_by, does_quiet, change_by_then, says_by}
+use Rattle.vr_step.proofs.Stepping.{does_by, does_quiet, change_by_then, says_by}
 
 pub opening_blank : (v : SuperValue) (r : Replica) → r ≡ blank v → IsGood v → IsOpeningOld 0 r
 unfolding IsOpeningOld blank

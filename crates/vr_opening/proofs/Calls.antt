@@ -4,7 +4,7 @@ use Rattle.vr_disk.specs.DiskState.{Call, Write, Disk, Runs}
 use Rattle.vr_disk.specs.declared.regions.TheConstants.{SLOTS}
 use Rattle.vr_disk.specs.Regions.{prepare_place, prepare_sectors, sectors}
 use Rattle.vr_disk.proofs.Running.{Runs_then, Runs_stopped, runs_nothing}
-use Rattle.vr_journal.specs.Formatting.{zero_prepares, zero_sector, reserved_headers}
+use Rattle.vr_rules.specs.Formatting.{zero_prepares, zero_sector, reserved_headers}
 use Rattle.vr_opening.specs.Calls.{prepares_end, zero_call, reserved_call, calls_from, Making}
 
 calls_past : (c : ℕ → Call) (i end : ℕ) → end ≤ i → calls_from c i end ≡ []

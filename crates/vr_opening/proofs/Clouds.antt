@@ -1,6 +1,6 @@
 -- All Parts of a replica that opens are found.
-use Rattle.vr_ckpt.proofs.Fitting.{Fits-empty}
-use Rattle.vr_ckpt.specs.Fitting.{Fits}
+use Rattle.vr_state.proofs.Fitting.{Fits-empty}
+use Rattle.vr_state.specs.Fitting.{Fits}
 use Rattle.std.proofs.Common.{arith, ℕ, zero, suc, ◌≡◌, ◌≤◌, ◌<◌, ◌+◌, ◌-◌, ◌^◌, ◌∙◌, refl, sym, ap, subst, List, [], ◌∷◌, ◌++◌, length, drop, get_or, set, map, append_assoc, append-nil, Option, None, true, false, Ok, Err, add-one, drop-cons}
 use Rattle.std.specs.List.{range_with_len, list_any}
 use Rattle.std.proofs.lemmas.Bool.{le-ltb}
@@ -12,21 +12,21 @@ use Rattle.vr_header.specs.declared.part.Part.{Part}
 use Rattle.vr_header.specs.declared.part.Part.TheVariants.{Nothing}
 use Rattle.vr_msg.specs.declared.output.Output.{Output}
 use Rattle.vr_super.specs.Copies.{SuperValue}
-use Rattle.vr_journal.specs.Replica.{Replica, forgetting, part_at, version}
-use Rattle.vr_journal.specs.Steps.{change, each}
-use Rattle.vr_journal.specs.Sound.{IsSavable}
-use Rattle.vr_journal.specs.Opening.{recover_old, recover_op, recover_parts, old_headers, blank, first_listed, clouded, clouded_at, was_stored}
-use Rattle.vr_journal.proofs.Slots.{Value, value_is}
-use Rattle.vr_journal.specs.Found.{Partly}
-use Rattle.vr_journal.proofs.Openings.{partly_spans, partly_clouded, opened_forgetting}
-use Rattle.vr_journal.proofs.SavesFound.{clouded_known, found_topped, savable_found, savable_forgetting}
-use Rattle.vr_journal.proofs.SavesParts.{Topped, topped_forgetting}
-use Rattle.vr_journal.specs.Halt.{Halt}
-use Rattle.vr_journal.specs.Does.{Does}
-use Rattle.vr_journal.specs.Ready.{IsReady, HasWindow, MayLoad}
+use Rattle.vr_rules.specs.Replica.{Replica, forgetting, part_at, version}
+use Rattle.vr_rules.specs.Steps.{change, each}
+use Rattle.vr_rules.specs.Sound.{IsSavable}
+use Rattle.vr_rules.specs.Opening.{recover_old, recover_op, recover_parts, old_headers, blank, first_listed, clouded, clouded_at, was_stored}
+use Rattle.vr_rules.proofs.Slots.{Value, value_is}
+use Rattle.vr_rules.specs.Found.{Partly}
+use Rattle.vr_rules.proofs.Openings.{partly_spans, partly_clouded, opened_forgetting}
+use Rattle.vr_rules.proofs.SavesFound.{clouded_known, found_topped, savable_found, savable_forgetting}
+use Rattle.vr_rules.proofs.SavesParts.{Topped, topped_forgetting}
+use Rattle.vr_disk.specs.declared.fault.Halt.{Halt}
+use Rattle.vr_step.specs.Does.{Does}
+use Rattle.vr_memory.specs.Ready.{IsReady, HasWindow, MayLoad}
 use Rattle.vr_opening.specs.Finding.{IsOpening, cloud_by, cloud_to, window_end, window_of}
-use Rattle.vr_journal.proofs.Versions.{clouded_stays, forgetting_stays}
-use Rattle.vr_journal.proofs.Stepping.{does_then, does_stopped, change_by_then, change_by}
+use Rattle.vr_rules.proofs.Versions.{clouded_stays, forgetting_stays}
+use Rattle.vr_step.proofs.Stepping.{does_then, does_stopped, change_by_then, change_by}
 
 pub any_more : (xs : List Part) (i : ℕ) → was_stored (get_or xs i Nothing) ≡ false → list_any was_stored (drop i xs) ≡ list_any was_stored (drop (i + 1) xs)
 any_more [] zero e = refl

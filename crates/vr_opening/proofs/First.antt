@@ -5,7 +5,7 @@ use Rattle.std.proofs.lemmas.Bool.{and_from, lt-ltb}
 use Rattle.vr_base.proofs.AreBytes.{IsBytes-zeros}
 use Rattle.vr_base.specs.Groups.{is_size}
 use Rattle.vr_super.specs.Copies.{IsGood, good_fields, are_listed}
-use Rattle.vr_journal.specs.Opening.{IsKind, first_value}
+use Rattle.vr_rules.specs.Opening.{IsKind, first_value}
 
 pub first_good : (kind : Kind) (cluster n index : ℕ) → IsKind kind → cluster < 2 ^ 64 → index < 256 → n < 256 → is_size kind.version n ≡ true → index < n → IsGood (first_value kind cluster n index)
 unfolding good_fields are_listed

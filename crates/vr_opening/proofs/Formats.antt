@@ -5,8 +5,8 @@ use Rattle.vr_disk.specs.DiskState.{Call, Sync, Disk, Runs}
 use Rattle.vr_disk.proofs.Running.{Runs_then, Runs_stopped}
 use Rattle.vr_super.specs.Calls.{save_from}
 use Rattle.vr_super.specs.Copies.{SuperValue, copy_bytes}
-use Rattle.vr_journal.specs.Formatting.{format_calls, reserved_headers, zero_prepares}
-use Rattle.vr_journal.specs.Opening.{first_value}
+use Rattle.vr_rules.specs.Formatting.{format_calls, reserved_headers, zero_prepares}
+use Rattle.vr_rules.specs.Opening.{first_value}
 
 module _ (kind : Kind) (cluster n index : ℕ) where
   abbrev copies : List Call

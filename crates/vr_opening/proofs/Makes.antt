@@ -1,6 +1,6 @@
 -- A new member is made on its disk.
-use Rattle.vr_ckpt.proofs.Fitting.{Fits-empty}
-use Rattle.vr_ckpt.specs.Fitting.{Fits}
+use Rattle.vr_state.proofs.Fitting.{Fits-empty}
+use Rattle.vr_state.specs.Fitting.{Fits}
 use Rattle.vr_base.specs.declared.kind.Kind.{Kind}
 use Rattle.std.proofs.Common.{arith, ℕ, ◌≡◌, ◌<◌, ◌≤◌, ◌^◌, ◌∙◌, refl, sym, ap, subst, Bool, true, false, List, Option, Some, None, Ok, Err}
 use Rattle.std.specs.Prelude.{IfSome, is_some}
@@ -10,15 +10,14 @@ use Rattle.vr_disk.specs.DiskState.{Disk}
 use Rattle.vr_super.specs.declared.opening.Found.{Found}
 use Rattle.vr_super.specs.Copies.{SuperValue, IsGood}
 use Rattle.vr_super.specs.Opens.{file_kind, good_copies, opened, found_of}
-use Rattle.vr_journal.specs.Opening.{IsKind, fresh, blank, first_value}
-use Rattle.vr_journal.specs.Replica.{Replica, forgetting, version}
-use Rattle.vr_journal.specs.Replica.{head}
-use Rattle.vr_journal.specs.Sound.{IsSound, IsSavable}
-use Rattle.vr_journal.proofs.Slots.{value_is}
-use Rattle.vr_journal.proofs.Openings.{partly_blank, opened_forgetting}
-use Rattle.vr_journal.proofs.SavesFound.{found_topped, savable_found}
+use Rattle.vr_rules.specs.Opening.{IsKind, fresh, blank, first_value}
+use Rattle.vr_rules.specs.Replica.{Replica, forgetting, version, head}
+use Rattle.vr_rules.specs.Sound.{IsSound, IsSavable}
+use Rattle.vr_rules.proofs.Slots.{value_is}
+use Rattle.vr_rules.proofs.Openings.{partly_blank, opened_forgetting}
+use Rattle.vr_rules.proofs.SavesFound.{found_topped, savable_found}
 use Rattle.vr_opening.proofs.First.{first_good}
-use Rattle.vr_journal.specs.Ready.{IsReady}
+use Rattle.vr_memory.specs.Ready.{IsReady}
 use Rattle.vr_opening.specs.declared.new_member.FreshFault.TheVariants.{Occupied, DiskFault, NoMemory}
 use Rattle.vr_opening.specs.Making.{Agrees, Formats, Made}
 

@@ -8,10 +8,10 @@ use Rattle.vr_super.specs.Calls.{mend_calls, write_calls}
 use Rattle.vr_header.specs.declared.header.Header.{Header}
 use Rattle.vr_super.specs.Copies.{SuperValue, IsGood}
 use Rattle.vr_super.specs.declared.fields.Fields.{Fields}
-use Rattle.vr_journal.specs.Halt.{Halt}
-use Rattle.vr_journal.specs.Halt.TheVariants.{DiskFault, NoMemory}
-use Rattle.vr_journal.proofs.Migrating.{migrated_good}
-use Rattle.vr_journal.specs.Migrating.{migrated, migration_calls, slot_calls}
+use Rattle.vr_disk.specs.declared.fault.Halt.{Halt}
+use Rattle.vr_disk.specs.declared.fault.Halt.TheVariants.{DiskFault, NoMemory}
+use Rattle.vr_rules.proofs.Migrating.{migrated_good}
+use Rattle.vr_rules.specs.Migrating.{migrated, migration_calls, slot_calls}
 use Rattle.vr_opening.specs.declared.reopen.NoValue.{NoValue}
 use Rattle.vr_opening.specs.declared.reopen.NoValue.TheVariants as none
 use Rattle.vr_opening.specs.declared.reopen.Refusal.{Refusal}

@@ -6,7 +6,7 @@ use Rattle.std.proofs.lemmas.Bool.{eq-eqb, eqb-true}
 use Rattle.vr_disk.specs.DiskState.{Face}
 use Rattle.vr_super.specs.Copies.{SuperValue}
 use Rattle.vr_super.specs.Opens as superblock
-use Rattle.vr_journal.specs.Sectors.{of_version, sectors_by}
+use Rattle.vr_rules.specs.Sectors.{of_version, sectors_by}
 use Rattle.vr_opening.specs.Recovering.{opens, opens_as, runs_as}
 
 -- where any version serves, every value opens

@@ -16,18 +16,18 @@ use Rattle.vr_super.specs.declared.recovering.CopyVerdict.{CopyVerdict}
 use Rattle.vr_super.specs.declared.recovering.FindFault.{FindFault}
 use Rattle.vr_super.specs.declared.recovering.FindFault.TheVariants as fault
 use Rattle.vr_super.specs.declared.recovering.FoundValue.{FoundValue}
-use Rattle.vr_journal.specs.Replica.{Replica}
-use Rattle.vr_journal.specs.Steps.{Word, Mend}
-use Rattle.vr_journal.specs.Opening.{blank, opening, first_value}
-use Rattle.vr_journal.specs.Halt.{Halt}
-use Rattle.vr_journal.specs.Halt.TheVariants.{DiskFault, NoMemory}
+use Rattle.vr_rules.specs.Replica.{Replica}
+use Rattle.vr_rules.specs.Steps.{Word, Mend}
+use Rattle.vr_rules.specs.Opening.{blank, opening, first_value}
+use Rattle.vr_disk.specs.declared.fault.Halt.{Halt}
+use Rattle.vr_disk.specs.declared.fault.Halt.TheVariants.{DiskFault, NoMemory}
 use Rattle.vr_opening.specs.declared.reopen.NoValue.{NoValue}
 use Rattle.vr_opening.specs.declared.reopen.NoValue.TheVariants as none
 use Rattle.vr_opening.specs.declared.reopen.Refusal.{Refusal}
 use Rattle.vr_opening.specs.declared.reopen.Refusal.TheVariants.{Halted}
-use Rattle.vr_journal.specs.Does.{Does, Performs}
+use Rattle.vr_step.specs.Does.{Does, Performs}
 use Rattle.vr_opening.specs.Recovering.{after_mend, all_good, DoesTo, config_of, is_left, is_other, not_found, opens_as, refusal_of, runs_as, LosesCopies, LeavesAlone, LosesValue, MendsValue, BeginsWith, StopsMending, LeavesUnmended, FindsValue, IsOther, IsAsked, StopsAsked, Recovered, RecoveredAny}
-use Rattle.vr_journal.proofs.Stepping.{does_no_memory, effect_then, effect_stopped}
+use Rattle.vr_step.proofs.Stepping.{does_no_memory, effect_then, effect_stopped}
 
 pub begun_wanted : (v : SuperValue) (d : Option Disk) (o : List Output) → DoesTo (after_mend v) (blank v) d d o o (Err NoMemory)
 begun_wanted v d o = does_no_memory (after_mend v) (blank v) (blank v) d o o

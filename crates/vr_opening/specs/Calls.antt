@@ -5,7 +5,7 @@ use Rattle.vr_disk.specs.DiskState.{Call, Write, Disk, Runs}
 use Rattle.vr_disk.specs.declared.regions.TheConstants.{SLOTS}
 use Rattle.vr_disk.specs.Regions.{header_place, prepare_place, prepare_sectors}
 use Rattle.vr_rings.specs.Slots.{sector_of}
-use Rattle.vr_journal.specs.Formatting.{reserved_header, zero_sector}
+use Rattle.vr_rules.specs.Formatting.{reserved_header, zero_sector}
 
 -- the sector after the prepares of a file of this version
 abbrev pub prepares_end : ℕ → ℕ

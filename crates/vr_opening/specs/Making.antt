@@ -4,9 +4,9 @@ use Rattle.std.specs.Prelude.{◌≡◌, Bool, true, false, Option, is_some, IfS
 use Rattle.vr_base.specs.declared.table.Config.{Config}
 use Rattle.vr_disk.specs.DiskState.{Disk, Runs}
 use Rattle.vr_super.specs.Opens.{good_copies, opened}
-use Rattle.vr_journal.specs.Formatting.{format_calls}
-use Rattle.vr_journal.specs.Opening.{fresh}
-use Rattle.vr_journal.specs.Replica.{Replica}
+use Rattle.vr_rules.specs.Formatting.{format_calls}
+use Rattle.vr_rules.specs.Opening.{fresh}
+use Rattle.vr_rules.specs.Replica.{Replica}
 use Rattle.vr_opening.specs.declared.new_member.FreshFault.{FreshFault}
 use Rattle.vr_opening.specs.declared.new_member.FreshFault.TheVariants.{Occupied, DiskFault, NoMemory}
 

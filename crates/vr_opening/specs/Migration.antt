@@ -2,11 +2,11 @@
 use Rattle.std.specs.Prelude.{◌≡◌, ◌≢◌, ◌⊎◌, ◌==◌, ◌++◌, true, false, if◌then◌else◌, List, [], Option, Some, IfSome, Result, Ok, Err, None}
 use Rattle.vr_base.specs.declared.table.Config.{Config}
 use Rattle.vr_disk.specs.DiskState.{Call, Disk, Face, RunsFrom, after_all}
+use Rattle.vr_disk.specs.declared.fault.Halt.{Halt}
+use Rattle.vr_disk.specs.declared.fault.Halt.TheVariants.{DiskFault, NoMemory}
 use Rattle.vr_super.specs.Calls.{mend_calls, write_calls}
 use Rattle.vr_super.specs.Copies.{SuperValue}
-use Rattle.vr_journal.specs.Halt.{Halt}
-use Rattle.vr_journal.specs.Halt.TheVariants.{DiskFault, NoMemory}
-use Rattle.vr_journal.specs.Migrating.{migrated, migration_calls, slot_calls}
+use Rattle.vr_rules.specs.Migrating.{migrated, migration_calls, slot_calls}
 use Rattle.vr_opening.specs.Recovering.{IsOther, LosesValue, StopsMending, config_of, opens, opens_as}
 use Rattle.vr_opening.specs.declared.reopen.Refusal.{Refusal}
 use Rattle.vr_opening.specs.declared.reopen.Refusal.TheVariants.{Lost, OtherMember, Halted}

@@ -13,16 +13,16 @@ use Rattle.vr_super.specs.declared.recovering.CopyVerdict.{CopyVerdict}
 use Rattle.vr_super.specs.declared.recovering.CopyVerdict.TheVariants.{Good}
 use Rattle.vr_super.specs.declared.recovering.FindFault.{FindFault}
 use Rattle.vr_super.specs.declared.recovering.FindFault.TheVariants as find
-use Rattle.vr_journal.specs.Replica.{Replica}
-use Rattle.vr_journal.specs.Steps.{Word, ◌⨾◌}
-use Rattle.vr_journal.specs.Opening.{recover_parts, resuming, opening, blank}
-use Rattle.vr_journal.specs.Halt.{Halt}
-use Rattle.vr_journal.specs.Halt.TheVariants.{DiskFault, NoMemory}
+use Rattle.vr_rules.specs.Replica.{Replica}
+use Rattle.vr_rules.specs.Steps.{Word, ◌⨾◌}
+use Rattle.vr_rules.specs.Opening.{recover_parts, resuming, opening, blank}
+use Rattle.vr_disk.specs.declared.fault.Halt.{Halt}
+use Rattle.vr_disk.specs.declared.fault.Halt.TheVariants.{DiskFault, NoMemory}
 use Rattle.vr_opening.specs.declared.reopen.NoValue.{NoValue}
 use Rattle.vr_opening.specs.declared.reopen.NoValue.TheVariants as none
 use Rattle.vr_opening.specs.declared.reopen.Refusal.{Refusal}
 use Rattle.vr_opening.specs.declared.reopen.Refusal.TheVariants.{Lost, OtherMember, Halted}
-use Rattle.vr_journal.specs.Does.{Does}
+use Rattle.vr_step.specs.Does.{Does}
 
 -- an opening, after the mending of the superblock
 abbrev pub after_mend : SuperValue → Word Face

@@ -5,8 +5,8 @@ ghost use Rattle.vr_base.specs.Causes.{HasCause};
 ghost use Rattle.vr_disk.specs.DiskState.{Runs, Write};
 ghost use Rattle.vr_disk.specs.Regions.{header_place, prepare_place};
 ghost use Rattle.vr_rings.specs.Slots.{sector_of};
-ghost use Rattle.vr_journal.specs.Formatting.{format_calls, reserved_header, reserved_headers, zero_prepares};
-ghost use Rattle.vr_journal.specs.Opening.{first_value};
+ghost use Rattle.vr_rules.specs.Formatting.{format_calls, reserved_header, reserved_headers, zero_prepares};
+ghost use Rattle.vr_rules.specs.Opening.{first_value};
 ghost use Rattle.vr_super.specs.Opens.{file_kind};
 ghost use Rattle.vr_opening.specs.Calls.{prepares_end, reserved_call};
 

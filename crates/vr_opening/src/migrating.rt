@@ -1,11 +1,10 @@
 //! A file of version 1 becomes one of version 2.
 ghost use Rattle.std.specs.Prelude.{◌≡◌, [], IfOk, is_ok};
 ghost use Rattle.vr_base.specs.Causes.{HasCause};
-ghost use Rattle.vr_disk.specs.Counts.{CountsFault};
+ghost use Rattle.vr_disk.specs.Counts.{CountsFault, Caused};
 ghost use Rattle.vr_disk.specs.DiskState.{RunsFrom};
-ghost use Rattle.vr_journal.specs.Does.{Caused};
-ghost use Rattle.vr_journal.specs.Halt.TheVariants as Halt;
-ghost use Rattle.vr_journal.specs.Migrating.{migrated};
+ghost use Rattle.vr_disk.specs.declared.fault.Halt.TheVariants as Halt;
+ghost use Rattle.vr_rules.specs.Migrating.{migrated};
 ghost use Rattle.vr_opening.specs.Migration.{Migrated, MigratedAny, MovesOver, moving_calls};
 ghost use Rattle.vr_opening.specs.declared.reopen.Refusal.TheVariants as Refusal;
 

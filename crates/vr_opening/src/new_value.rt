@@ -1,7 +1,7 @@
 //! The value with which a member begins.
 ghost use Rattle.std.specs.Prelude.{◌≡◌, ◌<◌, ◌^◌, IfOk, true};
 ghost use Rattle.vr_base.specs.Groups.{is_size};
-ghost use Rattle.vr_journal.specs.Opening.{IsKind, first_value};
+ghost use Rattle.vr_rules.specs.Opening.{IsKind, first_value};
 
 use std::alloc::Global;
 use vr_base::{Config, Kind, NoMemory, Seq, Sum};

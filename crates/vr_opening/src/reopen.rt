@@ -1,14 +1,13 @@
 //! A replica is recovered from its disk.
 ghost use Rattle.std.specs.Prelude.{◌≡◌, ◌≢◌, true, false, IfOk, IfErr, IfSome, Ok};
-ghost use Rattle.vr_disk.specs.Counts.{CountsFault};
+ghost use Rattle.vr_disk.specs.Counts.{CountsFault, Caused};
 ghost use Rattle.vr_opening.specs.declared.reopen.NoValue.TheVariants as NoValue;
 ghost use Rattle.vr_opening.specs.declared.reopen.Refusal.TheVariants as Refusal;
-ghost use Rattle.vr_journal.specs.Does.{Caused};
-ghost use Rattle.vr_journal.specs.Ready.{IsReady};
+ghost use Rattle.vr_memory.specs.Ready.{IsReady};
 ghost use Rattle.vr_opening.specs.Finding.{IsOpeningOld};
-ghost use Rattle.vr_journal.specs.Opening.{blank};
+ghost use Rattle.vr_rules.specs.Opening.{blank};
 ghost use Rattle.vr_opening.specs.Recovering.{after_mend, DoesTo, config_of, FindsValue, not_found, refusal_of, Recovered, RecoveredAny};
-ghost use Rattle.vr_journal.specs.Halt.TheVariants as Halt;
+ghost use Rattle.vr_disk.specs.declared.fault.Halt.TheVariants as Halt;
 ghost use Rattle.vr_super.specs.Recovers.{IsFound};
 
 use crate::begin::open_mended;

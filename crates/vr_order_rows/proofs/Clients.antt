@@ -2,8 +2,9 @@
 use Rattle.std.proofs.Common.{ℕ, ◌-◌, ◌≤◌, ◌<◌, ◌≡◌, ◌∙◌, inl, inr, arith, refl, sym, ap, subst, Bool, true, false, ◌&&◌, ◌||◌, eqb, List, [], ◌∷◌, ◌++◌, take, Some}
 use Rattle.std.specs.Prelude.{IsTrue, slice_get}
 use Rattle.std.proofs.lemmas.Bool.{cases_eq, cases_lt, eqb-true, true≢false}
-use Rattle.vr_base.specs.Bytes.{sha256, first_words, schedule, rounds, compress, hash_after, digest_bytes, bytes16, bytes32, bytes64, name_of}
-use Rattle.vr_ckpt.specs.SessionAnswer.TheVariants as session
+use Rattle.sha2.specs.Sha256.{sha256, first_words, schedule, rounds, compress, hash_after, digest_bytes}
+use Rattle.vr_base.specs.Bytes.{bytes16, bytes32, bytes64, name_of}
+use Rattle.vr_state.specs.declared.session.SessionAnswer.TheVariants as session
 use Rattle.vr_client.specs.declared.answer.Answer.TheVariants as answer
 use Rattle.vr_header.specs.Bodies.{operation_bytes}
 use Rattle.vr_header.specs.Made.{Whole}
@@ -17,7 +18,7 @@ use Rattle.vr_state.specs.Sessions as sess
 use Rattle.vr_state.specs.declared.state.State.{State}
 use Rattle.vr_state.proofs.Once.{each_once}
 use Rattle.law_1_machine.specs.Basics.{In}
-use Rattle.law_3_outputs.proofs.StoredLists.{contains_in, in_contains}
+use Rattle.law_2_chains.proofs.StoredLists.{contains_in, in_contains}
 use Rattle.law_6_one_log.specs.Outputs.{IsOnceInSession}
 use Rattle.law_9_answers.specs.Heard.{Heard}
 use Rattle.law_9_asked.specs.Asked.{IsExecuted, IsMadeOf}

@@ -32,7 +32,7 @@ use Rattle.vr_world.specs.Lying.{Lying, hazards}
 use Rattle.vr_world.specs.World.{Arrives, Asks, AsksInVersion, Happening, World, fresh_world, happen}
 use Rattle.law_1_machine.specs.Basics.{In}
 use Rattle.law_3_outputs.proofs.Sets.{in_get, in_left, in_right}
-use Rattle.law_3_outputs.proofs.StoredLists.{contains_in, in_contains}
+use Rattle.law_2_chains.proofs.StoredLists.{contains_in, in_contains}
 use Rattle.law_6_one_log.specs.Laws.{KeepsOneLog}
 use Rattle.law_6_one_log.specs.Schedules.{IsHashed}
 use Rattle.law_9_asked.specs.Asked.{IsExecuted, IsNew, KeepsOrder}

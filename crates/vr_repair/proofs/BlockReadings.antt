@@ -9,9 +9,9 @@ use Rattle.vr_disk.specs.Sectors.{together}
 use Rattle.vr_ckpt.specs.Blocks.{named}
 use Rattle.vr_ckpt.specs.Grid.{block_reading, named_at}
 use Rattle.vr_ckpt.specs.declared.name.Name.{Name}
-use Rattle.vr_journal.specs.Rules.{block_at}
-use Rattle.vr_journal.specs.Sectors.{block_in}
-use Rattle.vr_journal.specs.Does.{Finds}
+use Rattle.vr_rules.specs.Rules.{block_at}
+use Rattle.vr_rules.specs.Sectors.{block_in}
+use Rattle.vr_step.specs.Does.{Finds}
 
 past_grid : (f : Face) (name : Name) → grid_size ≤ name.address → None ≡ block_in f name
 unfolding named_at

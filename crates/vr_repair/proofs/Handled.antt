@@ -15,16 +15,16 @@ use Rattle.vr_super.specs.Calls.{mend_calls, write_calls}
 use Rattle.vr_ckpt.specs.Saves.{blocks_calls, save_calls, written}
 use Rattle.vr_rings.specs.Slots.{whole_in}
 use Rattle.vr_msg.specs.declared.output.Output.{Output}
-use Rattle.vr_journal.specs.Ready.{MayStore}
-use Rattle.vr_journal.specs.Deciding.{first_of}
-use Rattle.vr_journal.specs.Rule.TheVariants.{EntryTaken, Ignored}
-use Rattle.vr_journal.specs.Replica.{Replica, part_at, version}
-use Rattle.vr_journal.specs.Rules.{on_give_block, on_give_prepare, put_block}
-use Rattle.vr_journal.specs.Sectors.{calls_by, sectors_by}
-use Rattle.vr_journal.specs.Steps.{Effect, Write, Rewrite, Save, Mend, Checkpoint, PutBlock, Say, Setting, Word, ◌⨾◌, after_all, by, change, does, naming, quiet, reading, says, times, when}
-use Rattle.vr_journal.specs.Words.{apply, apply_entry, apply_next, entry_of, lost, make_checkpoint, or_lost, resend, save, with_entry, with_entry_at, write}
-use Rattle.vr_journal.proofs.FitDisks.{SparesSlots, checkpoint_slots, mend_slots, put_slots, same_entry, save_slots}
-use Rattle.vr_journal.proofs.Halves.{after_both}
+use Rattle.vr_memory.specs.Ready.{MayStore}
+use Rattle.vr_rules.specs.Deciding.{first_of}
+use Rattle.vr_rules.specs.declared.rule.Rule.TheVariants.{EntryTaken, Ignored}
+use Rattle.vr_rules.specs.Replica.{Replica, part_at, version}
+use Rattle.vr_rules.specs.Rules.{on_give_block, on_give_prepare, put_block}
+use Rattle.vr_rules.specs.Sectors.{calls_by, sectors_by}
+use Rattle.vr_rules.specs.Steps.{Effect, Write, Rewrite, Save, Mend, Checkpoint, PutBlock, Say, Setting, Word, ◌⨾◌, after_all, by, change, does, naming, quiet, reading, says, times, when}
+use Rattle.vr_rules.specs.Words.{apply, apply_entry, apply_next, entry_of, lost, make_checkpoint, or_lost, resend, save, with_entry, with_entry_at, write}
+use Rattle.vr_rules.proofs.FitDisks.{SparesSlots, checkpoint_slots, mend_slots, put_slots, same_entry, save_slots}
+use Rattle.vr_rules.proofs.Halves.{after_both}
 use Rattle.vr_repair.specs.Laws.{TakenBlocksRead, TakenEntriesRead}
 use Rattle.vr_repair.proofs.Repaired.{blocks_repaired, entries_repaired}
 use Rattle.vr_repair.proofs.Rules.{is_put, may_take}

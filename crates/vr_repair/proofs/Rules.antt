@@ -9,7 +9,7 @@ use Rattle.vr_disk.specs.DiskState.{Disk, Face}
 use Rattle.vr_ckpt.specs.Blocks.{named}
 use Rattle.vr_ckpt.specs.declared.name.Name.{Name}
 use Rattle.vr_header.specs.Made.{Whole}
-use Rattle.vr_journal.specs.Ready.{IsReady, MayLoad, MayStore}
+use Rattle.vr_memory.specs.Ready.{IsReady, MayLoad, MayStore}
 use Rattle.vr_msg.specs.declared.frame.GetBlock.{GetBlock}
 use Rattle.vr_msg.specs.declared.frame.GetPrepare.{GetPrepare}
 use Rattle.vr_msg.specs.declared.frame.GiveBlock.{GiveBlock}
@@ -19,19 +19,19 @@ use Rattle.vr_repair.specs.declared.deciding.Repair.{Repair}
 use Rattle.vr_repair.specs.declared.deciding.Repair.TheVariants as repair
 use Rattle.vr_journal.specs.Reads.{Reads}
 use Rattle.vr_repair.specs.Repairs.{found_at, gives, is_block, rule_of}
-use Rattle.vr_journal.specs.Deciding.{first_of, get_block_table, get_prepare_table, give_block_table, give_prepare_table, is_known, is_wanted}
-use Rattle.vr_journal.specs.Rule.TheVariants.{Ignored, BlockMended, BlockTaken}
-use Rattle.vr_journal.specs.Outputs.{give_block, give_prepare, send_to}
-use Rattle.vr_journal.specs.Replica.{Replica, version}
-use Rattle.vr_journal.specs.Rules.{asked_block, block_at, give_read, obey_get_block, obey_get_prepare, obey_give_block, obey_give_prepare, on_get_block, on_get_prepare, mend_found, on_give_block, on_give_prepare, put_found, test_of}
-use Rattle.vr_journal.specs.Sectors.{sectors_by}
-use Rattle.vr_journal.specs.Steps.{◌⨾◌, by, quiet, reading}
-use Rattle.vr_journal.specs.Words.{apply, resend, with_entry_at, write}
-use Rattle.vr_journal.proofs.Ruling.{may_store_given}
-use Rattle.vr_journal.proofs.Storing.{MayStore as May}
-use Rattle.vr_journal.specs.Halt.{Halt}
-use Rattle.vr_journal.specs.Does.{Does, Finds, LeftBy}
-use Rattle.vr_journal.proofs.Stepping.{does_by, does_naming, does_quiet, does_reading, says_by}
+use Rattle.vr_rules.specs.Deciding.{first_of, get_block_table, get_prepare_table, give_block_table, give_prepare_table, is_known, is_wanted}
+use Rattle.vr_rules.specs.declared.rule.Rule.TheVariants.{Ignored, BlockMended, BlockTaken}
+use Rattle.vr_rules.specs.Outputs.{give_block, give_prepare, send_to}
+use Rattle.vr_rules.specs.Replica.{Replica, version}
+use Rattle.vr_rules.specs.Rules.{asked_block, block_at, give_read, obey_get_block, obey_get_prepare, obey_give_block, obey_give_prepare, on_get_block, on_get_prepare, mend_found, on_give_block, on_give_prepare, put_found, test_of}
+use Rattle.vr_rules.specs.Sectors.{sectors_by}
+use Rattle.vr_rules.specs.Steps.{◌⨾◌, by, quiet, reading}
+use Rattle.vr_rules.specs.Words.{apply, resend, with_entry_at, write}
+use Rattle.vr_rules.proofs.Ruling.{may_store_given}
+use Rattle.vr_rules.proofs.Storing.{MayStore as May}
+use Rattle.vr_disk.specs.declared.fault.Halt.{Halt}
+use Rattle.vr_step.specs.Does.{Does, Finds, LeftBy}
+use Rattle.vr_step.proofs.Stepping.{does_by, does_naming, does_quiet, does_reading, says_by}
 
 -- ---- get_prepare
 

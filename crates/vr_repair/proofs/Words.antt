@@ -7,20 +7,20 @@ use Rattle.vr_ckpt.specs.declared.name.Name.{Name}
 use Rattle.vr_header.specs.declared.header.Header.{Header}
 use Rattle.vr_header.specs.Made.{Whole}
 use Rattle.vr_journal.specs.Effects.{puts}
-use Rattle.vr_journal.specs.Ready.{IsReady, MayLoad}
-use Rattle.vr_journal.proofs.Memory.{window_of}
-use Rattle.vr_journal.proofs.Repairs.{ready_dropped}
+use Rattle.vr_memory.specs.Ready.{IsReady, MayLoad}
+use Rattle.vr_memory.proofs.Memory.{window_of}
+use Rattle.vr_memory.proofs.Repairs.{ready_dropped}
 use Rattle.vr_msg.specs.declared.output.Output.{Output}
 use Rattle.vr_repair.specs.Repairs.{loads_whole}
-use Rattle.vr_journal.specs.Outputs.{get_block, get_prepare, prepare, prepare_ok, send_to_all, to_primary}
-use Rattle.vr_journal.specs.Replica.{Replica, is_alone, is_primary, is_started}
-use Rattle.vr_journal.specs.Rules.{mend_found, not_worn, put_block, without}
-use Rattle.vr_journal.specs.Steps.{PutBlock, Word, change, says}
-use Rattle.vr_journal.specs.Words.{ask, ask_for, ask_peer, is_loaded, least_absent, load, resend}
-use Rattle.vr_journal.specs.Halt.{Halt}
-use Rattle.vr_journal.specs.Halt.TheVariants.{DiskFault, NoMemory}
-use Rattle.vr_journal.specs.Does.{Does, Performs}
-use Rattle.vr_journal.proofs.Stepping.{change_by_then, does_by, does_change, does_naming, does_no_memory, does_quiet, effect_stopped, effect_then, says_by}
+use Rattle.vr_rules.specs.Outputs.{get_block, get_prepare, prepare, prepare_ok, send_to_all, to_primary}
+use Rattle.vr_rules.specs.Replica.{Replica, is_alone, is_primary, is_started}
+use Rattle.vr_rules.specs.Rules.{mend_found, not_worn, put_block, without}
+use Rattle.vr_rules.specs.Steps.{PutBlock, Word, change, says}
+use Rattle.vr_rules.specs.Words.{ask, ask_for, ask_peer, is_loaded, least_absent, load, resend}
+use Rattle.vr_disk.specs.declared.fault.Halt.{Halt}
+use Rattle.vr_disk.specs.declared.fault.Halt.TheVariants.{DiskFault, NoMemory}
+use Rattle.vr_step.specs.Does.{Does, Performs}
+use Rattle.vr_step.proofs.Stepping.{change_by_then, does_by, does_change, does_naming, does_no_memory, does_quiet, effect_stopped, effect_then, says_by}
 
 -- want of memory, where the disk is as it was
 pub wanted : (w : Word Face) (r q : Replica) (d d' : Option Disk) (o o' : List Output) → d' ≡ d → Does w r q d d' o o' (Err NoMemory)

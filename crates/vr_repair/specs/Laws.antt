@@ -3,20 +3,20 @@ use Rattle.std.specs.Prelude.{ℕ, ◌%◌, ◌≡◌, true, [], ◌∷◌, List
 use Rattle.vr_msg.specs.declared.frame.GiveBlock.{GiveBlock}
 use Rattle.vr_msg.specs.declared.frame.GivePrepare.{GivePrepare}
 use Rattle.vr_repair.specs.Repairs.{is_block}
-use Rattle.vr_journal.specs.Deciding.{first_of, give_block_table, give_prepare_table, is_wanted}
-use Rattle.vr_journal.specs.Rule.TheVariants.{BlockTaken, EntryTaken}
+use Rattle.vr_rules.specs.Deciding.{first_of, give_block_table, give_prepare_table, is_wanted}
+use Rattle.vr_rules.specs.declared.rule.Rule.TheVariants.{BlockTaken, EntryTaken}
 use Rattle.vr_disk.specs.DiskState.{Face, IsFace}
 use Rattle.vr_ckpt.specs.Blocks.{named}
 use Rattle.vr_ckpt.specs.declared.name.Name.{Name}
 use Rattle.vr_header.specs.declared.part.Part.TheVariants.{Here}
 use Rattle.vr_header.specs.Made.{Whole}
-use Rattle.vr_journal.specs.Ready.{IsReady, MayStore}
+use Rattle.vr_memory.specs.Ready.{IsReady, MayStore}
 use Rattle.vr_rings.specs.Slots.{IsWhole}
-use Rattle.vr_journal.specs.Replica.{Replica, part_at, version}
-use Rattle.vr_journal.specs.Rules.{on_give_block, on_give_prepare, without}
-use Rattle.vr_journal.specs.Sectors.{sectors_by}
-use Rattle.vr_journal.specs.Steps.{Effect, PutBlock, after_all}
-use Rattle.vr_journal.specs.Words.{write}
+use Rattle.vr_rules.specs.Replica.{Replica, part_at, version}
+use Rattle.vr_rules.specs.Rules.{on_give_block, on_give_prepare, without}
+use Rattle.vr_rules.specs.Sectors.{sectors_by}
+use Rattle.vr_rules.specs.Steps.{Effect, PutBlock, after_all}
+use Rattle.vr_rules.specs.Words.{write}
 
 -- an entry that is stored is known to be, and its slot reads as it, on a file of the replica's version
 pub record EntryRepaired (e : Whole) (r : Replica) (f : Face) : Type 0 where

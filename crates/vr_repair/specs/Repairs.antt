@@ -4,11 +4,11 @@ use Rattle.std.specs.Option.{option_and_then}
 use Rattle.vr_ckpt.specs.Blocks.{named}
 use Rattle.vr_ckpt.specs.declared.name.Name.{Name}
 use Rattle.vr_header.specs.Made.{Whole}
-use Rattle.vr_journal.specs.Rule.{Rule}
-use Rattle.vr_journal.specs.Rule.TheVariants.{Ignored, EntryGiven, EntryTaken, BlockGiven, BlockTaken, BlockMended}
-use Rattle.vr_journal.specs.Outputs.{give_prepare, send_to}
-use Rattle.vr_journal.specs.Steps.{Word, by, says, when}
-use Rattle.vr_journal.specs.Words.{is_loaded, load}
+use Rattle.vr_rules.specs.declared.rule.Rule.{Rule}
+use Rattle.vr_rules.specs.declared.rule.Rule.TheVariants.{Ignored, EntryGiven, EntryTaken, BlockGiven, BlockTaken, BlockMended}
+use Rattle.vr_rules.specs.Outputs.{give_prepare, send_to}
+use Rattle.vr_rules.specs.Steps.{Word, by, says, when}
+use Rattle.vr_rules.specs.Words.{is_loaded, load}
 use Rattle.vr_repair.specs.declared.deciding.Repair.{Repair}
 use Rattle.vr_repair.specs.declared.deciding.Repair.TheVariants as repair
 

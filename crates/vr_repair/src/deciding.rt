@@ -1,11 +1,11 @@
 //! Which rule a message of repair leads to.
 ghost use Rattle.std.specs.Prelude.{◌≡◌, Bool, if◌then◌else◌};
 ghost use Rattle.vr_base.specs.Bytes.{name_of};
-ghost use Rattle.vr_journal.specs.Ready.{IsReady, MayStore};
+ghost use Rattle.vr_memory.specs.Ready.{IsReady, MayStore};
 ghost use Rattle.vr_repair.specs.Repairs.{rule_of};
-ghost use Rattle.vr_journal.specs.Deciding.{first_of, get_block_table, get_prepare_table, give_prepare_table};
-ghost use Rattle.vr_journal.specs.Rule.TheVariants.{Ignored};
-ghost use Rattle.vr_journal.specs.Replica.{is_absent};
+ghost use Rattle.vr_rules.specs.Deciding.{first_of, get_block_table, get_prepare_table, give_prepare_table};
+ghost use Rattle.vr_rules.specs.declared.rule.Rule.TheVariants.{Ignored};
+ghost use Rattle.vr_rules.specs.Replica.{is_absent};
 
 use vr_ckpt::Name;
 use vr_header::Part;
@@ -31,7 +31,7 @@ pub enum Repair {
 
 /// `EntryGiven` where the message is of this version and group and from another replica, the known header of its op has this name, and the
 /// Part is `Here`. Else `Ignored`. Whether the entry reads isn't looked at.
-#[tactic(auto, unfolding(vr_journal::specs::Deciding::first_of))]
+#[tactic(auto, unfolding(vr_rules::specs::Deciding::first_of))]
 pub fn decide_get_prepare(replica: &Replica, get: &GetPrepare) -> Repair
     ensures { first_of (get_prepare_table name_of get.now replica.now) ≡ rule_of result }
 {
@@ -58,7 +58,7 @@ fn is_absent(part: &Part) -> bool
 /// `EntryTaken` where the message is of this version and group and from another replica, and the entry's op, above the checkpoint, is
 /// `Lost` or `Wanted` with its very header. Else `Ignored`. An entry that is taken may be stored (`MayStore`): it is in the window, and was
 /// made in the log view or before.
-#[tactic(auto, using(crate::proofs::Rules::may_take), unfolding(vr_journal::specs::Deciding::first_of))]
+#[tactic(auto, using(crate::proofs::Rules::may_take), unfolding(vr_rules::specs::Deciding::first_of))]
 pub fn decide_give_prepare(replica: &Replica, give: &GivePrepare) -> Repair
     requires { IsReady replica.now }
     ensures rule { first_of (give_prepare_table give.now replica.now) ≡ rule_of result }
@@ -78,7 +78,7 @@ pub fn decide_give_prepare(replica: &Replica, give: &GivePrepare) -> Repair
 
 /// `BlockGiven` where the message is of this version and group and from another replica, else `Ignored`. Whether the block reads isn't
 /// looked at: where it does, this is the rule; where it doesn't, the rule is `Ignored`, whatever is answered here.
-#[tactic(auto, unfolding(vr_journal::specs::Deciding::first_of))]
+#[tactic(auto, unfolding(vr_rules::specs::Deciding::first_of))]
 pub fn decide_get_block(replica: &Replica, get: &GetBlock) -> Repair
     ensures { (reads : Bool) → first_of (get_block_table reads get.now replica.now) ≡ (if reads then rule_of result else Ignored) }
 {

@@ -1,10 +1,10 @@
 //! Entries that are told of again.
 ghost use Rattle.std.specs.Prelude.{◌≡◌, ◌≤◌, ◌++◌, ◌&&◌, nat_lt, OnOk, if◌then◌else◌};
 ghost use Rattle.vr_base.specs.Bytes.{name_of};
-ghost use Rattle.vr_journal.specs.Ready.{IsReady};
-ghost use Rattle.vr_journal.specs.Outputs.{prepare, prepare_ok, send_to_all, to_primary};
-ghost use Rattle.vr_journal.specs.Replica.{is_primary, is_started, last_view, version};
-ghost use Rattle.vr_journal.specs.Words.{resend};
+ghost use Rattle.vr_rules.specs.Outputs.{prepare, prepare_ok, send_to_all, to_primary};
+ghost use Rattle.vr_rules.specs.Replica.{is_primary, is_started, last_view, version};
+ghost use Rattle.vr_rules.specs.Words.{resend};
+ghost use Rattle.vr_memory.specs.Ready.{IsReady};
 ghost use Rattle.vr_journal.specs.Acts.{Acts};
 
 use std::alloc::{AllocError, Global};
@@ -22,7 +22,7 @@ fn is_open(replica: &Replica, entry: &Entry) -> bool
 
 // The view's primary sends a prepare of the entry to each other replica, ascending; another replica sends one prepare_ok of it to the
 // primary. After an `Err`, want of memory, nothing is said of outputs.
-#[tactic(auto, using(vr_journal::proofs::Memory::some_member))]
+#[tactic(auto, using(vr_memory::proofs::Memory::some_member))]
 fn tell(replica: &Replica, alloc: Global, entry: &Entry, out: &mut Outbox) -> Result<(), AllocError>
     requires ready { IsReady replica.now }
     requires view { replica.now.view ≤ last_view }
@@ -40,7 +40,7 @@ fn tell(replica: &Replica, alloc: Global, entry: &Entry, out: &mut Outbox) -> Re
 /// Where the view isn't started, or the entry's op is at most the commit number, nothing is put out. Else its primary sends a prepare of
 /// the entry to each other replica, ascending, a backup one prepare_ok to the primary. Replica and disk are left as they are; after an
 /// `Err` nothing is said of outputs.
-#[tactic(auto, using(crate::proofs::Words::resent, crate::proofs::Words::not_resent, vr_journal::proofs::Stepping::wants))]
+#[tactic(auto, using(crate::proofs::Words::resent, crate::proofs::Words::not_resent, vr_step::proofs::Stepping::wants))]
 pub fn resend<D: SectorDisk>(
     replica: &Replica,
     alloc: Global,

@@ -1,9 +1,9 @@
 //! Which missing block, or block that has gone bad, the bytes of a message are.
 ghost use Rattle.std.specs.Prelude.{◌≡◌, Some, find, if◌then◌else◌};
 ghost use Rattle.std.specs.List.{list_any};
-ghost use Rattle.vr_journal.specs.Rule.TheVariants.{BlockMended, Ignored};
+ghost use Rattle.vr_rules.specs.declared.rule.Rule.TheVariants.{BlockMended, Ignored};
 ghost use Rattle.vr_repair.specs.Repairs.{found_at, is_block, rule_of};
-ghost use Rattle.vr_journal.specs.Deciding.{first_of, give_block_table, is_wanted};
+ghost use Rattle.vr_rules.specs.Deciding.{first_of, give_block_table, is_wanted};
 
 use crate::deciding::Repair;
 use vr_ckpt::{Name, NameList, is_block_of};
@@ -57,7 +57,7 @@ fn decide_mended(replica: &Replica, give: &GiveBlock) -> Repair
 
 /// `Ignored` unless the message is of this version and group and from another replica. Then `BlockTaken` with the first missing name that
 /// has its address, and whose whole block its bytes are. Where there is none, `BlockMended` with the first such worn name; else `Ignored`.
-#[tactic(auto, using(crate::proofs::Rules::wanted_some, crate::proofs::Rules::wanted_none), unfolding(vr_journal::specs::Deciding::first_of))]
+#[tactic(auto, using(crate::proofs::Rules::wanted_some, crate::proofs::Rules::wanted_none), unfolding(vr_rules::specs::Deciding::first_of))]
 pub fn decide_give_block(replica: &Replica, give: &GiveBlock) -> Repair
     ensures rule { first_of (give_block_table is_block give.now replica.now) ≡ rule_of result }
     ensures name { (name : Name) → result ≡ Repair.BlockTaken name → find (is_wanted is_block give.now) replica.now.missing ≡ Some name }

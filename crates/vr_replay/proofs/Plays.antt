@@ -10,9 +10,9 @@ use Rattle.vr_lines.specs.Grammar.{parse}
 use Rattle.vr_lines.specs.declared.line.Line.{Line}
 use Rattle.vr_lines.specs.declared.line.Line.TheVariants as line
 use Rattle.vr_lines.proofs.Fitting.{long_parse, parsed_fits}
+use Rattle.vr_rules.specs.Outputs.{messages}
 use Rattle.vr_world.specs.Lying.{Lying, hazards}
 use Rattle.vr_world.specs.World.{Happened, World, fresh_world, happen, happens}
-use Rattle.vr_world.specs.Outputs.{messages}
 use Rattle.vr_group.specs.Outputs.{Numbered, numbered}
 use Rattle.vr_group.specs.Lines.{happening, happenings}
 use Rattle.vr_group.proofs.Goings.{Grows, grows_one, numbered_append}

@@ -3,22 +3,22 @@ use Rattle.std.proofs.Common.{arith, ℕ, cond, ◌≡◌, ◌≤◌, ◌<◌, �
 use Rattle.std.specs.Prelude.{nat_le, nat_lt, nat_eq, if◌then◌else◌}
 use Rattle.std.proofs.lemmas.Bool.{le-leb, lt-leb, leb-true, leb-false, eqb-false}
 use Rattle.vr_disk.specs.DiskState.{Disk, Face}
+use Rattle.vr_disk.specs.declared.fault.Halt.{Halt}
 use Rattle.vr_msg.specs.declared.output.Output.{Output}
-use Rattle.vr_journal.specs.Deciding.{first_of, tick_table}
-use Rattle.vr_journal.specs.Rule.{Rule}
-use Rattle.vr_journal.specs.Rule.TheVariants.{TickedPrimary, TickedBackup, TickedChanging}
-use Rattle.vr_journal.specs.Replica.{Replica, head, last_view, version}
-use Rattle.vr_journal.specs.Rules.{idler, next_view, backup_ticks, changing_ticks, primary_ticks, obey_tick, on_tick}
-use Rattle.vr_journal.specs.Sectors.{sectors_by}
-use Rattle.vr_journal.specs.Steps.{Setting, Step, Word, ◌⨾◌, by, change}
-use Rattle.vr_journal.specs.Words.{enter, entered, rested, prepare_again, ask, visit}
-use Rattle.vr_journal.proofs.Keeping.{sound_alike}
-use Rattle.vr_journal.proofs.SavesWell.{savable_alike}
-use Rattle.vr_journal.proofs.Storing.{head_number}
-use Rattle.vr_journal.specs.Halt.{Halt}
-use Rattle.vr_journal.specs.Does.{Does, LeftBy}
-use Rattle.vr_journal.proofs.Stepping.{does_by, does_quiet, does_change_then}
-use Rattle.vr_journal.specs.Ready.{IsReady}
+use Rattle.vr_rules.specs.Deciding.{first_of, tick_table}
+use Rattle.vr_rules.specs.declared.rule.Rule.{Rule}
+use Rattle.vr_rules.specs.declared.rule.Rule.TheVariants.{TickedPrimary, TickedBackup, TickedChanging}
+use Rattle.vr_rules.specs.Replica.{Replica, head, last_view, version}
+use Rattle.vr_rules.specs.Rules.{idler, next_view, backup_ticks, changing_ticks, primary_ticks, obey_tick, on_tick}
+use Rattle.vr_rules.specs.Sectors.{sectors_by}
+use Rattle.vr_rules.specs.Steps.{Setting, Step, Word, ◌⨾◌, by, change}
+use Rattle.vr_rules.specs.Words.{enter, entered, rested, prepare_again, ask, visit}
+use Rattle.vr_rules.proofs.Keeping.{sound_alike}
+use Rattle.vr_rules.proofs.SavesWell.{savable_alike}
+use Rattle.vr_rules.proofs.Storing.{head_number}
+use Rattle.vr_step.specs.Does.{Does, LeftBy}
+use Rattle.vr_step.proofs.Stepping.{does_by, does_quiet, does_change_then}
+use Rattle.vr_memory.specs.Ready.{IsReady}
 use Rattle.vr_replica.specs.Ticks.{tells_first, tells_all}
 
 -- ---- bounds

@@ -4,9 +4,9 @@ use Rattle.vr_disk.specs.DiskState.{Face}
 use Rattle.vr_header.specs.declared.part.Part.{Part}
 use Rattle.vr_header.specs.declared.part.Part.TheVariants.{Here, Lost, Wanted, Unknown, Nothing}
 use Rattle.vr_header.specs.Made.{Whole}
-use Rattle.vr_journal.specs.Replica.{Replica}
-use Rattle.vr_journal.specs.Sectors.{sectors_by}
-use Rattle.vr_journal.specs.Words.{entry_of, lost}
+use Rattle.vr_rules.specs.Replica.{Replica}
+use Rattle.vr_rules.specs.Sectors.{sectors_by}
+use Rattle.vr_rules.specs.Words.{entry_of, lost}
 
 -- the entry of an op of which this is known, on a file of a version
 abbrev pub entry_by : ℕ → Part → Face → Option Whole

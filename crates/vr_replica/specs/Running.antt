@@ -1,6 +1,6 @@
 -- A replica as its member runs it.
 use Rattle.std.specs.Prelude.{Bool, Result, Ok, Err}
-use Rattle.vr_journal.specs.Replica.{Replica}
+use Rattle.vr_rules.specs.Replica.{Replica}
 
 pub record Running : Type 0 where
   -- what it has in memory

@@ -1,11 +1,11 @@
 -- What a tick leads to.
 use Rattle.std.specs.Prelude.{◌+◌, nat_lt}
-use Rattle.vr_journal.specs.Rule.{Rule}
-use Rattle.vr_journal.specs.Rule.TheVariants as rules
-use Rattle.vr_journal.specs.Outputs.{send_to_all, start_view_change}
-use Rattle.vr_journal.specs.Replica.{head}
-use Rattle.vr_journal.specs.Steps.{Word, ◌⨾◌, by, says, when}
-use Rattle.vr_journal.specs.Words.{ask, prepare_again, speak, visit}
+use Rattle.vr_rules.specs.declared.rule.Rule.{Rule}
+use Rattle.vr_rules.specs.declared.rule.Rule.TheVariants as rules
+use Rattle.vr_rules.specs.Outputs.{send_to_all, start_view_change}
+use Rattle.vr_rules.specs.Replica.{head}
+use Rattle.vr_rules.specs.Steps.{Word, ◌⨾◌, by, says, when}
+use Rattle.vr_rules.specs.Words.{ask, prepare_again, speak, visit}
 use Rattle.vr_replica.specs.declared.ticking.TickRule.{TickRule}
 use Rattle.vr_replica.specs.declared.ticking.TickRule.TheVariants as tick
 

@@ -1,13 +1,13 @@
 //! A replica as its member runs it.
 ghost use Rattle.std.specs.Prelude.{◌≡◌, ◌≤◌, ◌<◌, [], IfOk, IfSome, OnErr, is_ok, is_some, true};
 ghost use Rattle.vr_base.specs.Groups.{is_size};
-ghost use Rattle.vr_disk.specs.Counts.{CountsFault};
+ghost use Rattle.vr_disk.specs.Counts.{CountsFault, Caused};
 ghost use Rattle.vr_opening.specs.Making.{Made};
 ghost use Rattle.vr_opening.specs.Migration.{Migrated, MigratedAny};
 ghost use Rattle.vr_opening.specs.Recovering.{Recovered, RecoveredAny};
-ghost use Rattle.vr_journal.specs.Replica.{header_at, part_at, version};
-ghost use Rattle.vr_journal.specs.Rules.{react};
-ghost use Rattle.vr_journal.specs.Does.{Caused, Does};
+ghost use Rattle.vr_rules.specs.Replica.{header_at, part_at, version};
+ghost use Rattle.vr_rules.specs.Rules.{react};
+ghost use Rattle.vr_step.specs.Does.{Does};
 ghost use Rattle.vr_journal.specs.Waits.{EndsAtOnce};
 ghost use Rattle.vr_replica.specs.AtOnce.{IsAtOnce};
 ghost use Rattle.vr_replica.specs.Entries.{after_reading, entry_by};
@@ -34,7 +34,7 @@ pub struct Replica {
 
 impl Model for Replica {
     ghost use Rattle.std.specs.Prelude.{◌≡◌, true};
-    ghost use Rattle.vr_journal.specs.Ready.{IsReady};
+    ghost use Rattle.vr_memory.specs.Ready.{IsReady};
     ghost use Rattle.vr_replica.specs.Running.{Running};
 
     ghost Value = { Running };
@@ -162,7 +162,7 @@ impl Replica {
     /// On these it answers `Ok` and leaves the very same disk: a prepare of rule `Ignored`, `PreparedBefore` or `Other`; a
     /// start_view_change of `Ignored` or `ChangeBefore`. So on a prepare_ok that isn't counted, or after which the next op has no quorum
     /// and nothing can be applied.
-    #[tactic(auto, using(crate::proofs::Stopped::halted, vr_journal::proofs::Memory::file_version))]
+    #[tactic(auto, using(crate::proofs::Stopped::halted, vr_memory::proofs::Memory::file_version))]
     pub fn step<D: SectorDisk>(
         &mut self,
         alloc: Global,

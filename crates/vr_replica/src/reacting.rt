@@ -1,10 +1,10 @@
 //! The step of a replica: the rule of each event.
 ghost use Rattle.std.specs.Prelude.{◌≡◌};
-ghost use Rattle.vr_journal.specs.Ready.{IsReady};
+ghost use Rattle.vr_memory.specs.Ready.{IsReady};
 ghost use Rattle.vr_journal.specs.Waits.{EndsAtOnce};
 ghost use Rattle.vr_replica.specs.AtOnce.{IsAtOnce, IsLeft};
-ghost use Rattle.vr_journal.specs.Replica.{is_frozen};
-ghost use Rattle.vr_journal.specs.Rules.{on_event, on_message, react};
+ghost use Rattle.vr_rules.specs.Replica.{is_frozen};
+ghost use Rattle.vr_rules.specs.Rules.{on_event, on_message, react};
 ghost use Rattle.vr_journal.specs.Acts.{Acts, MaySend};
 
 use crate::ticking::handle_tick;
@@ -23,7 +23,7 @@ use vr_view::{
 // `Ok` and leaves the very same disk: a prepare of rule `Ignored`, `PreparedBefore` or `Other`; a start_view_change of `Ignored` or
 // `ChangeBefore`. So on a prepare_ok that isn't counted, or after which the next op has no quorum and nothing can be applied. After an
 // `Err` the disk has had its calls up to the stop; of replica and outputs nothing is said.
-#[tactic(auto, using(crate::proofs::Forms::forms, vr_journal::proofs::Stepping::does_quiet))]
+#[tactic(auto, using(crate::proofs::Forms::forms, vr_step::proofs::Stepping::does_quiet))]
 fn handle_message<D: SectorDisk>(
     replica: &mut Replica,
     alloc: Global,

@@ -1,11 +1,11 @@
 //! Time goes by.
 ghost use Rattle.std.specs.Prelude.{◌≡◌, ◌<◌, ◌≤◌, ◌+◌, nat_le, nat_lt};
-ghost use Rattle.vr_journal.specs.Ready.{IsReady};
-ghost use Rattle.vr_journal.specs.Deciding.{first_of, tick_table};
-ghost use Rattle.vr_journal.specs.Replica.{head, last_view};
-ghost use Rattle.vr_journal.specs.Rules.{backup_ticks, changing_ticks, on_tick, primary_ticks};
-ghost use Rattle.vr_journal.specs.Steps.{◌⨾◌};
-ghost use Rattle.vr_journal.specs.Words.{ask, enter, visit};
+ghost use Rattle.vr_memory.specs.Ready.{IsReady};
+ghost use Rattle.vr_rules.specs.Deciding.{first_of, tick_table};
+ghost use Rattle.vr_rules.specs.Replica.{head, last_view};
+ghost use Rattle.vr_rules.specs.Rules.{backup_ticks, changing_ticks, on_tick, primary_ticks};
+ghost use Rattle.vr_rules.specs.Steps.{◌⨾◌};
+ghost use Rattle.vr_rules.specs.Words.{ask, enter, visit};
 ghost use Rattle.vr_replica.specs.Ticks.{tells_all, tells_first, tick_rule};
 ghost use Rattle.vr_replica.specs.declared.ticking.TickRule.TheVariants as TickRule;
 ghost use Rattle.vr_journal.specs.Acts.{Acts, MaySend};
@@ -31,7 +31,7 @@ pub enum TickRule {
 
 /// `TickedPrimary` where the replica leads; else `TickedBackup` where its view is started; else `TickedChanging`, and then its log view is
 /// below its view.
-#[tactic(auto, using(vr_journal::proofs::Memory::some_member, crate::proofs::Ticks::unstarted), unfolding(vr_journal::specs::Deciding::first_of))]
+#[tactic(auto, using(vr_memory::proofs::Memory::some_member, crate::proofs::Ticks::unstarted), unfolding(vr_rules::specs::Deciding::first_of))]
 pub fn decide_tick(replica: &Replica) -> TickRule
     requires { IsReady replica.now }
     ensures rule { first_of (tick_table replica.now) ≡ tick_rule result }
@@ -49,7 +49,7 @@ pub fn decide_tick(replica: &Replica) -> TickRule
 // Unless a block is missing, one place of the disk is visited, and the cursor moves on. Then the peer whose turn it is is asked for the
 // first thing missing, if any, and the turn moves on. After an `Err` the disk has had its calls up to the stop; of replica and outputs
 // nothing is said.
-#[tactic(auto, using(vr_journal::proofs::Stepping::steps))]
+#[tactic(auto, using(vr_step::proofs::Stepping::steps))]
 fn look_and_ask<D: SectorDisk>(
     replica: &mut Replica,
     disk: &mut D,
@@ -65,7 +65,7 @@ fn look_and_ask<D: SectorDisk>(
 // ---- at the primary
 
 // Whether the head is above the commit number.
-#[tactic(auto, using(vr_journal::proofs::Memory::window_of))]
+#[tactic(auto, using(vr_memory::proofs::Memory::window_of))]
 fn has_open(replica: &Replica) -> bool
     requires { IsReady replica.now }
     ensures { result ≡ nat_lt replica.now.commit (head replica.now) }
@@ -98,7 +98,7 @@ fn tell_first<D: SectorDisk>(
 // Rule 32, in this order: a commit goes to each other replica; the op after the commit number, up to the head, if `Here`, is read, and
 // prepared to each. One that doesn't read becomes `Lost`. Then one place of the disk is visited, and the peer whose turn it is is asked for
 // what is missing. After an `Err` the disk has had its calls up to the stop; of replica and outputs nothing is said.
-#[tactic(auto, using(vr_journal::proofs::Stepping::steps), unfolding(crate::specs::Ticks::tells_first))]
+#[tactic(auto, using(vr_step::proofs::Stepping::steps), unfolding(crate::specs::Ticks::tells_first))]
 fn tick_primary<D: SectorDisk>(
     replica: &mut Replica,
     alloc: Global,
@@ -164,7 +164,7 @@ fn tick_backup<D: SectorDisk>(
 // In this order: a start_view_change goes to each other replica; the replica speaks; one place of the disk is visited; a peer is asked for
 // what is missing. Speaking, with a view-change quorum heard: the primary tries to begin the view, another replica sends its statement to
 // the primary. After an `Err` the disk has had its calls up to the stop; of replica and outputs nothing is said.
-#[tactic(auto, using(vr_journal::proofs::Stepping::steps))]
+#[tactic(auto, using(vr_step::proofs::Stepping::steps))]
 fn tell_all<D: SectorDisk>(
     replica: &mut Replica,
     alloc: Global,

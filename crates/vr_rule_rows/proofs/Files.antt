@@ -2,7 +2,8 @@
 -- before they begin.
 use Rattle.std.proofs.Common.{ℕ, ◌+◌, ◌-◌, ◌*◌, ◌≡◌, List, [], ◌∷◌, ◌++◌, map, drop, take, replicate, slice_get, Option, Some, None, codes, refl}
 use Rattle.std.specs.List.{flat_map, range_with_len}
-use Rattle.vr_base.specs.Bytes.{bytes16, bytes32, bytes64, digest_bytes, name_of, sha256}
+use Rattle.sha2.specs.Sha256.{digest_bytes, sha256}
+use Rattle.vr_base.specs.Bytes.{bytes16, bytes32, bytes64, name_of}
 use Rattle.vr_base.specs.declared.kind.Kind.{Kind}
 use Rattle.vr_base.specs.declared.mode.Mode.TheVariants.{Strict, Careful}
 use Rattle.vr_disk.specs.DiskState.{Call, Write, Sync}

@@ -6,8 +6,8 @@ use Rattle.std.proofs.lemmas.List.Elements.{All-nil, All-cons, All-head, All-tai
 use Rattle.vr_base.proofs.FieldLaws.{length-name_of}
 use Rattle.vr_disk.specs.DiskState.{Face}
 use Rattle.vr_header.specs.Spelling.{named_bytes}
-use Rattle.vr_ckpt.specs.StateTexts.{payloads}
-use Rattle.vr_ckpt.specs.Texts.{Texts}
+use Rattle.vr_state.specs.StateTexts.{payloads}
+use Rattle.vr_state.specs.declared.texts.Texts.{Texts}
 use Rattle.vr_ckpt.specs.declared.name.Name.{Name}
 use Rattle.vr_ckpt.specs.Blocks.{block_header}
 use Rattle.vr_ckpt.specs.Grid.{named_at}

@@ -8,7 +8,7 @@ use Rattle.std.proofs.lemmas.List.Sums.{prefix_len-le-length, prefix_len_passes}
 use Rattle.vr_header.specs.declared.header.Header.{Header}
 use Rattle.vr_header.specs.declared.part.Part.{Part}
 use Rattle.vr_header.specs.declared.part.Part.TheVariants.{Nothing}
-use Rattle.vr_msg.specs.Logs.{header_of, has_header}
+use Rattle.vr_header.specs.Parts.{header_of, has_header}
 use Rattle.vr_rules.specs.Replica.{Replica, part_at, head, forgetting, with_part, knows}
 
 -- ---- lists

@@ -12,7 +12,8 @@ use Rattle.vr_header.specs.declared.part.Part.TheVariants.{Lost, Nothing}
 use Rattle.vr_header.specs.Spelling.{IsHeader}
 use Rattle.vr_ckpt.specs.declared.name.Name.{Name}
 use Rattle.vr_msg.specs.declared.frame.SyncView.{SyncView}
-use Rattle.vr_msg.specs.Logs.{IsEntryAt, has_header, header_of}
+use Rattle.vr_msg.specs.Logs.{IsEntryAt}
+use Rattle.vr_header.specs.Parts.{has_header, header_of}
 use Rattle.vr_msg.specs.Numbers.{IsNumber}
 use Rattle.vr_rules.specs.Replica.{Replica, part_at, head, version}
 use Rattle.vr_rules.specs.Steps.{Setting}

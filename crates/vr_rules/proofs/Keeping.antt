@@ -8,8 +8,8 @@ use Rattle.vr_base.specs.Groups.{is_size}
 use Rattle.vr_base.specs.Replicas.{no_replicas}
 use Rattle.vr_header.specs.Names.{no_name}
 use Rattle.vr_msg.specs.declared.statement.Statement.{Statement}
-use Rattle.vr_ckpt.specs.State.{State}
-use Rattle.vr_ckpt.specs.Sessions.{HaveNumbers}
+use Rattle.vr_state.specs.declared.state.State.{State}
+use Rattle.vr_state.specs.Sessions.{HaveNumbers}
 use Rattle.vr_ckpt.specs.Places as places
 use Rattle.vr_ckpt.specs.declared.name.Name.{Name}
 use Rattle.vr_rules.specs.Replica.{Replica, part_at, head, forgetting, version}

@@ -3,18 +3,17 @@ use Rattle.std.proofs.Common.{ℕ, zero, suc, ◌+◌, ◌-◌, ◌%◌, ◌≤�
 use Rattle.std.specs.Prelude.{filter, slice_get, is_some, nat_le, not}
 use Rattle.std.specs.List.{range_with_len}
 use Rattle.std.specs.Option.{option_map}
-use Rattle.std.proofs.lemmas.Bool.{cases_lt, cases_eq, leb-true}
+use Rattle.std.proofs.lemmas.Bool.{cases_lt, cases_eq, leb-true, cond_both}
 use Rattle.std.proofs.lemmas.List.{length-set, length-replicate, get_or-replicate, get_or_past}
 use Rattle.std.proofs.lemmas.List.FromFn.{length-map-range_with_len}
-use Rattle.std.proofs.lemmas.Bool.{cond_both}
-use Rattle.vr_ckpt.specs.Sessions.{HaveNumbers}
-use Rattle.vr_ckpt.specs.Folds.{empty}
+use Rattle.vr_state.specs.Sessions.{HaveNumbers}
+use Rattle.vr_state.specs.Folds.{empty}
 use Rattle.vr_base.specs.Replicas.{no_replicas}
 use Rattle.vr_header.specs.declared.header.Header.{Header}
 use Rattle.vr_header.specs.declared.part.Part.{Part}
 use Rattle.vr_header.specs.declared.part.Part.TheVariants as part
 use Rattle.vr_header.specs.Made.{Whole}
-use Rattle.vr_msg.specs.Logs.{has_header, header_of}
+use Rattle.vr_header.specs.Parts.{has_header, header_of}
 use Rattle.vr_recover.specs.declared.readings.Verdict.{Verdict}
 use Rattle.vr_recover.specs.declared.readings.Verdict.TheVariants as verdict
 use Rattle.vr_super.specs.Copies.{SuperValue}

@@ -5,17 +5,17 @@ use Rattle.std.specs.List.{AllByRecursion}
 use Rattle.std.specs.Option.{option_map_or}
 use Rattle.std.specs.Ordering.{nat_cmp, eq_by_cmp}
 use Rattle.std.proofs.lemmas.Bool.{cond_both}
-use Rattle.vr_ckpt.specs.Finite.{find}
+use Rattle.std.specs.FinMap.Entries.{find}
 use Rattle.vr_header.specs.Made.{Whole}
-use Rattle.vr_ckpt.specs.Session.{Session}
-use Rattle.vr_ckpt.specs.SessionAnswer.{SessionAnswer}
-use Rattle.vr_ckpt.specs.SessionAnswer.TheVariants as answer
-use Rattle.vr_ckpt.specs.Sessions as sess
-use Rattle.vr_ckpt.specs.Sessions.{HaveNumbers}
+use Rattle.vr_state.specs.declared.session.Session.{Session}
+use Rattle.vr_state.specs.declared.session.SessionAnswer.{SessionAnswer}
+use Rattle.vr_state.specs.declared.session.SessionAnswer.TheVariants as answer
+use Rattle.vr_state.specs.Sessions as sess
+use Rattle.vr_state.specs.Sessions.{HaveNumbers}
 use Rattle.vr_msg.specs.Asking.{IsReplyKind}
 use Rattle.vr_msg.specs.Numbers.{IsNumber}
-use Rattle.vr_ckpt.specs.State.{State}
-use Rattle.vr_ckpt.specs.Folds as state
+use Rattle.vr_state.specs.declared.state.State.{State}
+use Rattle.vr_state.specs.Folds as state
 use Rattle.vr_rules.specs.Outputs.{kind_of}
 
 -- an answer of the sessions has such an op, where it has one

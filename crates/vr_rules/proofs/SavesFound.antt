@@ -9,7 +9,7 @@ use Rattle.vr_header.specs.declared.header.Header.{Header}
 use Rattle.vr_header.specs.declared.part.Part.{Part}
 use Rattle.vr_header.specs.Made.{Whole}
 use Rattle.vr_msg.specs.Choice.{ops}
-use Rattle.vr_msg.specs.Logs.{has_header}
+use Rattle.vr_header.specs.Parts.{has_header}
 use Rattle.vr_recover.specs.declared.readings.Verdict.{Verdict}
 use Rattle.vr_recover.specs.declared.readings.Verdict.TheVariants as verdict
 use Rattle.vr_super.specs.Copies.{SuperValue, IsGood, good_fields, good_member, good_window, good_root, good_count}

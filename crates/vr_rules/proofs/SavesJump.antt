@@ -1,8 +1,8 @@
 -- A log that is taken over with a later checkpoint leaves what can be saved.
 use Rattle.std.proofs.Common.{arith, ◌≡◌, ◌<◌, ◌+◌, ◌-◌, ◌^◌, inl, inr, refl, ap, ◌∙◌, subst, true}
 use Rattle.std.proofs.lemmas.Bool.{cases_lt, le-leb, lt-leb}
+use Rattle.vr_header.specs.Parts.{has_header}
 use Rattle.vr_msg.specs.declared.frame.SyncView.{SyncView}
-use Rattle.vr_msg.specs.Logs.{has_header}
 use Rattle.vr_rules.specs.Replica.{Replica, head, forgetting, knows}
 use Rattle.vr_rules.specs.Words.{jumped, jumped_part}
 use Rattle.vr_rules.specs.Sound.{IsNameBytes, IsSound, IsSavable}

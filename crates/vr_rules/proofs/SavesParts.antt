@@ -7,7 +7,7 @@ use Rattle.vr_header.specs.declared.header.Header.{Header}
 use Rattle.vr_header.specs.declared.part.Part.{Part}
 use Rattle.vr_header.specs.declared.part.Part.TheVariants.{Here, Lost}
 use Rattle.vr_header.specs.Made.{Whole}
-use Rattle.vr_msg.specs.Logs.{header_of, has_header}
+use Rattle.vr_header.specs.Parts.{header_of, has_header}
 use Rattle.vr_rules.specs.Replica.{Replica, part_at, head, header_at, forgetting, with_part, knows}
 use Rattle.vr_rules.specs.Words.{Log, stored, lost, entered, with_checkpoint, taken, taken_part, fits, is_newer, is_chain, may_take}
 use Rattle.vr_rules.specs.Sound.{IsNameBytes, IsSound, IsSavable}

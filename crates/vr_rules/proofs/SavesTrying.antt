@@ -9,8 +9,8 @@ use Rattle.std.proofs.lemmas.List.Sums.{prefix_len-le-length}
 use Rattle.vr_ckpt.specs.declared.found.Load.{Load}
 use Rattle.vr_ckpt.specs.declared.found.Load.TheVariants.{Loaded, Missing}
 use Rattle.vr_ckpt.specs.declared.table.PayloadTable.{PayloadTable}
-use Rattle.vr_ckpt.specs.State.{State}
-use Rattle.vr_ckpt.specs.StateTexts.{state_decoded}
+use Rattle.vr_state.specs.declared.state.State.{State}
+use Rattle.vr_state.specs.StateTexts.{state_decoded}
 use Rattle.vr_ckpt.specs.declared.name.Name.{Name}
 use Rattle.vr_base.specs.Groups.{quorums_of}
 use Rattle.vr_msg.specs.declared.choice.Choice.{Choice}

@@ -3,7 +3,7 @@ use Rattle.std.proofs.Common.{arith, ◌≡◌, ◌≤◌, ◌<◌, ◌+◌, ◌
 use Rattle.std.specs.Prelude.{All}
 use Rattle.std.proofs.lemmas.List.Elements.{All-nil, All-cons, All-append, All-map}
 use Rattle.vr_base.specs.Replicas.{no_replicas}
-use Rattle.vr_ckpt.specs.Folds.{empty}
+use Rattle.vr_state.specs.Folds.{empty}
 use Rattle.vr_ckpt.specs.Places as places
 use Rattle.vr_msg.specs.declared.output.Output.{Output}
 use Rattle.vr_super.specs.Copies.{IsGood}

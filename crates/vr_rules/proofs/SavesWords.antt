@@ -3,10 +3,10 @@ use Rattle.std.proofs.Common.{arith, ◌≡◌, ◌≤◌, ◌<◌, ◌+◌, ◌
 use Rattle.std.specs.Prelude.{nat_lt, ◌==◌}
 use Rattle.std.proofs.lemmas.Bool.{and_parts, ltb-true, ltb-false, eqb-true, eqb-false}
 use Rattle.std.proofs.lemmas.List.{nil_from_length}
-use Rattle.vr_rules.proofs.Wording.{entry_numbered, read_is}
+use Rattle.vr_rules.proofs.Wording.{entry_numbered, read_is, kept_alike, keeps_rested, kept_entered}
 use Rattle.vr_msg.specs.Numbers.{IsNumber}
 use Rattle.vr_ckpt.specs.declared.saving.SavedCheckpoint as checkpoint
-use Rattle.vr_ckpt.specs.StateTexts.{texts_of}
+use Rattle.vr_state.specs.StateTexts.{texts_of}
 use Rattle.vr_ckpt.specs.declared.name.Name.{Name}
 use Rattle.vr_header.specs.declared.header.Header.{Header}
 use Rattle.vr_header.specs.declared.part.Part.{Part}
@@ -24,7 +24,6 @@ use Rattle.vr_rules.specs.Sound.{IsNameBytes, IsSound, IsSavable}
 use Rattle.vr_rules.specs.Laws.{SavesRoots}
 use Rattle.vr_rules.proofs.Combining.{Keeps, keeps_change}
 use Rattle.vr_rules.proofs.Storing.{MayStore, kept_stored, kept_lost, kept_moved, kept_applied}
-use Rattle.vr_rules.proofs.Wording.{kept_alike, keeps_rested, kept_entered}
 use Rattle.vr_rules.specs.Given.{IsLogFor, IsSyncFor}
 use Rattle.vr_rules.proofs.Taking.{may_take_is, kept_taken}
 use Rattle.vr_rules.proofs.SavesWell.{Well, GoodBy, Good, well_less, well_alike, savable_alike, body, good_change_then, good_says_then, good_does_then, good_change, good_quiet, good_by, good_reading, good_if, good_when, goods_more, goods_then, goods_quiet, goods_says, goods_change, goods_by, goods_naming, goods_if, goods_when, goods_times, goods_save, goods_does, goods_reading}

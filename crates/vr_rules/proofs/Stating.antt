@@ -9,7 +9,8 @@ use Rattle.vr_header.specs.declared.header.Header.{Header}
 use Rattle.vr_header.specs.declared.part.Part.{Part}
 use Rattle.vr_header.specs.declared.part.Part.TheVariants.{Here, Lost, Wanted, Unknown, Nothing}
 use Rattle.vr_header.specs.Spelling.{IsHeader}
-use Rattle.vr_msg.specs.Logs.{FromOp, IsEntryAt, IsPartAt, has_header, header_of}
+use Rattle.vr_header.specs.Parts.{has_header, header_of}
+use Rattle.vr_msg.specs.Logs.{FromOp, IsEntryAt, IsPartAt}
 use Rattle.vr_msg.specs.Spelling.{AreHeaders}
 use Rattle.vr_rules.specs.Replica.{Replica, part_at, parts_from, head, run, run_start, is_nothing, trimmed, statement_of, knows, version}
 use Rattle.vr_rules.specs.Sound.{IsStated, IsSound}

@@ -4,8 +4,8 @@ use Rattle.std.specs.Prelude.{nat_lt}
 use Rattle.std.proofs.lemmas.Bool.{cases_lt, cases_eq}
 use Rattle.std.proofs.lemmas.List.{length-append, length-replicate, length-set, get_or_append_left, get_or-append_right, get_or-replicate, get_or_past}
 use Rattle.vr_msg.specs.Numbers.{IsNumber}
-use Rattle.vr_ckpt.proofs.Numbers.{numbers_kept}
-use Rattle.vr_ckpt.specs.Folds as state
+use Rattle.vr_state.proofs.Numbers.{numbers_kept}
+use Rattle.vr_state.specs.Folds as state
 use Rattle.vr_base.specs.Replicas.{no_replicas}
 use Rattle.vr_ckpt.specs.declared.saving.SavedCheckpoint as checkpoint
 use Rattle.vr_header.specs.declared.header.Header.{Header}
@@ -13,7 +13,8 @@ use Rattle.vr_header.specs.declared.part.Part.{Part}
 use Rattle.vr_header.specs.declared.part.Part.TheVariants.{Here, Lost, Nothing}
 use Rattle.vr_header.specs.Made.{Whole}
 use Rattle.vr_header.specs.Spelling.{IsHeader}
-use Rattle.vr_msg.specs.Logs.{IsEntryAt, has_header, header_of}
+use Rattle.vr_msg.specs.Logs.{IsEntryAt}
+use Rattle.vr_header.specs.Parts.{has_header, header_of}
 use Rattle.vr_rules.specs.Replica.{Replica, part_at, head, with_part, knows, version}
 use Rattle.vr_rules.specs.Words.{applied, lost, stored, with_checkpoint}
 use Rattle.vr_rules.specs.Sound.{IsSound}

@@ -13,7 +13,8 @@ use Rattle.vr_header.specs.declared.part.Part.TheVariants.{Here, Lost, Wanted, U
 use Rattle.vr_header.specs.Same.{same_header}
 use Rattle.vr_header.specs.Spelling.{IsHeader}
 use Rattle.vr_header.proofs.SameHeaders.{same_header_is}
-use Rattle.vr_msg.specs.Logs.{IsEntryAt, has_header, header_of}
+use Rattle.vr_header.specs.Parts.{has_header, header_of}
+use Rattle.vr_msg.specs.Logs.{IsEntryAt}
 use Rattle.vr_rules.specs.Replica.{Replica, part_at, head, version}
 use Rattle.vr_rules.specs.Steps.{Setting}
 use Rattle.vr_rules.specs.Words.{Log, is_newer, fits, is_chain, may_take, log_header, replaced_by, taken_part, taken, no_ackers, no_statements, save, take}

@@ -11,11 +11,12 @@ use Rattle.vr_header.specs.declared.header.Header.{Header}
 use Rattle.vr_header.specs.declared.part.Part.{Part}
 use Rattle.vr_header.specs.declared.part.Part.TheVariants.{Here, Lost, Wanted, Unknown, Nothing}
 use Rattle.vr_header.specs.Spelling.{IsHeader}
+use Rattle.vr_header.specs.Parts.{header_of}
 use Rattle.vr_msg.specs.declared.choice.Choice.{Choice}
 use Rattle.vr_msg.specs.declared.choice.Choice.TheVariants.{Ends, WaitsAt, TooFew}
 use Rattle.vr_msg.specs.declared.statement.Statement.{Statement}
 use Rattle.vr_msg.specs.Choice.{IsChoice, choice, chosen_header, farthest, stated_header, log_start, named, named_by, ops, start_of, top_commit, top_view}
-use Rattle.vr_msg.specs.Logs.{FromOp, IsEntryAt, IsStatement, header_of}
+use Rattle.vr_msg.specs.Logs.{FromOp, IsEntryAt, IsStatement}
 use Rattle.vr_msg.specs.Spelling.{AreHeaders}
 use Rattle.vr_choose.proofs.Bounds.{bounded, some_statements}
 use Rattle.vr_choose.proofs.Choices.{choice_meets}

@@ -4,8 +4,8 @@ use Rattle.vr_header.specs.declared.header.Header.{Header}
 use Rattle.vr_header.specs.declared.part.Part.{Part}
 use Rattle.vr_header.specs.Made.{Whole}
 use Rattle.vr_msg.specs.declared.frame.SyncView.{SyncView}
-use Rattle.vr_ckpt.specs.State.{State}
-use Rattle.vr_ckpt.specs.StateTexts.{state_decoded}
+use Rattle.vr_state.specs.declared.state.State.{State}
+use Rattle.vr_state.specs.StateTexts.{state_decoded}
 use Rattle.vr_ckpt.specs.declared.found.Load.{Load}
 use Rattle.vr_ckpt.specs.declared.found.Load.TheVariants.{Loaded, Missing}
 use Rattle.vr_ckpt.specs.declared.name.Name.{Name}

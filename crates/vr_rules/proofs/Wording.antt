@@ -1,18 +1,18 @@
 -- The words keep every replica sound: saving, entering a view, storing, applying, learning, asking, loading.
 use Rattle.std.proofs.Common.{ℕ, ◌+◌, ◌-◌, ◌%◌, ◌≤◌, ◌<◌, ◌≡◌, ◌≢◌, ◌∙◌, inl, inr, arith, refl, sym, Bool, true, false, List, [], ◌∷◌, length, get_or, replicate, min, max, Option, Some, None, Ok, Err, cond, ap, subst}
-use Rattle.std.specs.Prelude.{nat_lt}
+use Rattle.std.specs.Prelude.{nat_lt, Result}
 use Rattle.std.specs.List.{prefix_len}
 use Rattle.std.proofs.lemmas.Bool.{and_parts, cases_lt, ltb-true, eqb-true, eqb-false}
 use Rattle.std.proofs.lemmas.List.{length-replicate, get_or-replicate, get_or_past, nil_from_length}
 use Rattle.std.proofs.lemmas.List.FromFn.{length-range_with_len}
 use Rattle.std.proofs.lemmas.List.Sums.{prefix_len-le-length}
 use Rattle.std.specs.Option.{option_and_then}
-use Rattle.vr_msg.specs.Logs.{header_of}
+use Rattle.vr_header.specs.Parts.{header_of}
 use Rattle.vr_header.proofs.SameHeaders.{same_header_is}
 use Rattle.vr_header.specs.Same.{same_header}
 use Rattle.vr_msg.specs.Numbers.{IsNumber}
-use Rattle.vr_ckpt.specs.Sessions.{HaveNumbers}
-use Rattle.vr_ckpt.proofs.Numbers.{texts_have_numbers}
+use Rattle.vr_state.specs.Sessions.{HaveNumbers}
+use Rattle.vr_state.proofs.Numbers.{texts_have_numbers}
 use Rattle.vr_base.specs.Replicas.{no_replicas, with_replica}
 use Rattle.vr_ckpt.specs.declared.found.Load.{Load}
 use Rattle.vr_ckpt.specs.declared.found.Load.TheVariants.{Loaded, Missing}
@@ -26,11 +26,10 @@ use Rattle.vr_header.specs.Made.{Whole}
 use Rattle.vr_msg.specs.declared.frame.Frame.{Frame}
 use Rattle.vr_msg.specs.declared.statement.Statement.{Statement}
 use Rattle.vr_msg.specs.Choice.{ops}
-use Rattle.vr_ckpt.specs.State.{State}
-use Rattle.vr_ckpt.specs.StateTexts.{state_decoded}
-use Rattle.vr_ckpt.specs.Fitting.{fits as fits_version}
-use Rattle.vr_ckpt.specs.StateFault.{StateFault}
-use Rattle.std.specs.Prelude.{Result}
+use Rattle.vr_state.specs.declared.state.State.{State}
+use Rattle.vr_state.specs.StateTexts.{state_decoded}
+use Rattle.vr_state.specs.Fitting.{fits as fits_version}
+use Rattle.vr_state.specs.declared.fault.StateFault.{StateFault}
 use Rattle.vr_rules.specs.Replica.{Replica, last_view, part_at, head, version}
 use Rattle.vr_rules.specs.Steps.{Setting, Word, ◌⨾◌, quiet, change, does, says, by, reading, when}
 use Rattle.vr_rules.specs.Words.{saves, with_saved, save, no_ackers, no_statements, entered, rested, enter, writes, stored, write, accept, entry_of, or_lost, lost, with_entry, with_entry_at, applied, with_checkpoint, checkpoint_of, make_checkpoint, is_checkpoint, apply_entry, is_loaded, apply_next, apply, has_quorum, advanced, advance, learned, learn, prepare_again, resend, turned, ask_peer, ask_for, ask, with_state, with_missing, loaded_state, loads, checkpoint_at, load, usable, value_of}

@@ -24,11 +24,11 @@ use Rattle.vr_msg.specs.declared.frame.SyncView.{SyncView}
 use Rattle.vr_msg.specs.declared.request.RequestFields.{RequestFields}
 use Rattle.vr_rules.specs.declared.rule.Rule.{Rule}
 use Rattle.vr_rules.specs.declared.rule.Rule.TheVariants.{Ignored, Redirected, Behind, InFlight, Answered, Full, Made, PreparedBefore, PreparedLater, Past, Beyond, Known, Next, Ahead, Other, Counted, CommitBefore, CommitLater, CommitHeard, ChangeBefore, ChangeLater, ChangeHeard, ChangeDone, StatedBefore, StatedLate, Stated, Taken, ViewGiven, EntryGiven, EntryTaken, BlockGiven, BlockTaken, BlockMended, TickedPrimary, TickedBackup, TickedChanging, SyncAsked, SyncGiven, Jumped}
-use Rattle.vr_msg.specs.Logs.{header_of}
+use Rattle.vr_header.specs.Parts.{header_of}
 use Rattle.vr_msg.specs.Normal.{primary, same_sum, pipeline, last_op}
-use Rattle.vr_ckpt.specs.Asks.{is_fresh}
-use Rattle.vr_ckpt.specs.Sessions.{checked}
-use Rattle.vr_ckpt.specs.SessionAnswer.{SessionAnswer}
+use Rattle.vr_state.specs.Asks.{is_fresh}
+use Rattle.vr_state.specs.Sessions.{checked}
+use Rattle.vr_state.specs.declared.session.SessionAnswer.{SessionAnswer}
 use Rattle.vr_ckpt.specs.declared.name.Name.{Name}
 use Rattle.vr_rules.specs.Replica.{Replica, version, is_started, is_primary, leads, window_end, part_at, header_at, parts_from, head, head_header, is_here, is_absent, run_start}
 use Rattle.vr_rules.specs.Words.{Log, is_chain, is_loaded, is_newer, may_take, sync_log}

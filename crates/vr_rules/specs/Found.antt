@@ -3,7 +3,8 @@ use Rattle.std.specs.Prelude.{ℕ, ◌+◌, ◌-◌, ◌<◌, ◌≤◌, ◌≡�
 use Rattle.vr_header.specs.declared.header.Header.{Header}
 use Rattle.vr_header.specs.Made.{Whole}
 use Rattle.vr_header.specs.Spelling.{IsHeader}
-use Rattle.vr_msg.specs.Logs.{IsEntryAt, header_of}
+use Rattle.vr_header.specs.Parts.{header_of}
+use Rattle.vr_msg.specs.Logs.{IsEntryAt}
 use Rattle.vr_super.specs.Copies.{SuperValue}
 use Rattle.vr_rules.specs.Opening.{Slot, blank, first_listed}
 use Rattle.vr_rules.specs.Replica.{Replica, knows, part_at}

@@ -12,9 +12,9 @@ use Rattle.vr_msg.specs.declared.output.Sent.{Sent}
 use Rattle.vr_msg.specs.declared.reply.ReplyKind.{ReplyKind}
 use Rattle.vr_msg.specs.declared.reply.ReplyKind.TheVariants as reply
 use Rattle.vr_msg.specs.Normal.{primary}
-use Rattle.vr_ckpt.specs.Folds as state
-use Rattle.vr_ckpt.specs.ReplyBody.{ReplyBody}
-use Rattle.vr_ckpt.specs.ReplyBody.TheVariants as body
+use Rattle.vr_state.specs.Folds as state
+use Rattle.vr_state.specs.declared.reply.ReplyBody.{ReplyBody}
+use Rattle.vr_state.specs.declared.reply.ReplyBody.TheVariants as body
 use Rattle.vr_ckpt.specs.declared.name.Name.{Name}
 use Rattle.vr_rules.specs.declared.asker.Asker.{Asker}
 use Rattle.vr_rules.specs.Replica.{Replica, version, leads, head, run, run_start, statement_of}

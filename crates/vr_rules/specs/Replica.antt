@@ -10,9 +10,9 @@ use Rattle.vr_header.specs.declared.part.Part.{Part}
 use Rattle.vr_header.specs.declared.part.Part.TheVariants.{Here, Lost, Wanted, Unknown, Nothing}
 use Rattle.vr_header.specs.Names.{root_by}
 use Rattle.vr_msg.specs.declared.statement.Statement.{Statement}
-use Rattle.vr_msg.specs.Logs.{header_of, has_header}
+use Rattle.vr_header.specs.Parts.{header_of, has_header}
 use Rattle.vr_msg.specs.Normal.{primary}
-use Rattle.vr_ckpt.specs.State.{State}
+use Rattle.vr_state.specs.declared.state.State.{State}
 use Rattle.vr_super.specs.Copies.{SuperValue}
 use Rattle.vr_ckpt.specs.declared.name.Name.{Name}
 use Rattle.vr_ckpt.specs.declared.table.PayloadTable.{PayloadTable}

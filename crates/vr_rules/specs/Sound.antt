@@ -8,7 +8,7 @@ use Rattle.vr_msg.specs.declared.statement.Statement.{Statement}
 use Rattle.vr_msg.specs.Logs.{IsEntryAt, IsStatement}
 use Rattle.vr_msg.specs.Numbers.{IsNumber}
 use Rattle.vr_msg.specs.Spelling.{AreHeaders, known}
-use Rattle.vr_ckpt.specs.Sessions.{HaveNumbers}
+use Rattle.vr_state.specs.Sessions.{HaveNumbers}
 use Rattle.vr_super.specs.Copies.{IsGood}
 use Rattle.vr_rules.specs.Replica.{Replica, version, head, header_at, is_here, part_at, window_end}
 

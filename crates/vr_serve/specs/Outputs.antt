@@ -2,7 +2,7 @@
 use Rattle.std.specs.Prelude.{ℕ, List, [], ◌∷◌, ◌++◌, ◌==◌, take, find, Option, None, Some}
 use Rattle.std.specs.List.{position, remove}
 use Rattle.std.specs.Option.{option_map, option_map_or}
-use Rattle.vr_edge.specs.Counts.{one_more}
+use Rattle.vr_base.specs.Causes.{one_more}
 use Rattle.vr_edge.specs.Sending.{datagram_at}
 use Rattle.vr_edge.specs.declared.datagram.Datagram.{Datagram}
 use Rattle.vr_msg.specs.Spelling.{spelling}

@@ -12,7 +12,7 @@ use Rattle.vr_lines.specs.Fits.{IsLineOf}
 use Rattle.vr_lines.specs.declared.line.Line.{Line}
 use Rattle.vr_world.specs.Lying.{Lying, hazards}
 use Rattle.vr_world.specs.World.{Happened, World, fresh_world, happen, happens}
-use Rattle.vr_world.specs.Outputs.{messages}
+use Rattle.vr_rules.specs.Outputs.{messages}
 use Rattle.vr_group.specs.Lines.{happening, happenings}
 use Rattle.vr_group.specs.Outputs.{numbered, plain, text_of}
 use Rattle.vr_group.proofs.Goings.{grows_one, happen_append, happen_one, messages_append, numbered_append}

@@ -11,7 +11,7 @@ use Rattle.vr_msg.specs.declared.output.Output.TheVariants as output
 use Rattle.vr_msg.specs.declared.output.Sent.{Sent}
 use Rattle.vr_group.proofs.Numbering.{text_append}
 use Rattle.vr_group.specs.Outputs.{Numbered, numbered, plain, text_of}
-use Rattle.vr_world.specs.Outputs.{message_of}
+use Rattle.vr_rules.specs.Outputs.{message_of}
 use Rattle.vr_soak.specs.declared.heard.Heard.{Heard}
 use Rattle.vr_soak.specs.declared.summary.Faults.{Faults}
 use Rattle.vr_soak.specs.Heard.{Counts, CountsOn, HasCounted, Hears, one_if}

@@ -1,7 +1,7 @@
 -- A group in the midst of the lines that are drawn.
 use Rattle.std.specs.Prelude.{ℕ, ◌+◌, ◌≡◌, length}
 use Rattle.vr_group.specs.Outputs.{numbered}
-use Rattle.vr_world.specs.Outputs.{messages}
+use Rattle.vr_rules.specs.Outputs.{messages}
 use Rattle.vr_soak.specs.declared.soaking.Soaking.{Soaking}
 use Rattle.vr_soak.specs.Heard.{HasHeard}
 use Rattle.vr_soak.specs.Made.{come_to, made}

@@ -1,8 +1,8 @@
 //! A spawner in memory.
 ghost use Rattle.std.specs.Prelude.{◌≡◌, ◌<◌, [], ◌∷◌, IfOk, IfSome, Some, if◌then◌else◌, is_some, true, vec_len};
-ghost use Rattle.vr_base.specs.Causes.{HasCause};
+ghost use Rattle.vr_base.specs.Causes.{HasCause, one_more};
 ghost use Rattle.vr_edge.specs.Attaching.{texts_of};
-ghost use Rattle.vr_edge.specs.Counts.{is_listed, one_more};
+ghost use Rattle.vr_edge.specs.Counts.{is_listed};
 ghost use Rattle.vr_edge.specs.Logs.{told};
 ghost use Rattle.vr_edge.specs.Stocks.{Fits, IsStock, Took};
 ghost use Rattle.vr_edge.specs.Told.{Grows, GrowsOn};

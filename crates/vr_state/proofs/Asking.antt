@@ -4,8 +4,9 @@ use Rattle.std.specs.Option.{option_map_or}
 use Rattle.std.specs.Ordering.{nat_cmp}
 use Rattle.std.proofs.lemmas.Bool.{eqb-true, eq-eqb, and_from, or_left, true≢false, cases_eq}
 use Rattle.std.proofs.lemmas.List.Sums.{fold-append}
+use Rattle.std.specs.FinMap.Entries.{find, put}
 use Rattle.vr_base.specs.Versions.{session_limit}
-use Rattle.vr_state.specs.Finite.{find, put, without}
+use Rattle.vr_state.specs.Finite.{without}
 use Rattle.vr_state.specs.declared.session.Session.{Session}
 use Rattle.vr_state.specs.declared.session.SessionAnswer.TheVariants.{Fresh, Repeat, Old, Gap, Evicted}
 use Rattle.vr_state.specs.Asks.{is_fresh, fresh_at, asked, sessions_after, begins_session, AtMostOnce}

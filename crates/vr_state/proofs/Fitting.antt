@@ -5,7 +5,7 @@ use Rattle.std.specs.Option.{option_map_or}
 use Rattle.std.specs.Ordering.{nat_cmp, eq_by_cmp}
 use Rattle.std.specs.Cmp.{nat_cmp_total}
 use Rattle.std.specs.declared.cmp.Ordering.TheVariants.{Less, Equal, Greater}
-use Rattle.std.specs.FinMap.Entries.{by_order, where_key, length_without}
+use Rattle.std.specs.FinMap.Entries.{by_order, where_key, length_without, find, put, is_sorted}
 use Rattle.std.proofs.lemmas.Bool.{and_parts, and_from, cond_both, leb-true, le-leb, ltb-true, ltb-false}
 use Rattle.vr_base.specs.Versions.{session_limit, value_limit}
 use Rattle.vr_base.proofs.Versions.{more}
@@ -18,7 +18,7 @@ use Rattle.vr_header.specs.declared.outcome.Outcome.{Outcome}
 use Rattle.vr_header.specs.declared.outcome.Outcome.TheVariants as outcome
 use Rattle.vr_header.proofs.BodyLaws.{text_more}
 use Rattle.vr_state.specs.Effects.{stored}
-use Rattle.vr_state.specs.Finite.{byte_order, find, put, without, is_sorted, IsMap}
+use Rattle.vr_state.specs.Finite.{byte_order, without, IsMap}
 use Rattle.vr_state.specs.Fitting.{outcome_fits, sessions_fit, keys_fit, fits, Fits, AnswerFits, ReplyFits}
 use Rattle.vr_state.specs.Folds.{empty, check, asked, applied, answered, executed, state_after}
 use Rattle.vr_state.specs.Kv as kv

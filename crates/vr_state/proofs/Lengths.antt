@@ -4,13 +4,13 @@ use Rattle.std.specs.List.{AllByRecursion, flat_map, list_all}
 use Rattle.std.specs.Ordering.{nat_cmp}
 use Rattle.std.proofs.lemmas.Bool.{and_parts, leb-true}
 use Rattle.std.proofs.lemmas.List.{length-append}
+use Rattle.std.specs.FinMap.Entries.{is_sorted}
 use Rattle.vr_base.proofs.FieldLaws.{length-bytes16, length-bytes32, length-bytes64}
 use Rattle.vr_base.specs.Versions.{session_limit, value_limit}
 use Rattle.vr_header.specs.Bodies.{IsOutcome, outcome_bytes}
 use Rattle.vr_header.specs.Text.{is_text}
 use Rattle.vr_header.specs.declared.outcome.Outcome.{Outcome}
 use Rattle.vr_header.specs.declared.outcome.Outcome.TheVariants as outcome
-use Rattle.vr_state.specs.Finite.{is_sorted}
 use Rattle.vr_state.specs.Fitting.{AreWithin, keys_fit, outcome_fits, sessions_fit}
 use Rattle.vr_state.specs.Kv as kv
 use Rattle.vr_state.specs.Kv.{IsKv}

@@ -6,10 +6,10 @@ use Rattle.std.specs.Map.{lookup, remove_entry}
 use Rattle.std.specs.Ordering.{is_lt, nat_cmp, eq_by_cmp}
 use Rattle.std.specs.Cmp.{nat_cmp_total, unsigned_ties}
 use Rattle.std.specs.FinMap.{nat_cmp-IsAntisymmetric}
-use Rattle.std.specs.FinMap.Entries.{below_all, is_sorted-put, find-put, same_entries}
+use Rattle.std.specs.FinMap.Entries.{below_all, is_sorted-put, find-put, same_entries, find, put, is_sorted}
 use Rattle.std.proofs.lemmas.Bool.{and_parts, ltb-true, eqb-true, eq-eqb, ne_eqb, eqb-false}
 use Rattle.indexmap.specs.IndexMap.{insert_entry}
-use Rattle.vr_state.specs.Finite.{find, put, is_sorted, without, IsMap}
+use Rattle.vr_state.specs.Finite.{without, IsMap}
 use Rattle.vr_state.proofs.Maps.{less, T_true}
 use Rattle.vr_state.proofs.Ascending.{is_lt_nat_cmp, keys_in_order, ascending_from}
 

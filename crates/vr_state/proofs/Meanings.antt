@@ -6,12 +6,12 @@ use Rattle.std.specs.declared.cmp.Ordering.{Ordering}
 use Rattle.std.specs.declared.cmp.Ordering.TheVariants.{Less, Equal, Greater}
 use Rattle.std.specs.Cmp.{tied_itself, alike_right}
 use Rattle.std.specs.FinMap.{slice_cmp-IsAntisymmetric, nat_cmp-IsAntisymmetric}
-use Rattle.std.specs.FinMap.Entries.{find-put, find-where_key}
+use Rattle.std.specs.FinMap.Entries.{find-put, find-where_key, find, put}
 use Rattle.std.proofs.lemmas.Bool.{ltb-false, true≢false}
 use Rattle.vr_header.specs.declared.operation.Operation.{Operation}
 use Rattle.vr_header.specs.declared.operation.Operation.TheVariants.{Register, Put, Get, Delete}
 use Rattle.vr_header.specs.declared.outcome.Outcome.TheVariants as outcome
-use Rattle.vr_state.specs.Finite.{byte_order, find, put, without}
+use Rattle.vr_state.specs.Finite.{byte_order, without}
 use Rattle.vr_state.specs.Kv.{Map, Answered, answers, putting, getting, deleting, applied, machine_after, IsKv}
 use Rattle.vr_state.specs.Meaning.{Sets, Means}
 use Rattle.vr_state.proofs.KvSteps.{bytes_total}

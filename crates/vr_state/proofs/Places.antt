@@ -6,9 +6,9 @@ use Rattle.std.specs.Ordering.{is_lt, ordering_index, ordering_reverse}
 use Rattle.std.specs.declared.cmp.Ordering.{Ordering}
 use Rattle.std.specs.declared.cmp.Ordering.TheVariants.{Less, Equal, Greater}
 use Rattle.std.specs.Cmp.{IsTotalOrder, tied_back, alike_right}
-use Rattle.std.specs.FinMap.Entries.{below_all}
+use Rattle.std.specs.FinMap.Entries.{below_all, find, put, is_sorted}
 use Rattle.std.proofs.lemmas.Bool.{and_parts, cases_lt}
-use Rattle.vr_state.specs.Finite.{find, put, is_sorted, without, IsMap}
+use Rattle.vr_state.specs.Finite.{without, IsMap}
 use Rattle.vr_state.proofs.Maps.{less}
 use Rattle.vr_state.specs.Places.{IsAt, IsGap}
 

@@ -5,13 +5,13 @@ use Rattle.std.specs.Option.{option_map_or}
 use Rattle.std.specs.Ordering.{nat_cmp, eq_by_cmp}
 use Rattle.std.specs.Int.{w32, w64}
 use Rattle.std.specs.declared.cmp.Ordering.TheVariants.{Less, Equal, Greater}
-use Rattle.std.specs.FinMap.Entries.{by_order, where_key}
+use Rattle.std.specs.FinMap.Entries.{by_order, where_key, find, is_sorted, put}
 use Rattle.std.proofs.lemmas.Bool.{cond_both, leb-true}
 use Rattle.vr_base.specs.Versions.{session_limit}
 use Rattle.vr_state.specs.declared.fault.StateFault.{StateFault}
 use Rattle.vr_state.specs.declared.fault.StateFault.TheVariants.{NotSorted, Torn}
 use Rattle.vr_state.specs.Effects.{stored}
-use Rattle.vr_state.specs.Finite.{find, is_sorted, put, without}
+use Rattle.vr_state.specs.Finite.{without}
 use Rattle.vr_state.specs.Front.{number_from}
 use Rattle.vr_state.specs.Table.{count_from, counted, decoded, read_on}
 use Rattle.vr_state.proofs.Fronts.{same_some}

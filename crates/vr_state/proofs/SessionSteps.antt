@@ -6,11 +6,11 @@ use Rattle.std.specs.Ordering.{is_eq, nat_cmp, eq_by_cmp}
 use Rattle.std.specs.declared.cmp.Ordering.TheVariants.{Less, Equal, Greater}
 use Rattle.std.specs.Cmp.{nat_cmp_total, unsigned_ties, alike_right}
 use Rattle.std.specs.FinMap.{nat_cmp-IsAntisymmetric}
-use Rattle.std.specs.FinMap.Entries.{by_order, where_key, is_sorted-put, is_sorted-where_key, find-put, find-where_key, length-put, length_without, same_entries}
+use Rattle.std.specs.FinMap.Entries.{by_order, where_key, is_sorted-put, is_sorted-where_key, find-put, find-where_key, length-put, length_without, same_entries, find, put}
 use Rattle.std.proofs.lemmas.Bool.{lt-ltb, le-ltb, eq-eqb, ne_eqb, cond_both, true≢false, eqb-true, ltb-true, ltb-false}
 use Rattle.vr_base.specs.Versions.{session_limit}
 use Rattle.vr_base.proofs.Versions.{between}
-use Rattle.vr_state.specs.Finite.{find, put, without, IsMap}
+use Rattle.vr_state.specs.Finite.{without, IsMap}
 use Rattle.vr_state.proofs.Maps.{T_true, true_T}
 use Rattle.vr_state.specs.declared.session.Session.{Session}
 use Rattle.vr_state.specs.Effects.{stored, Keeps, Effect}

@@ -9,7 +9,8 @@ use Rattle.std.proofs.lemmas.Bool.Decides.{nat_tests}
 use Rattle.vr_header.specs.declared.outcome.Outcome.{Outcome}
 use Rattle.vr_base.specs.Versions.{session_limit}
 use Rattle.vr_header.specs.Made.{Whole}
-use Rattle.vr_state.specs.Finite.{find, put, without}
+use Rattle.std.specs.FinMap.Entries.{find, put}
+use Rattle.vr_state.specs.Finite.{without}
 use Rattle.vr_state.specs.declared.session.Session.{Session}
 use Rattle.vr_state.specs.declared.session.SessionAnswer.{SessionAnswer}
 use Rattle.vr_state.specs.declared.session.SessionAnswer.TheVariants as answer

@@ -9,7 +9,8 @@ use Rattle.std.proofs.lemmas.List.{append_assoc, append-nil, length-append}
 use Rattle.std.proofs.lemmas.List.Concat.{flat_map-append}
 use Rattle.vr_state.specs.declared.fault.StateFault.{StateFault}
 use Rattle.vr_state.specs.declared.fault.StateFault.TheVariants.{Torn, NotSorted, TooMany, NoMemory}
-use Rattle.vr_state.specs.Finite.{is_sorted, IsMap}
+use Rattle.std.specs.FinMap.Entries.{is_sorted}
+use Rattle.vr_state.specs.Finite.{IsMap}
 use Rattle.vr_base.specs.Bytes.{IsBytes, bytes16}
 use Rattle.vr_state.specs.Front.{number_from}
 use Rattle.vr_state.specs.Table.{count_from, table_text, read_on, counted, decoded, BeginsWith, FirstFault, IsTextOf, IsJudged, IsOrNoMemory, IsFirstFault}

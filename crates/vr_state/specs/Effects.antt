@@ -1,8 +1,8 @@
 -- What a stored request changes, by look-ups alone.
 use Rattle.std.specs.Prelude.{◌≡◌, ◌≢◌, ◌≤◌, ℕ, ◌⊎◌, length, Option, Some, None}
 use Rattle.std.specs.Ordering.{nat_cmp}
+use Rattle.std.specs.FinMap.Entries.{find}
 use Rattle.vr_base.specs.Versions.{session_limit}
-use Rattle.vr_state.specs.Finite.{find}
 use Rattle.vr_state.specs.declared.session.Session.{Session}
 use Rattle.vr_state.specs.Sessions.{Map, Asked, IsOldest}
 

@@ -4,8 +4,7 @@ use Rattle.std.specs.Prelude.{ℕ, List, not, IsTrue}
 use Rattle.std.specs.Ordering.{nat_cmp, eq_by_cmp}
 use Rattle.std.specs.declared.cmp.Ordering.{Ordering}
 use Rattle.std.specs.Cmp.Lexicographic.{slice_cmp}
-pub use Rattle.std.specs.FinMap.Entries.{find, put, is_sorted}
-use Rattle.std.specs.FinMap.Entries.{where_key}
+use Rattle.std.specs.FinMap.Entries.{is_sorted, where_key}
 
 -- bytes, as they stand in a dictionary
 abbrev pub byte_order : List ℕ → List ℕ → Ordering

@@ -2,12 +2,13 @@
 use Rattle.std.specs.Prelude.{ℕ, ◌≤◌, Bool, true, ◌&&◌, IsTrue, ⊤, nat_le, length}
 use Rattle.std.specs.List.{AllByRecursion, list_all}
 use Rattle.std.specs.Ordering.{nat_cmp}
+use Rattle.std.specs.FinMap.Entries.{is_sorted}
 use Rattle.vr_base.specs.Versions.{by_version, session_limit, value_limit}
 use Rattle.vr_header.specs.Bodies.{IsOutcome}
 use Rattle.vr_header.specs.Text.{is_text}
 use Rattle.vr_header.specs.declared.outcome.Outcome.{Outcome}
 use Rattle.vr_header.specs.declared.outcome.Outcome.TheVariants as outcome
-use Rattle.vr_state.specs.Finite.{is_sorted, IsMap}
+use Rattle.vr_state.specs.Finite.{IsMap}
 use Rattle.vr_state.specs.Kv as kv
 use Rattle.vr_state.specs.Pairs.{kv_bytes}
 use Rattle.vr_state.specs.SessionTexts.{sessions_bytes}

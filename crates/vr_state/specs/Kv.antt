@@ -2,11 +2,12 @@
 use Rattle.std.specs.Prelude.{ℕ, ◌≤◌, List, [], length, is_some, nat_lt, if◌then◌else◌, fold}
 use Rattle.std.specs.List.{AllByRecursion}
 use Rattle.std.specs.Option.{option_map_or}
+use Rattle.std.specs.FinMap.Entries.{find, put}
 use Rattle.vr_header.specs.declared.operation.Operation.{Operation}
 use Rattle.vr_header.specs.declared.operation.Operation.TheVariants.{Register, Put, Get, Delete}
 use Rattle.vr_header.specs.declared.outcome.Outcome.{Outcome}
 use Rattle.vr_header.specs.declared.outcome.Outcome.TheVariants as outcome
-use Rattle.vr_state.specs.Finite.{byte_order, find, put, without, IsMap}
+use Rattle.vr_state.specs.Finite.{byte_order, without, IsMap}
 use Rattle.vr_state.specs.Pairs.{Fits}
 
 -- the keys with their values, the keys in byte order

@@ -1,10 +1,11 @@
 -- What an operation does, by look-ups alone.
 use Rattle.std.specs.Prelude.{◌≡◌, ◌≢◌, ℕ, ◌⊎◌, List, length, Option, Some, None, MatchOption}
+use Rattle.std.specs.FinMap.Entries.{find}
 use Rattle.vr_header.specs.declared.operation.Operation.{Operation}
 use Rattle.vr_header.specs.declared.operation.Operation.TheVariants.{Register, Put, Get, Delete}
 use Rattle.vr_header.specs.declared.outcome.Outcome.{Outcome}
 use Rattle.vr_header.specs.declared.outcome.Outcome.TheVariants as outcome
-use Rattle.vr_state.specs.Finite.{byte_order, find}
+use Rattle.vr_state.specs.Finite.{byte_order}
 use Rattle.vr_state.specs.Kv.{Map}
 
 abbrev pub value_of : Map → List ℕ → Option (List ℕ)

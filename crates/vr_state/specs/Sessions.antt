@@ -3,10 +3,11 @@ use Rattle.std.specs.Prelude.{◌≡◌, ℕ, ◌+◌, ◌<◌, ◌≤◌, ◌^�
 use Rattle.std.specs.List.{AllByRecursion}
 use Rattle.std.specs.Option.{option_map_or}
 use Rattle.std.specs.Ordering.{nat_cmp}
+use Rattle.std.specs.FinMap.Entries.{find, put}
 use Rattle.vr_base.specs.Versions.{session_limit}
 use Rattle.vr_header.specs.Bodies.{IsOutcome}
 use Rattle.vr_header.specs.declared.outcome.Outcome.{Outcome}
-use Rattle.vr_state.specs.Finite.{find, put, without, IsMap}
+use Rattle.vr_state.specs.Finite.{without, IsMap}
 use Rattle.vr_state.specs.declared.session.Session.{Session}
 use Rattle.vr_state.specs.declared.session.SessionAnswer.{SessionAnswer}
 use Rattle.vr_state.specs.declared.session.SessionAnswer.TheVariants.{Fresh, Repeat, Old, Gap, Evicted}

@@ -6,7 +6,8 @@ use Rattle.std.specs.Int.{w16}
 use Rattle.std.specs.declared.cmp.Ordering.{Ordering}
 use Rattle.vr_state.specs.declared.fault.StateFault.{StateFault}
 use Rattle.vr_state.specs.declared.fault.StateFault.TheVariants.{Torn, NotSorted, TooMany, NoMemory}
-use Rattle.vr_state.specs.Finite.{is_sorted, IsMap}
+use Rattle.std.specs.FinMap.Entries.{is_sorted}
+use Rattle.vr_state.specs.Finite.{IsMap}
 use Rattle.vr_base.specs.Bytes.{bytes16}
 use Rattle.vr_state.specs.Front.{number_from}
 

@@ -1,6 +1,7 @@
 //! A machine read from its text.
 ghost use Rattle.std.specs.Prelude.{◌≡◌, ℕ, suc, [], ◌∷◌, ◌++◌, Ok, IfOk, IfErr};
-ghost use Rattle.vr_state.specs.Finite.{byte_order, is_sorted, IsMap};
+ghost use Rattle.std.specs.FinMap.Entries.{is_sorted};
+ghost use Rattle.vr_state.specs.Finite.{byte_order, IsMap};
 ghost use Rattle.vr_state.specs.Table.{read_on, IsOrNoMemory};
 ghost use Rattle.vr_state.specs.Pairs.{pair_from, kv_decoded};
 

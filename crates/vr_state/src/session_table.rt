@@ -2,8 +2,9 @@
 ghost use Rattle.std.specs.Prelude.{◌≡◌, [], ◌∷◌, ◌++◌, OnOk, OnErr};
 ghost use Rattle.std.specs.List.{list_all};
 ghost use Rattle.std.specs.Ordering.{nat_cmp};
+ghost use Rattle.std.specs.FinMap.Entries.{put, is_sorted};
 ghost use Rattle.vr_state.specs.Fitting.{outcome_fits};
-ghost use Rattle.vr_state.specs.Finite.{put, without, is_sorted, IsMap};
+ghost use Rattle.vr_state.specs.Finite.{without, IsMap};
 ghost use Rattle.vr_state.specs.Sessions.{older, oldest};
 ghost use Rattle.vr_state.specs.declared.session.Session.{Session};
 

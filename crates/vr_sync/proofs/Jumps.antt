@@ -9,24 +9,24 @@ use Rattle.vr_msg.specs.declared.frame.SyncView.{SyncView}
 use Rattle.vr_msg.specs.declared.output.Output.{Output}
 use Rattle.vr_msg.specs.Logs.{IsEntryAt}
 use Rattle.vr_msg.specs.Spelling.{AreHeaders}
-use Rattle.vr_journal.specs.Deciding.{first_of, may_jump, sync_view_table}
-use Rattle.vr_journal.specs.Rule.{Rule}
-use Rattle.vr_journal.specs.Rule.TheVariants.{Ignored, Jumped}
-use Rattle.vr_journal.specs.Replica.{Replica, forgetting, last_view, version}
-use Rattle.vr_journal.specs.Rules.{acknowledge_stored, obey_sync_view, on_sync_view}
-use Rattle.vr_journal.specs.Sound.{IsNameBytes}
-use Rattle.vr_journal.specs.Steps.{◌⨾◌}
-use Rattle.vr_journal.specs.Words.{apply, jump, jumped}
-use Rattle.vr_journal.specs.Given.{IsSyncFor}
-use Rattle.vr_journal.proofs.Jumping.{kept_jumped, may_jump_is}
-use Rattle.vr_journal.proofs.Ruling.{IsFor, by_rows, group_of_primary}
-use Rattle.vr_journal.proofs.SavesJump.{savable_jumped}
-use Rattle.vr_journal.proofs.Trying.{from_at}
-use Rattle.vr_journal.specs.Halt.{Halt}
-use Rattle.vr_journal.specs.Does.{Does}
-use Rattle.vr_journal.proofs.Stepping.{does_by, does_naming, does_quiet}
-use Rattle.vr_journal.specs.Jumps as moving
-use Rattle.vr_journal.specs.Ready.{IsReady}
+use Rattle.vr_rules.specs.Deciding.{first_of, may_jump, sync_view_table}
+use Rattle.vr_rules.specs.declared.rule.Rule.{Rule}
+use Rattle.vr_rules.specs.declared.rule.Rule.TheVariants.{Ignored, Jumped}
+use Rattle.vr_rules.specs.Replica.{Replica, forgetting, last_view, version}
+use Rattle.vr_rules.specs.Rules.{acknowledge_stored, obey_sync_view, on_sync_view}
+use Rattle.vr_rules.specs.Sound.{IsNameBytes}
+use Rattle.vr_rules.specs.Steps.{◌⨾◌}
+use Rattle.vr_rules.specs.Words.{apply, jump, jumped}
+use Rattle.vr_rules.specs.Given.{IsSyncFor}
+use Rattle.vr_rules.proofs.Jumping.{kept_jumped, may_jump_is}
+use Rattle.vr_rules.proofs.Ruling.{IsFor, by_rows, group_of_primary}
+use Rattle.vr_rules.proofs.SavesJump.{savable_jumped}
+use Rattle.vr_rules.proofs.Trying.{from_at}
+use Rattle.vr_disk.specs.declared.fault.Halt.{Halt}
+use Rattle.vr_step.specs.Does.{Does}
+use Rattle.vr_step.proofs.Stepping.{does_by, does_naming, does_quiet}
+use Rattle.vr_memory.specs.Jumps as moving
+use Rattle.vr_memory.specs.Ready.{IsReady}
 use Rattle.vr_sync.specs.declared.jumping.JumpRule.{JumpRule}
 use Rattle.vr_sync.specs.declared.jumping.JumpRule.TheVariants as decided
 use Rattle.vr_sync.specs.Jumps.{IsSyncing, MayJump}

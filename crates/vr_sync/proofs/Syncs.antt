@@ -3,14 +3,14 @@ use Rattle.std.proofs.Common.{◌≡◌, ◌∙◌, sym, ap, subst, List, ◌++�
 use Rattle.vr_disk.specs.DiskState.{Disk}
 use Rattle.vr_msg.specs.declared.frame.GetSync.{GetSync}
 use Rattle.vr_msg.specs.declared.output.Output.{Output}
-use Rattle.vr_journal.specs.Deciding.{first_of, get_sync_table}
-use Rattle.vr_journal.specs.Rule.{Rule}
-use Rattle.vr_journal.specs.Rule.TheVariants.{Ignored, SyncGiven}
-use Rattle.vr_journal.specs.Outputs.{send_to, sync_view}
-use Rattle.vr_journal.specs.Replica.{Replica}
-use Rattle.vr_journal.specs.Rules.{obey_get_sync, on_get_sync}
-use Rattle.vr_journal.specs.Does.{Does}
-use Rattle.vr_journal.proofs.Stepping.{does_by, does_quiet, says_by}
+use Rattle.vr_rules.specs.Deciding.{first_of, get_sync_table}
+use Rattle.vr_rules.specs.declared.rule.Rule.{Rule}
+use Rattle.vr_rules.specs.declared.rule.Rule.TheVariants.{Ignored, SyncGiven}
+use Rattle.vr_rules.specs.Outputs.{send_to, sync_view}
+use Rattle.vr_rules.specs.Replica.{Replica}
+use Rattle.vr_rules.specs.Rules.{obey_get_sync, on_get_sync}
+use Rattle.vr_step.specs.Does.{Does}
+use Rattle.vr_step.proofs.Stepping.{does_by, does_quiet, says_by}
 use Rattle.vr_sync.specs.declared.giving.SyncRule.{SyncRule}
 use Rattle.vr_sync.specs.declared.giving.SyncRule.TheVariants as asked
 use Rattle.vr_sync.specs.Named.{sync_rule}

@@ -3,9 +3,9 @@ use Rattle.std.specs.Prelude.{◌<◌, ◌≡◌, ◌≤◌, true}
 use Rattle.vr_base.specs.Bytes.{name_of}
 use Rattle.vr_msg.specs.declared.frame.SyncView.{SyncView}
 use Rattle.vr_msg.specs.Forms.{IsSyncView}
-use Rattle.vr_journal.specs.Deciding.{may_jump}
-use Rattle.vr_journal.specs.Replica.{Replica, last_view}
-use Rattle.vr_journal.specs.Given.{IsSyncFor}
+use Rattle.vr_rules.specs.Deciding.{may_jump}
+use Rattle.vr_rules.specs.Replica.{Replica, last_view}
+use Rattle.vr_rules.specs.Given.{IsSyncFor}
 
 -- the form of the message, as one fact
 unfoldable pub IsSyncing : SyncView → Type 0

@@ -1,6 +1,6 @@
 -- What an event leads to is the rule of that name.
-use Rattle.vr_journal.specs.Rule.TheVariants as rules
-use Rattle.vr_journal.specs.Rule.{Rule}
+use Rattle.vr_rules.specs.declared.rule.Rule.TheVariants as rules
+use Rattle.vr_rules.specs.declared.rule.Rule.{Rule}
 use Rattle.vr_sync.specs.declared.giving.SyncRule.{SyncRule}
 use Rattle.vr_sync.specs.declared.giving.SyncRule.TheVariants as sync
 use Rattle.vr_sync.specs.declared.jumping.JumpRule.{JumpRule}

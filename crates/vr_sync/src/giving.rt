@@ -1,9 +1,9 @@
 //! Checkpoints given: get_syncs.
 ghost use Rattle.std.specs.Prelude.{◌≡◌, ◌≤◌, true};
-ghost use Rattle.vr_journal.specs.Ready.{IsReady};
-ghost use Rattle.vr_journal.specs.Deciding.{first_of, get_sync_table, reaches_down};
-ghost use Rattle.vr_journal.specs.Replica.{last_view};
-ghost use Rattle.vr_journal.specs.Rules.{on_get_sync};
+ghost use Rattle.vr_rules.specs.Deciding.{first_of, get_sync_table, reaches_down};
+ghost use Rattle.vr_rules.specs.Replica.{last_view};
+ghost use Rattle.vr_rules.specs.Rules.{on_get_sync};
+ghost use Rattle.vr_memory.specs.Ready.{IsReady};
 ghost use Rattle.vr_journal.specs.Acts.{Acts};
 ghost use Rattle.vr_sync.specs.Named.{sync_rule};
 ghost use Rattle.vr_sync.specs.declared.giving.SyncRule.{SyncRule};
@@ -26,7 +26,7 @@ pub enum SyncRule {
 /// `SyncGiven` where the message is of this version and group and from another replica, the replica leads, in the asked view or a later
 /// one, and its log reaches down. Else `Ignored`. `reaches_down`: it has a checkpoint, and its known headers reach from the head without a
 /// hole down to the checkpoint's.
-#[tactic(auto, using(vr_journal::proofs::Memory::some_member), unfolding(vr_journal::specs::Deciding::first_of))]
+#[tactic(auto, using(vr_memory::proofs::Memory::some_member), unfolding(vr_rules::specs::Deciding::first_of))]
 pub fn decide_get_sync(replica: &Replica, get: &GetSync) -> SyncRule
     requires { IsReady replica.now }
     ensures rule { first_of (get_sync_table get.now replica.now) ≡ sync_rule result }
@@ -45,7 +45,7 @@ pub fn decide_get_sync(replica: &Replica, get: &GetSync) -> SyncRule
 /// down: it has a checkpoint, and known headers from the head without a hole down to that. Else, and where the message isn't of this
 /// version and group and from another replica, nothing is put out. Replica and disk are left as they are; after an `Err` nothing is said of
 /// outputs.
-#[tactic(auto, using(crate::proofs::Syncs::gives, vr_journal::proofs::Stepping::wants))]
+#[tactic(auto, using(crate::proofs::Syncs::gives, vr_step::proofs::Stepping::wants))]
 pub fn handle_get_sync<D: SectorDisk>(
     replica: &Replica,
     alloc: Global,

@@ -1,12 +1,12 @@
 //! Checkpoints taken over: sync_views.
 ghost use Rattle.std.specs.Prelude.{◌≡◌, ◌≤◌, ◌+◌, OnOk};
 ghost use Rattle.vr_base.specs.Bytes.{name_of};
-ghost use Rattle.vr_journal.specs.Ready.{IsReady};
+ghost use Rattle.vr_memory.specs.Ready.{IsReady};
 ghost use Rattle.vr_msg.specs.Spelling.{AreHeaders};
-ghost use Rattle.vr_journal.specs.Deciding.{first_of, sync_view_table};
-ghost use Rattle.vr_journal.specs.Rules.{acknowledge_stored, on_sync_view};
-ghost use Rattle.vr_journal.specs.Steps.{◌⨾◌};
-ghost use Rattle.vr_journal.specs.Words.{apply, jump};
+ghost use Rattle.vr_rules.specs.Deciding.{first_of, sync_view_table};
+ghost use Rattle.vr_rules.specs.Rules.{acknowledge_stored, on_sync_view};
+ghost use Rattle.vr_rules.specs.Steps.{◌⨾◌};
+ghost use Rattle.vr_rules.specs.Words.{apply, jump};
 ghost use Rattle.vr_sync.specs.Jumps.{IsSyncing, MayJump};
 ghost use Rattle.vr_sync.specs.Named.{jump_rule};
 ghost use Rattle.vr_sync.specs.declared.jumping.JumpRule.{JumpRule};
@@ -30,7 +30,7 @@ pub enum JumpRule {
 /// `Jumped` where it is of this version and group and from its view's primary, another replica, may be jumped to, and this replica isn't
 /// that primary. Else `Ignored`. It may be: the log is newer and a chain, its head at least the commit number, its checkpoint above the
 /// replica's. Headers that are taken over have the values of the program.
-#[tactic(auto, using(vr_journal::proofs::Memory::window_of, vr_journal::proofs::Memory::some_member), unfolding(vr_journal::specs::Deciding::first_of))]
+#[tactic(auto, using(vr_memory::proofs::Memory::window_of, vr_memory::proofs::Memory::some_member), unfolding(vr_rules::specs::Deciding::first_of))]
 pub fn decide_sync_view(replica: &Replica, sync: &SyncView) -> JumpRule
     requires { IsReady replica.now }
     ensures rule { first_of (sync_view_table name_of sync.now replica.now) ≡ jump_rule result }
@@ -50,7 +50,7 @@ pub fn decide_sync_view(replica: &Replica, sync: &SyncView) -> JumpRule
 // Parts stay up to the commit number, and are `Nothing` above. Above it Parts are as after `take`; view and log view are the message's, and
 // the commit number is the greater. `MayJump`: the message may be jumped to, and its root is in the grid. After an `Err` the disk has had
 // its calls up to the stop; of replica and outputs nothing is said.
-#[tactic(auto, using(vr_journal::proofs::Stepping::steps, vr_journal::proofs::Versions::jumped_stays, crate::proofs::Jumps::ready_jumped, crate::proofs::Jumps::view_jumped, crate::proofs::Jumps::may_move, vr_journal::proofs::Memory::window_of), unfolding(vr_journal::specs::Words::jump))]
+#[tactic(auto, using(vr_step::proofs::Stepping::steps, vr_rules::proofs::Versions::jumped_stays, crate::proofs::Jumps::ready_jumped, crate::proofs::Jumps::view_jumped, crate::proofs::Jumps::may_move, vr_memory::proofs::Memory::window_of), unfolding(vr_rules::specs::Words::jump))]
 fn jump<D: SectorDisk>(
     replica: &mut Replica,
     alloc: Global,
@@ -71,7 +71,7 @@ fn jump<D: SectorDisk>(
 // In this order: log and checkpoint are taken over, and saved. Each op above the commit number up to the head, ascending, if `Here`, is
 // acknowledged to the primary by a prepare_ok. Nothing is applied, since the root is missing now. `MayJump`: the message may be jumped to,
 // and its root is in the grid. After an `Err` the disk has had its calls up to the stop; of replica and outputs nothing is said.
-#[tactic(auto, using(vr_journal::proofs::Stepping::steps, crate::proofs::Jumps::view_low, crate::proofs::Jumps::head_small))]
+#[tactic(auto, using(vr_step::proofs::Stepping::steps, crate::proofs::Jumps::view_low, crate::proofs::Jumps::head_small))]
 fn follow<D: SectorDisk>(
     replica: &mut Replica,
     alloc: Global,

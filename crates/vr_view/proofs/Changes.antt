@@ -2,23 +2,23 @@
 use Rattle.std.proofs.Common.{arith, ℕ, ◌≡◌, ◌≤◌, ◌<◌, ◌∙◌, refl, sym, ap, subst, Bool, true, false, not, List, ◌++◌, Option, Result, Ok}
 use Rattle.std.proofs.lemmas.Bool.{and_parts, ltb-true, eqb-false}
 use Rattle.vr_disk.specs.DiskState.{Disk}
+use Rattle.vr_disk.specs.declared.fault.Halt.{Halt}
 use Rattle.vr_msg.specs.declared.frame.StartViewChange.{StartViewChange}
 use Rattle.vr_msg.specs.declared.output.Output.{Output}
-use Rattle.vr_journal.specs.Deciding.{first_of, start_view_change_table}
-use Rattle.vr_journal.specs.Rule.{Rule}
-use Rattle.vr_journal.specs.Rule.TheVariants.{Ignored, ChangeBefore, ChangeLater, ChangeHeard, ChangeDone}
-use Rattle.vr_journal.specs.Outputs.{send_to, start_view}
-use Rattle.vr_journal.specs.Replica.{Replica, is_started}
-use Rattle.vr_journal.specs.Rules.{heard_of, obey_start_view_change, on_start_view_change}
-use Rattle.vr_journal.specs.Steps.{◌⨾◌, change}
-use Rattle.vr_journal.specs.Words.{enter, entered, speak, with_saved}
-use Rattle.vr_journal.proofs.Keeping.{sound_alike}
-use Rattle.vr_journal.proofs.Ruling.{by_rows}
-use Rattle.vr_journal.proofs.SavesWell.{savable_alike}
-use Rattle.vr_journal.specs.Halt.{Halt}
-use Rattle.vr_journal.specs.Does.{Does}
-use Rattle.vr_journal.proofs.Stepping.{does_by, does_quiet, says_by}
-use Rattle.vr_journal.specs.Ready.{IsReady}
+use Rattle.vr_rules.specs.Deciding.{first_of, start_view_change_table}
+use Rattle.vr_rules.specs.declared.rule.Rule.{Rule}
+use Rattle.vr_rules.specs.declared.rule.Rule.TheVariants.{Ignored, ChangeBefore, ChangeLater, ChangeHeard, ChangeDone}
+use Rattle.vr_rules.specs.Outputs.{send_to, start_view}
+use Rattle.vr_rules.specs.Replica.{Replica, is_started}
+use Rattle.vr_rules.specs.Rules.{heard_of, obey_start_view_change, on_start_view_change}
+use Rattle.vr_rules.specs.Steps.{◌⨾◌, change}
+use Rattle.vr_rules.specs.Words.{enter, entered, speak, with_saved}
+use Rattle.vr_rules.proofs.Keeping.{sound_alike}
+use Rattle.vr_rules.proofs.Ruling.{by_rows}
+use Rattle.vr_rules.proofs.SavesWell.{savable_alike}
+use Rattle.vr_step.specs.Does.{Does}
+use Rattle.vr_step.proofs.Stepping.{does_by, does_quiet, says_by}
+use Rattle.vr_memory.specs.Ready.{IsReady}
 use Rattle.vr_view.specs.declared.changing.ChangeRule.{ChangeRule}
 use Rattle.vr_view.specs.declared.changing.ChangeRule.TheVariants as rule
 use Rattle.vr_view.specs.Named.{change_rule}

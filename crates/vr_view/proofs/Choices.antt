@@ -15,20 +15,20 @@ use Rattle.vr_msg.specs.declared.output.Output.{Output}
 use Rattle.vr_msg.specs.declared.statement.Statement.{Statement}
 use Rattle.vr_msg.specs.Choice.{choice, top_view}
 use Rattle.vr_msg.specs.Logs.{IsStatement}
-use Rattle.vr_journal.specs.Outputs.{send_to_all, start_view, wait_line}
-use Rattle.vr_journal.specs.Steps.{◌⨾◌, by, says}
-use Rattle.vr_journal.specs.Replica.{Replica, is_alone, is_primary, is_started, last_view, version, view_change}
-use Rattle.vr_journal.specs.Sound.{IsStated}
-use Rattle.vr_journal.specs.Words.{Log, advance, apply, begin_view, choose_line, chosen_log, decided, obey_choice, prepare_again, stated, take, try, try_log}
-use Rattle.vr_journal.proofs.Storing.{head_number}
-use Rattle.vr_journal.proofs.Taking.{may_take_is}
-use Rattle.vr_journal.proofs.Trying.{all_stated, chosen_log_is, decided_ends}
+use Rattle.vr_rules.specs.Outputs.{send_to_all, start_view, wait_line}
+use Rattle.vr_rules.specs.Steps.{◌⨾◌, by, says}
+use Rattle.vr_rules.specs.Replica.{Replica, is_alone, is_primary, is_started, last_view, version, view_change}
+use Rattle.vr_rules.specs.Sound.{IsStated}
+use Rattle.vr_rules.specs.Words.{Log, advance, apply, begin_view, choose_line, chosen_log, decided, obey_choice, prepare_again, stated, take, try, try_log}
+use Rattle.vr_rules.proofs.Storing.{head_number}
+use Rattle.vr_rules.proofs.Taking.{may_take_is}
+use Rattle.vr_rules.proofs.Trying.{all_stated, chosen_log_is, decided_ends}
 use Rattle.vr_base.specs.Bytes.{name_of}
-use Rattle.vr_journal.specs.Halt.{Halt}
-use Rattle.vr_journal.specs.Does.{Does}
-use Rattle.vr_journal.proofs.Stepping.{does_by, does_quiet, says_by}
-use Rattle.vr_journal.specs.Choosing.{chosen_line}
-use Rattle.vr_journal.specs.Ready.{IsReady}
+use Rattle.vr_disk.specs.declared.fault.Halt.{Halt}
+use Rattle.vr_step.specs.Does.{Does}
+use Rattle.vr_step.proofs.Stepping.{does_by, does_quiet, says_by}
+use Rattle.vr_memory.specs.Choosing.{chosen_line}
+use Rattle.vr_memory.specs.Ready.{IsReady}
 use Rattle.vr_view.specs.Logs.{IsTaught, MayTake}
 use Rattle.vr_journal.specs.Telling.{each_to}
 

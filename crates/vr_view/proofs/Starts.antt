@@ -10,20 +10,20 @@ use Rattle.vr_msg.specs.declared.frame.StartView.{StartView}
 use Rattle.vr_msg.specs.declared.output.Output.{Output}
 use Rattle.vr_msg.specs.Logs.{IsEntryAt}
 use Rattle.vr_msg.specs.Spelling.{AreHeaders}
-use Rattle.vr_journal.specs.Deciding.{first_of, get_view_table, log_of, start_view_table}
-use Rattle.vr_journal.specs.Rule.{Rule}
-use Rattle.vr_journal.specs.Rule.TheVariants.{Ignored, SyncAsked, Taken, ViewGiven}
-use Rattle.vr_journal.specs.Outputs.{get_sync, send_to, start_view}
-use Rattle.vr_journal.specs.Replica.{Replica, last_view}
-use Rattle.vr_journal.specs.Rules.{acknowledge_stored, obey_get_view, obey_start_view, on_get_view, on_start_view}
-use Rattle.vr_journal.specs.Steps.{◌⨾◌}
-use Rattle.vr_journal.specs.Words.{Log, apply, may_take, take}
-use Rattle.vr_journal.proofs.Ruling.{IsFor, by_rows, group_of_primary}
-use Rattle.vr_journal.specs.Given.{IsLogFor}
-use Rattle.vr_journal.proofs.Trying.{from_at}
-use Rattle.vr_journal.specs.Halt.{Halt}
-use Rattle.vr_journal.specs.Does.{Does}
-use Rattle.vr_journal.proofs.Stepping.{does_by, does_naming, does_quiet, says_by}
+use Rattle.vr_rules.specs.Deciding.{first_of, get_view_table, log_of, start_view_table}
+use Rattle.vr_rules.specs.declared.rule.Rule.{Rule}
+use Rattle.vr_rules.specs.declared.rule.Rule.TheVariants.{Ignored, SyncAsked, Taken, ViewGiven}
+use Rattle.vr_rules.specs.Outputs.{get_sync, send_to, start_view}
+use Rattle.vr_rules.specs.Replica.{Replica, last_view}
+use Rattle.vr_rules.specs.Rules.{acknowledge_stored, obey_get_view, obey_start_view, on_get_view, on_start_view}
+use Rattle.vr_rules.specs.Steps.{◌⨾◌}
+use Rattle.vr_rules.specs.Words.{Log, apply, may_take, take}
+use Rattle.vr_rules.proofs.Ruling.{IsFor, by_rows, group_of_primary}
+use Rattle.vr_rules.specs.Given.{IsLogFor}
+use Rattle.vr_rules.proofs.Trying.{from_at}
+use Rattle.vr_disk.specs.declared.fault.Halt.{Halt}
+use Rattle.vr_step.specs.Does.{Does}
+use Rattle.vr_step.proofs.Stepping.{does_by, does_naming, does_quiet, says_by}
 use Rattle.vr_view.specs.declared.starting.StartRule.{StartRule}
 use Rattle.vr_view.specs.declared.starting.StartRule.TheVariants as started
 use Rattle.vr_view.specs.declared.starting.ViewRule.{ViewRule}

@@ -3,25 +3,25 @@ use Rattle.std.proofs.Common.{arith, ℕ, ◌≡◌, ◌≤◌, ◌<◌, ◌∙�
 use Rattle.std.specs.Prelude.{◌&&◌, ◌||◌, nat_lt}
 use Rattle.std.proofs.lemmas.Bool.{and_parts, ltb-true, ltb-false, lt-ltb, le-ltb}
 use Rattle.vr_disk.specs.DiskState.{Disk}
+use Rattle.vr_disk.specs.declared.fault.Halt.{Halt}
 use Rattle.vr_msg.specs.declared.frame.DoViewChange.{DoViewChange}
 use Rattle.vr_msg.specs.declared.output.Output.{Output}
 use Rattle.vr_msg.specs.declared.statement.Statement.{Statement}
 use Rattle.vr_msg.specs.Spelling.{AreHeaders, known}
-use Rattle.vr_journal.specs.Deciding.{first_of, do_view_change_table, is_from}
-use Rattle.vr_journal.specs.Rule.{Rule}
-use Rattle.vr_journal.specs.Rule.TheVariants.{Ignored, StatedBefore, StatedLate, Stated}
-use Rattle.vr_journal.specs.Outputs.{send_to, start_view}
-use Rattle.vr_journal.specs.Replica.{Replica, last_view, version}
-use Rattle.vr_journal.specs.Rules.{obey_do_view_change, on_do_view_change, with_statement}
-use Rattle.vr_journal.specs.Sound.{IsStated}
-use Rattle.vr_journal.specs.Steps.{◌⨾◌, change}
-use Rattle.vr_journal.specs.Words.{enter, entered, try, with_saved}
-use Rattle.vr_journal.proofs.Ruling.{IsFor, by_rows, group_of, kept_statement}
-use Rattle.vr_journal.proofs.SavesWell.{savable_alike}
-use Rattle.vr_journal.specs.Halt.{Halt}
-use Rattle.vr_journal.specs.Does.{Does}
-use Rattle.vr_journal.proofs.Stepping.{does_by, does_quiet, says_by}
-use Rattle.vr_journal.specs.Ready.{IsReady}
+use Rattle.vr_rules.specs.Deciding.{first_of, do_view_change_table, is_from}
+use Rattle.vr_rules.specs.declared.rule.Rule.{Rule}
+use Rattle.vr_rules.specs.declared.rule.Rule.TheVariants.{Ignored, StatedBefore, StatedLate, Stated}
+use Rattle.vr_rules.specs.Outputs.{send_to, start_view}
+use Rattle.vr_rules.specs.Replica.{Replica, last_view, version}
+use Rattle.vr_rules.specs.Rules.{obey_do_view_change, on_do_view_change, with_statement}
+use Rattle.vr_rules.specs.Sound.{IsStated}
+use Rattle.vr_rules.specs.Steps.{◌⨾◌, change}
+use Rattle.vr_rules.specs.Words.{enter, entered, try, with_saved}
+use Rattle.vr_rules.proofs.Ruling.{IsFor, by_rows, group_of, kept_statement}
+use Rattle.vr_rules.proofs.SavesWell.{savable_alike}
+use Rattle.vr_step.specs.Does.{Does}
+use Rattle.vr_step.proofs.Stepping.{does_by, does_quiet, says_by}
+use Rattle.vr_memory.specs.Ready.{IsReady}
 use Rattle.vr_view.specs.declared.stating.StateRule.{StateRule}
 use Rattle.vr_view.specs.declared.stating.StateRule.TheVariants as rule
 use Rattle.vr_view.specs.Messages.{IsStating}

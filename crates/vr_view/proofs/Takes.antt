@@ -1,13 +1,12 @@
 -- Readiness where a log is taken over.
-use Rattle.std.proofs.Common.{arith, ◌≡◌, ◌≤◌, refl, sym, Bool, true}
-use Rattle.std.proofs.Common.{◌∙◌}
+use Rattle.std.proofs.Common.{arith, ◌≡◌, ◌≤◌, refl, sym, Bool, true, ◌∙◌}
 use Rattle.vr_base.specs.Bytes.{name_of}
 use Rattle.vr_msg.specs.Spelling.{AreHeaders}
-use Rattle.vr_journal.specs.Replica.{Replica, forgetting, last_view, version}
-use Rattle.vr_journal.specs.Words.{Log, may_take, taken}
-use Rattle.vr_journal.proofs.SavesParts.{savable_taken}
-use Rattle.vr_journal.proofs.Taking.{may_take_is, kept_taken}
-use Rattle.vr_journal.specs.Ready.{IsReady}
+use Rattle.vr_rules.specs.Replica.{Replica, forgetting, last_view, version}
+use Rattle.vr_rules.specs.Words.{Log, may_take, taken}
+use Rattle.vr_rules.proofs.SavesParts.{savable_taken}
+use Rattle.vr_rules.proofs.Taking.{may_take_is, kept_taken}
+use Rattle.vr_memory.specs.Ready.{IsReady}
 use Rattle.vr_view.specs.Logs.{IsTaught, MayTake}
 
 idle_taken : (l : Log) (r : Replica) → (taken l r).idle ≤ 9

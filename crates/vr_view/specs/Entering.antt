@@ -1,7 +1,7 @@
 -- How a view is entered.
 use Rattle.std.specs.Prelude.{ℕ, nat_lt}
-use Rattle.vr_journal.specs.Steps.{Word, by, when}
-use Rattle.vr_journal.specs.Words.{enter}
+use Rattle.vr_rules.specs.Steps.{Word, by, when}
+use Rattle.vr_rules.specs.Words.{enter}
 
 -- a view is entered unless the replica is in it
 unfoldable pub entering : {F : Type 0} → ℕ → Word F

@@ -2,9 +2,9 @@
 use Rattle.std.specs.Prelude.{◌≡◌, ◌≤◌, true}
 use Rattle.vr_base.specs.Bytes.{name_of}
 use Rattle.vr_msg.specs.Spelling.{AreHeaders}
-use Rattle.vr_journal.specs.Replica.{Replica, last_view}
-use Rattle.vr_journal.specs.Words.{Log, may_take}
-use Rattle.vr_journal.specs.Given.{IsLogFor}
+use Rattle.vr_rules.specs.Replica.{Replica, last_view}
+use Rattle.vr_rules.specs.Words.{Log, may_take}
+use Rattle.vr_rules.specs.Given.{IsLogFor}
 
 -- a log of the replica's group, of a view that may be entered: where its headers have the values of the program
 pub record Taught (l : Log) (r : Replica) : Type 0 where

@@ -1,11 +1,11 @@
 //! A replica has entered a view: start_view_changes.
 ghost use Rattle.std.specs.Prelude.{◌≡◌, ◌<◌, ◌≤◌, true};
 ghost use Rattle.vr_journal.specs.Waits.{EndsAtOnce, passes};
-ghost use Rattle.vr_journal.specs.Deciding.{first_of, start_view_change_table};
-ghost use Rattle.vr_journal.specs.Replica.{last_view};
-ghost use Rattle.vr_journal.specs.Rules.{heard_of, on_start_view_change};
-ghost use Rattle.vr_journal.specs.Steps.{◌⨾◌, change};
-ghost use Rattle.vr_journal.specs.Words.{enter, speak};
+ghost use Rattle.vr_rules.specs.Deciding.{first_of, start_view_change_table};
+ghost use Rattle.vr_rules.specs.Replica.{last_view};
+ghost use Rattle.vr_rules.specs.Rules.{heard_of, on_start_view_change};
+ghost use Rattle.vr_rules.specs.Steps.{◌⨾◌, change};
+ghost use Rattle.vr_rules.specs.Words.{enter, speak};
 ghost use Rattle.vr_view.specs.Named.{change_rule};
 ghost use Rattle.vr_journal.specs.Acts.{Acts, MayAct, MaySend};
 
@@ -33,7 +33,7 @@ pub enum ChangeRule {
 /// The first that holds: `Ignored` unless the message is of this version and group and from another
 /// replica; `ChangeBefore` below the view; `ChangeLater` above it. In the view: `ChangeHeard` where it
 /// isn't started and the sender isn't heard yet; `ChangeDone` where the replica leads; else `Ignored`.
-#[tactic(auto, unfolding(vr_journal::specs::Deciding::first_of))]
+#[tactic(auto, unfolding(vr_rules::specs::Deciding::first_of))]
 pub fn decide_start_view_change(replica: &Replica, message: &StartViewChange) -> ChangeRule
     requires { 0 < replica.now.n }
     ensures { first_of (start_view_change_table message.now replica.now) ≡ change_rule result }
@@ -57,7 +57,7 @@ pub fn decide_start_view_change(replica: &Replica, message: &StartViewChange) ->
 // start_view_change; its sender is heard; the replica speaks. Speaking, with a view-change quorum
 // heard: the primary tries to begin the view, another replica sends its statement to the primary. After
 // an `Err` the disk has had its calls up to the stop; of replica and outputs nothing is said.
-#[tactic(auto, using(vr_journal::proofs::Stepping::steps, crate::proofs::Changes::later))]
+#[tactic(auto, using(vr_step::proofs::Stepping::steps, crate::proofs::Changes::later))]
 fn enter_later<D: SectorDisk>(
     replica: &mut Replica,
     alloc: Global,
@@ -79,7 +79,7 @@ fn enter_later<D: SectorDisk>(
 // primary tries to begin the view, another replica sends its statement to the primary. With fewer heard
 // nothing more is done. After an `Err` the disk has had its calls up to the stop; of replica and
 // outputs nothing is said.
-#[tactic(auto, using(vr_journal::proofs::Stepping::steps, crate::proofs::Changes::heard))]
+#[tactic(auto, using(vr_step::proofs::Stepping::steps, crate::proofs::Changes::heard))]
 fn hear_one<D: SectorDisk>(
     replica: &mut Replica,
     alloc: Global,
@@ -103,7 +103,7 @@ fn hear_one<D: SectorDisk>(
 /// sends its statement to the primary. Where it is `Ignored` or below the view (`passes`), it answers
 /// `Ok` and leaves the very same disk. After an `Err` the disk has had its calls up to the stop; of
 /// replica and outputs nothing is said.
-#[tactic(auto, using(crate::proofs::Changes::changes, crate::proofs::Changes::means, vr_journal::proofs::Memory::some_member, vr_journal::proofs::Stepping::wants))]
+#[tactic(auto, using(crate::proofs::Changes::changes, crate::proofs::Changes::means, vr_memory::proofs::Memory::some_member, vr_step::proofs::Stepping::wants))]
 pub fn handle_start_view_change<D: SectorDisk>(
     replica: &mut Replica,
     alloc: Global,

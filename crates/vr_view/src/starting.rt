@@ -1,13 +1,13 @@
 //! The log of a view that is started: start_views, and get_views that ask for one.
 ghost use Rattle.std.specs.Prelude.{◌≡◌, ◌<◌, ◌≤◌, ◌||◌, nat_lt};
 ghost use Rattle.vr_base.specs.Bytes.{name_of};
-ghost use Rattle.vr_journal.specs.Ready.{HasWindow, IsReady};
+ghost use Rattle.vr_memory.specs.Ready.{HasWindow, IsReady};
 ghost use Rattle.vr_msg.specs.Spelling.{AreHeaders};
-ghost use Rattle.vr_journal.specs.Deciding.{first_of, get_view_table, log_of, start_view_table};
-ghost use Rattle.vr_journal.specs.Replica.{last_view, window_end};
-ghost use Rattle.vr_journal.specs.Rules.{acknowledge_stored, on_get_view, on_start_view};
-ghost use Rattle.vr_journal.specs.Steps.{◌⨾◌};
-ghost use Rattle.vr_journal.specs.Words.{apply, take};
+ghost use Rattle.vr_rules.specs.Deciding.{first_of, get_view_table, log_of, start_view_table};
+ghost use Rattle.vr_rules.specs.Replica.{last_view, window_end};
+ghost use Rattle.vr_rules.specs.Rules.{acknowledge_stored, on_get_view, on_start_view};
+ghost use Rattle.vr_rules.specs.Steps.{◌⨾◌};
+ghost use Rattle.vr_rules.specs.Words.{apply, take};
 ghost use Rattle.vr_view.specs.Logs.{MayTake};
 ghost use Rattle.vr_view.specs.Messages.{IsStarting};
 ghost use Rattle.vr_view.specs.Named.{start_rule, view_rule};
@@ -66,7 +66,7 @@ fn is_out_of_reach(replica: &Replica, log: &Log) -> bool
 /// another replica; `Taken` where its log may be taken (`may_take`). Then `SyncAsked` where its log is
 /// newer, and ends past the window or begins above the commit number. Both ask, too, that the replica
 /// isn't that primary; else `Ignored`. Headers that are taken have the values of the program.
-#[tactic(auto, using(vr_journal::proofs::Memory::window_of, vr_journal::proofs::Memory::some_member), unfolding(vr_journal::specs::Deciding::first_of))]
+#[tactic(auto, using(vr_memory::proofs::Memory::window_of, vr_memory::proofs::Memory::some_member), unfolding(vr_rules::specs::Deciding::first_of))]
 pub fn decide_start_view(replica: &Replica, start: &StartView) -> StartRule
     requires { IsReady replica.now }
     ensures rule { first_of (start_view_table name_of start.now replica.now) ≡ start_rule result }
@@ -89,7 +89,7 @@ pub fn decide_start_view(replica: &Replica, start: &StartView) -> StartRule
 
 /// `ViewGiven` where the message is of this version and group and from another replica, and the replica
 /// leads a view that is at least the asked one. Else `Ignored`.
-#[tactic(auto, unfolding(vr_journal::specs::Deciding::first_of))]
+#[tactic(auto, unfolding(vr_rules::specs::Deciding::first_of))]
 pub fn decide_get_view(replica: &Replica, get: &GetView) -> ViewRule
     requires { 0 < replica.now.n }
     ensures { first_of (get_view_table get.now replica.now) ≡ view_rule result }
@@ -107,7 +107,7 @@ pub fn decide_get_view(replica: &Replica, get: &GetView) -> ViewRule
 // ascending, if `Here`, a prepare_ok goes to the primary. Then what is committed is applied. `MayTake`:
 // the log is newer, fits and is a chain. After an `Err` the disk has had its calls up to the stop; of
 // replica and outputs nothing is said.
-#[tactic(auto, using(vr_journal::proofs::Stepping::steps, crate::proofs::Takes::taken_low, crate::proofs::Choices::head_small, vr_journal::proofs::Acks::told_to))]
+#[tactic(auto, using(vr_step::proofs::Stepping::steps, crate::proofs::Takes::taken_low, crate::proofs::Choices::head_small, vr_journal::proofs::Acks::told_to))]
 fn follow<D: SectorDisk>(
     replica: &mut Replica,
     alloc: Global,
@@ -131,7 +131,7 @@ fn follow<D: SectorDisk>(
 /// Rule 35: else, where it is newer, and ends past the window or begins above the commit number, one
 /// get_sync of its view goes to the sender. Else nothing is done. After an `Err` the disk has had its
 /// calls up to the stop; of replica and outputs nothing is said.
-#[tactic(auto, using(crate::proofs::Starts::starts, crate::proofs::Starts::may_follow, crate::proofs::Starts::view_started, vr_journal::proofs::Stepping::wants))]
+#[tactic(auto, using(crate::proofs::Starts::starts, crate::proofs::Starts::may_follow, crate::proofs::Starts::view_started, vr_step::proofs::Stepping::wants))]
 pub fn handle_start_view<D: SectorDisk>(
     replica: &mut Replica,
     alloc: Global,
@@ -157,7 +157,7 @@ pub fn handle_start_view<D: SectorDisk>(
 /// sender. Else, and where the message isn't of this version and group and from another replica,
 /// nothing is put out. Replica and disk are left as they are; after an `Err` nothing is said of
 /// outputs.
-#[tactic(auto, using(crate::proofs::Starts::gives, vr_journal::proofs::Memory::some_member, vr_journal::proofs::Stepping::wants))]
+#[tactic(auto, using(crate::proofs::Starts::gives, vr_memory::proofs::Memory::some_member, vr_step::proofs::Stepping::wants))]
 pub fn handle_get_view<D: SectorDisk>(
     replica: &Replica,
     alloc: Global,

@@ -1,12 +1,12 @@
 //! A replica states its log for a view: do_view_changes.
 ghost use Rattle.std.specs.Prelude.{◌≡◌, ◌<◌, ◌≤◌, ◌+◌, ◌∷◌, [], IfOk, OnOk};
 ghost use Rattle.vr_msg.specs.Spelling.{AreHeaders, known};
-ghost use Rattle.vr_journal.specs.Deciding.{do_view_change_table, first_of};
-ghost use Rattle.vr_journal.specs.Rule.TheVariants.{Stated};
-ghost use Rattle.vr_journal.specs.Replica.{last_view};
-ghost use Rattle.vr_journal.specs.Rules.{on_do_view_change, with_statement};
-ghost use Rattle.vr_journal.specs.Steps.{◌⨾◌, change};
-ghost use Rattle.vr_journal.specs.Words.{try};
+ghost use Rattle.vr_rules.specs.Deciding.{do_view_change_table, first_of};
+ghost use Rattle.vr_rules.specs.declared.rule.Rule.TheVariants.{Stated};
+ghost use Rattle.vr_rules.specs.Replica.{last_view};
+ghost use Rattle.vr_rules.specs.Rules.{on_do_view_change, with_statement};
+ghost use Rattle.vr_rules.specs.Steps.{◌⨾◌, change};
+ghost use Rattle.vr_rules.specs.Words.{try};
 ghost use Rattle.vr_view.specs.Messages.{IsStating};
 ghost use Rattle.vr_view.specs.Named.{state_rule};
 ghost use Rattle.vr_view.specs.Entering.{entering};
@@ -36,7 +36,7 @@ pub enum StateRule {
 /// The first that holds: `Ignored` unless the message is of this version and group and from another
 /// replica; `StatedBefore` below the view. Also `StatedBefore` where the replica isn't the primary of
 /// the message's view. Then `StatedLate` where that is its own view, and started; else `Stated`.
-#[tactic(auto, unfolding(vr_journal::specs::Deciding::first_of))]
+#[tactic(auto, unfolding(vr_rules::specs::Deciding::first_of))]
 pub fn decide_do_view_change(replica: &Replica, message: &DoViewChange) -> StateRule
     requires { 0 < replica.now.n }
     ensures { first_of (do_view_change_table message.now replica.now) ≡ state_rule result }
@@ -158,7 +158,7 @@ fn enter_up_to<D: SectorDisk>(
 // place of the sender's; the replica tries to begin its view (`try`). Entering saves, and tells each
 // other replica. After an `Err` the disk has had its calls up to the stop; of replica and outputs
 // nothing is said.
-#[tactic(auto, using(vr_journal::proofs::Stepping::steps, crate::proofs::States::states))]
+#[tactic(auto, using(vr_step::proofs::Stepping::steps, crate::proofs::States::states))]
 fn keep<D: SectorDisk>(
     replica: &mut Replica,
     alloc: Global,
@@ -184,7 +184,7 @@ fn keep<D: SectorDisk>(
 /// It tries: where the statements decide on a log that may be taken, the view begins with it; else
 /// nothing or one `wait` line is put out. After an `Err` the disk has had its calls up to the stop; of
 /// replica and outputs nothing is said.
-#[tactic(auto, using(crate::proofs::States::rules, vr_journal::proofs::Memory::some_member, vr_journal::proofs::Stepping::wants))]
+#[tactic(auto, using(crate::proofs::States::rules, vr_memory::proofs::Memory::some_member, vr_step::proofs::Stepping::wants))]
 pub fn handle_do_view_change<D: SectorDisk>(
     replica: &mut Replica,
     alloc: Global,

@@ -1,9 +1,9 @@
 //! Try: the primary of a view that isn't started chooses the log with which it begins.
 ghost use Rattle.std.specs.Prelude.{◌≡◌, ◌<◌, ◌≤◌, ◌+◌, ◌^◌, ◌++◌, IfOk, OnOk, ◌&&◌, if◌then◌else◌, length, nat_le, nat_lt, not};
 ghost use Rattle.vr_base.specs.Replicas.{size};
-ghost use Rattle.vr_journal.specs.Ready.{IsReady};
-ghost use Rattle.vr_journal.specs.Replica.{is_alone, is_primary, is_started, last_view, view_change};
-ghost use Rattle.vr_journal.specs.Words.{advance, apply, begin_view, choose_line, chosen_log, decided, log_end, obey_choice, prepare_again, speak, stated, try, try_log};
+ghost use Rattle.vr_memory.specs.Ready.{IsReady};
+ghost use Rattle.vr_rules.specs.Replica.{is_alone, is_primary, is_started, last_view, view_change};
+ghost use Rattle.vr_rules.specs.Words.{advance, apply, begin_view, choose_line, chosen_log, decided, log_end, obey_choice, prepare_again, speak, stated, try, try_log};
 ghost use Rattle.vr_view.specs.Logs.{IsTaught, MayTake};
 ghost use Rattle.vr_journal.specs.Telling.{each_to};
 ghost use Rattle.vr_journal.specs.Acts.{Acts, MayAct, MaySend};
@@ -138,7 +138,7 @@ fn apply_log<D: SectorDisk>(
 // to each other replica; one that doesn't read becomes `Lost`. Then what is committed is applied; in a
 // group of one what is `Here` counts as committed first. After an `Err` the disk has had its calls up
 // to the stop; of replica and outputs nothing is said.
-#[tactic(auto, using(vr_journal::proofs::Stepping::steps, crate::proofs::Takes::taken_low, crate::proofs::Choices::head_small, crate::proofs::Choices::begins))]
+#[tactic(auto, using(vr_step::proofs::Stepping::steps, crate::proofs::Takes::taken_low, crate::proofs::Choices::head_small, crate::proofs::Choices::begins))]
 fn begin_view<D: SectorDisk>(
     replica: &mut Replica,
     alloc: Global,
@@ -163,7 +163,7 @@ fn begin_view<D: SectorDisk>(
 // with the log's head is put out, and nothing else is done. `IsTaught`: the headers are those of
 // entries of the group, of a view that may be entered. After an `Err` the disk has had its calls up to
 // the stop; of replica and outputs nothing is said.
-#[tactic(auto, using(vr_journal::proofs::Stepping::steps, crate::proofs::Takes::may_take_now, vr_journal::proofs::Memory::window_of), unfolding(vr_journal::specs::Words::try_log))]
+#[tactic(auto, using(vr_step::proofs::Stepping::steps, crate::proofs::Takes::may_take_now, vr_memory::proofs::Memory::window_of), unfolding(vr_rules::specs::Words::try_log))]
 fn try_log<D: SectorDisk>(
     replica: &mut Replica,
     alloc: Global,
@@ -199,7 +199,7 @@ fn are_too_few(replica: &Replica) -> bool
 // `wait` line with its op. An end: where the chosen log may be taken, the view begins with it
 // (`begin_view`); else one `wait` line with the log's head. After an `Err` the disk has had its calls
 // up to the stop; of replica and outputs nothing is said.
-#[tactic(auto, using(crate::proofs::Choices::choices, crate::proofs::Choices::chosen_taught, vr_journal::proofs::Memory::window_of, vr_journal::proofs::Stepping::wants))]
+#[tactic(auto, using(crate::proofs::Choices::choices, crate::proofs::Choices::chosen_taught, vr_memory::proofs::Memory::window_of, vr_step::proofs::Stepping::wants))]
 fn choose_log<D: SectorDisk>(
     replica: &mut Replica,
     alloc: Global,
@@ -239,7 +239,7 @@ fn may_try(replica: &Replica) -> bool
 /// decide on a log that may be taken, the view begins with it: `choose` line, take and save,
 /// start_views, prepares, apply. Where that may not be taken, one `wait` line with its head is put out.
 /// After an `Err` the disk has had its calls up to the stop; of replica and outputs nothing is said.
-#[tactic(auto, using(crate::proofs::Choices::tries, vr_journal::proofs::Memory::some_member))]
+#[tactic(auto, using(crate::proofs::Choices::tries, vr_memory::proofs::Memory::some_member))]
 pub fn try_view<D: SectorDisk>(
     replica: &mut Replica,
     alloc: Global,
@@ -271,7 +271,7 @@ fn is_heard(replica: &Replica) -> bool
 /// (`try`), with the log that the statements decide on, and another replica sends one do_view_change
 /// with its statement to the primary. After an `Err` the disk has had its calls up to the stop; of
 /// replica and outputs nothing is said.
-#[tactic(auto, using(vr_journal::proofs::Stepping::steps, vr_journal::proofs::Memory::some_member), unfolding(vr_journal::specs::Words::speak))]
+#[tactic(auto, using(vr_step::proofs::Stepping::steps, vr_memory::proofs::Memory::some_member), unfolding(vr_rules::specs::Words::speak))]
 pub fn speak<D: SectorDisk>(
     replica: &mut Replica,
     alloc: Global,

@@ -13,24 +13,24 @@ use Rattle.vr_header.specs.Same.{same_header}
 use Rattle.vr_header.proofs.SameHeaders.{same_header_is, same_header_of}
 use Rattle.vr_msg.specs.declared.output.Output.{Output}
 use Rattle.vr_rings.specs.Slots.{header_in, whole_in}
-use Rattle.vr_journal.specs.Replica.{Replica, part_at, version}
-use Rattle.vr_journal.specs.Sectors.{block_in, sectors_by}
-use Rattle.vr_journal.specs.Steps.{Rewrite, Step, Word, ◌⨾◌, by, change, does, quiet, reading, when}
-use Rattle.vr_journal.specs.Words.{blocks_of, entry_of, header_read, is_loaded, lost, mend_header, op_of_slot, or_lost, place_now, visit, visit_block, visit_place, visit_read, visit_slot, with_cursor, with_entry, with_entry_at, with_worn}
-use Rattle.vr_journal.specs.Halt.{Halt}
-use Rattle.vr_journal.specs.Halt.TheVariants.{DiskFault}
-use Rattle.vr_journal.specs.Does.{Does, LeftBy, Performs}
-use Rattle.vr_journal.proofs.Versions.{lost_stays}
-use Rattle.vr_journal.proofs.Stepping.{does_by, does_change, does_effect, does_effect_stopped, does_quiet, does_stopped, does_then}
+use Rattle.vr_rules.specs.Replica.{Replica, part_at, version}
+use Rattle.vr_rules.specs.Sectors.{block_in, sectors_by}
+use Rattle.vr_rules.specs.Steps.{Rewrite, Step, Word, ◌⨾◌, by, change, does, quiet, reading, when}
+use Rattle.vr_rules.specs.Words.{blocks_of, entry_of, header_read, is_loaded, lost, mend_header, op_of_slot, or_lost, place_now, visit, visit_block, visit_place, visit_read, visit_slot, with_cursor, with_entry, with_entry_at, with_worn}
+use Rattle.vr_disk.specs.declared.fault.Halt.{Halt}
+use Rattle.vr_disk.specs.declared.fault.Halt.TheVariants.{DiskFault}
+use Rattle.vr_step.specs.Does.{Does, LeftBy, Performs}
+use Rattle.vr_rules.proofs.Versions.{lost_stays}
+use Rattle.vr_step.proofs.Stepping.{does_by, does_change, does_effect, does_effect_stopped, does_quiet, does_stopped, does_then}
 use Rattle.vr_ckpt.specs.Blocks.{named}
 use Rattle.vr_ckpt.specs.Grid.{block_reading, named_at}
 use Rattle.vr_ckpt.specs.declared.name.Name.{Name}
-use Rattle.vr_journal.proofs.Keeping.{sound_alike}
-use Rattle.vr_journal.proofs.SavesWell.{savable_alike}
+use Rattle.vr_rules.proofs.Keeping.{sound_alike}
+use Rattle.vr_rules.proofs.SavesWell.{savable_alike}
 use Rattle.vr_journal.specs.Effects.{rewrites}
 use Rattle.vr_super.specs.Calls.{mend_calls}
 use Rattle.vr_super.specs.Copies.{SuperValue}
-use Rattle.vr_journal.specs.Ready.{IsReady}
+use Rattle.vr_memory.specs.Ready.{IsReady}
 use Rattle.vr_visit.specs.Visits.{mends, found_at, good_or_mended, reads_as, stored_as}
 use Rattle.vr_visit.specs.declared.found.Visit.{Visit}
 use Rattle.vr_visit.specs.declared.found.Visit.TheVariants as seen

@@ -9,10 +9,10 @@ use Rattle.vr_header.specs.Same.{same_header}
 use Rattle.vr_visit.specs.declared.found.Visit.{Visit}
 use Rattle.vr_visit.specs.declared.found.Visit.TheVariants as visit
 use Rattle.vr_rings.specs.Slots.{header_in}
-use Rattle.vr_journal.specs.Replica.{Replica}
-use Rattle.vr_journal.specs.Sectors.{sectors_by}
-use Rattle.vr_journal.specs.Steps.{Effect, Mend}
-use Rattle.vr_journal.specs.Words.{entry_of}
+use Rattle.vr_rules.specs.Replica.{Replica}
+use Rattle.vr_rules.specs.Sectors.{sectors_by}
+use Rattle.vr_rules.specs.Steps.{Effect, Mend}
+use Rattle.vr_rules.specs.Words.{entry_of}
 
 -- as this header
 abbrev pub reads_as : Header → Option Header → Bool

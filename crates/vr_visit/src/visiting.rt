@@ -2,15 +2,15 @@
 ghost use Rattle.std.specs.Prelude.{◌≡◌, ◌%◌, IfErr, IfOk, IfSome, Some, is_ok};
 ghost use Rattle.vr_base.specs.Causes.{HasCause};
 ghost use Rattle.vr_header.specs.declared.part.Part.TheVariants.{Here};
-ghost use Rattle.vr_journal.specs.Ready.{IsReady};
+ghost use Rattle.vr_memory.specs.Ready.{IsReady};
 ghost use Rattle.vr_visit.specs.Visits.{found_at, good_or_mended, mends, reads_as, stored_as};
 ghost use Rattle.vr_rings.specs.Slots.{header_in};
-ghost use Rattle.vr_journal.specs.Replica.{part_at, version};
-ghost use Rattle.vr_journal.specs.Sectors.{sectors_by};
-ghost use Rattle.vr_journal.specs.Steps.{reading};
-ghost use Rattle.vr_journal.specs.Words.{entry_of, header_read, mend_header, op_of_slot, place_now, visit, visit_block, visit_place, visit_slot};
-ghost use Rattle.vr_journal.specs.Does.{Performs, done};
-ghost use Rattle.vr_journal.specs.Halt.TheVariants as halt;
+ghost use Rattle.vr_rules.specs.Replica.{part_at, version};
+ghost use Rattle.vr_rules.specs.Sectors.{sectors_by};
+ghost use Rattle.vr_rules.specs.Steps.{reading};
+ghost use Rattle.vr_rules.specs.Words.{entry_of, header_read, mend_header, op_of_slot, place_now, visit, visit_block, visit_place, visit_slot};
+ghost use Rattle.vr_step.specs.Does.{Performs, done};
+ghost use Rattle.vr_disk.specs.declared.fault.Halt.TheVariants as halt;
 ghost use Rattle.vr_journal.specs.Acts.{Acts, Untouched};
 
 use crate::found::Visit;
@@ -63,7 +63,7 @@ fn mend_header<D: SectorDisk>(
 // The op of this header is `Here`. Where its slot doesn't read as the whole entry, the Part becomes `Lost`, and nothing is written: `Lost`.
 // Where it does, its header sector is written anew if it reads as anything else: `Mended`, else `Good`. An `Err` is `DiskFault`, where that
 // write failed; nothing is said of the replica then. Nothing is put out.
-#[tactic(auto, using(crate::proofs::Visits::slot_lost, crate::proofs::Visits::found_stored, crate::proofs::Visits::found_lost, vr_journal::proofs::Memory::readies))]
+#[tactic(auto, using(crate::proofs::Visits::slot_lost, crate::proofs::Visits::found_stored, crate::proofs::Visits::found_lost, vr_memory::proofs::Memory::readies))]
 fn visit_stored<D: SectorDisk>(
     replica: &mut Replica,
     disk: &mut D,
@@ -87,7 +87,7 @@ fn visit_stored<D: SectorDisk>(
 /// Where the Part of this op is `Here` and its slot doesn't read as the whole entry, it becomes `Lost`, and nothing is written: `Lost`.
 /// Where it does read, its header sector is written anew if it reads as anything else: `Mended`, else `Good`. Where the Part isn't `Here`,
 /// nothing is done: `Nothing`. An `Err` is `DiskFault`, where that write failed; nothing is said of the replica then.
-#[tactic(auto, using(crate::proofs::Visits::slot_nothing, crate::proofs::Visits::found_here, crate::proofs::Visits::found_nothing, vr_journal::proofs::Memory::here_op))]
+#[tactic(auto, using(crate::proofs::Visits::slot_nothing, crate::proofs::Visits::found_here, crate::proofs::Visits::found_nothing, vr_memory::proofs::Memory::here_op))]
 pub fn visit_slot<D: SectorDisk>(
     replica: &mut Replica,
     disk: &mut D,
@@ -118,7 +118,7 @@ fn mend_value<D: SectorDisk>(replica: &Replica, disk: &mut D) -> Result<(), Disk
 
 // Where the block of this name doesn't read whole, its address is in the grid, and no worn one has that address, it becomes the last of the
 // worn. Else nothing changes. Nothing is written or put out; after an `Err` nothing is said of the replica.
-#[tactic(auto, using(crate::proofs::Visits::block_bad, crate::proofs::Visits::block_good, crate::proofs::Visits::ready_worn_after, vr_journal::proofs::Stepping::does_no_memory))]
+#[tactic(auto, using(crate::proofs::Visits::block_bad, crate::proofs::Visits::block_good, crate::proofs::Visits::ready_worn_after, vr_step::proofs::Stepping::does_no_memory))]
 fn visit_block<D: SectorDisk>(
     replica: &mut Replica,
     disk: &mut D,
@@ -138,7 +138,7 @@ fn visit_block<D: SectorDisk>(
 // doesn't, that is written. At 64 the superblock's copies that don't read as the value last saved are written. From 65 on a block of the
 // checkpoint, root first: one that doesn't read becomes worn. Past those nothing is done, and nothing is ever put out. After an `Err` the
 // disk has had its calls up to the stop; of replica and outputs nothing is said.
-#[tactic(auto, using(crate::proofs::Visits::place_slot, crate::proofs::Visits::place_value, crate::proofs::Visits::place_block, crate::proofs::Visits::block_none, vr_journal::proofs::Stepping::does_effect, vr_journal::proofs::Stepping::does_effect_stopped))]
+#[tactic(auto, using(crate::proofs::Visits::place_slot, crate::proofs::Visits::place_value, crate::proofs::Visits::place_block, crate::proofs::Visits::block_none, vr_step::proofs::Stepping::does_effect, vr_step::proofs::Stepping::does_effect_stopped))]
 fn visit_place<D: SectorDisk>(
     replica: &mut Replica,
     disk: &mut D,

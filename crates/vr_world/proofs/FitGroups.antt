@@ -10,7 +10,7 @@ use Rattle.vr_header.specs.declared.part.Part.{Part}
 use Rattle.vr_header.specs.declared.part.Part.TheVariants.{Here, Lost, Wanted, Unknown, Nothing}
 use Rattle.vr_msg.specs.declared.event.Event.{Event}
 use Rattle.vr_msg.specs.declared.output.Output.{Output}
-use Rattle.vr_lie.specs.Copies.{SuperValue, IsGood}
+use Rattle.vr_super.specs.Copies.{SuperValue, IsGood}
 use Rattle.vr_rules.specs.Replica.{Replica, version}
 use Rattle.vr_rules.specs.Steps.{Effect, Write, Rewrite, Save, Mend, Checkpoint, PutBlock, Say, Step, ◌⨾◌, after_all, does, outputs}
 use Rattle.vr_rules.specs.Opening.{AreKinds, IsKind, blank, first_value, fresh, opening, recover_parts}

@@ -1,7 +1,7 @@
 -- Sectors that may lie are a disk on which what is read is as the program has it.
 use Rattle.std.proofs.Common.{ℕ, ◌≡◌, ◌∙◌, refl, sym, ap, List, [], ◌∷◌}
 use Rattle.vr_disk.specs.DiskState.{IsFace}
-use Rattle.vr_lie.specs.Slots.{header_in, whole_in}
+use Rattle.vr_rings.specs.Slots.{header_in, whole_in}
 use Rattle.vr_rules.specs.Steps.{Effect, after_all}
 use Rattle.vr_rules.specs.Sectors.{calls_by, sectors_by}
 use Rattle.vr_rules.specs.Fit.{ReadsWell, IsProgram}
@@ -9,9 +9,9 @@ use Rattle.vr_rules.proofs.SavesSectors.{sectors_fit}
 use Rattle.vr_rules.proofs.FitOpening.{headers_of}
 use Rattle.vr_rules.proofs.FitLoads.{block_size, missing_names, some_missing}
 use Rattle.vr_rules.proofs.FitTables.{loaded_tables, saved_tables}
+use Rattle.vr_rules.proofs.FitDisks.{clean_face, clean_reads}
 use Rattle.vr_world.specs.Lying.{Lying, lying, after_calls}
 use Rattle.vr_world.specs.GroupFit.{LiesFit}
-use Rattle.vr_world.proofs.FitDisks.{clean_face, clean_reads}
 
 -- what lies has the face of its sectors
 pub same_face : (es : List Effect) (d : Lying) → (after_all lying d es).face ≡ after_all (sectors_by d.version) d.face es

@@ -1,6 +1,6 @@
 -- An opening as the moves of a group have it, in two: what it mends and finds, and what comes of it.
 use Rattle.std.proofs.Common.{◌≡◌, ◌∙◌, refl}
-use Rattle.vr_lie.specs.Copies.{SuperValue}
+use Rattle.vr_super.specs.Copies.{SuperValue}
 use Rattle.vr_rules.specs.Steps.{Step, ◌⨾◌}
 use Rattle.vr_rules.specs.Opening.{blank, mending, opening, resuming}
 use Rattle.vr_rules.proofs.Halves.{openings_go_on}

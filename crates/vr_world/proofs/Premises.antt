@@ -7,8 +7,8 @@ use Rattle.std.proofs.lemmas.List.FromFn.{get_or-range_with_len, length-range_wi
 use Rattle.std.proofs.lemmas.Slice.Eq.{bytes_eq-Decides}
 use Rattle.vr_base.specs.declared.mode.Mode.{Mode}
 use Rattle.vr_disk.specs.DiskState.{Face, IsFace}
-use Rattle.vr_lie.specs.Opens.{good_copies, mode_in, opened}
-use Rattle.vr_lie.specs.Held.{Holds}
+use Rattle.vr_super.specs.Opens.{good_copies, mode_in, opened}
+use Rattle.vr_rings.specs.Held.{Holds}
 use Rattle.vr_lie.specs.Faults.{KeepsPremise, held_at}
 use Rattle.vr_lie.specs.Table.{holds}
 use Rattle.vr_lie.proofs.Opening.{same_opened, same_opens}

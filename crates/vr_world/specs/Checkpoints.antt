@@ -1,9 +1,9 @@
 -- The checkpoints of a log: every 32 entries the state that they make is written, over the table of the checkpoint before.
 use Rattle.std.specs.Prelude.{ℕ, zero, suc, ◌-◌, ◌<◌, ◌≤◌, ◌≡◌, true, List, length, take, if◌then◌else◌}
 use Rattle.vr_header.specs.Made.{Whole}
-use Rattle.vr_ckpt.specs.Folds.{state_after}
-use Rattle.vr_ckpt.specs.StateTexts.{texts_of}
-use Rattle.vr_ckpt.specs.State.{State}
+use Rattle.vr_state.specs.Folds.{state_after}
+use Rattle.vr_state.specs.StateTexts.{texts_of}
+use Rattle.vr_state.specs.declared.state.State.{State}
 use Rattle.vr_ckpt.specs.declared.name.Name.{Name}
 use Rattle.vr_ckpt.specs.Places as places
 use Rattle.vr_ckpt.specs.Saves.{saved_checkpoint, table_of}

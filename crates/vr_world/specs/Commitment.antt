@@ -6,10 +6,10 @@ use Rattle.vr_base.specs.Replicas.{has_replica, size}
 use Rattle.vr_header.specs.declared.header.Header.{Header}
 use Rattle.vr_header.specs.Made.{Whole}
 use Rattle.vr_header.specs.Names.{header_name, root_header, StandsOn}
-use Rattle.vr_ckpt.specs.Sessions.{checked}
-use Rattle.vr_ckpt.specs.SessionAnswer.{SessionAnswer}
-use Rattle.vr_ckpt.specs.SessionAnswer.TheVariants as answer
-use Rattle.vr_ckpt.specs.Folds.{state_after, answer_at}
+use Rattle.vr_state.specs.Sessions.{checked}
+use Rattle.vr_state.specs.declared.session.SessionAnswer.{SessionAnswer}
+use Rattle.vr_state.specs.declared.session.SessionAnswer.TheVariants as answer
+use Rattle.vr_state.specs.Folds.{state_after, answer_at}
 use Rattle.vr_msg.specs.declared.frame.Frame.{Frame}
 use Rattle.vr_msg.specs.declared.frame.Frame.TheVariants as frame
 use Rattle.vr_msg.specs.declared.frame.Prepare.{Prepare}

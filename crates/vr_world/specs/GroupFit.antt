@@ -6,7 +6,7 @@ use Rattle.vr_disk.specs.DiskState.{IsFace}
 use Rattle.vr_header.specs.declared.header.Header.{Header}
 use Rattle.vr_header.specs.Made.{IsEntryHeader}
 use Rattle.vr_header.specs.Spelling.{IsHeader}
-use Rattle.vr_lie.specs.Copies.{SuperValue, IsGood}
+use Rattle.vr_super.specs.Copies.{SuperValue, IsGood}
 use Rattle.vr_rules.specs.Replica.{Replica}
 use Rattle.vr_world.specs.Lying.{Lying, lying}
 use Rattle.vr_rules.specs.Sound.{IsSound, IsSavable}

@@ -11,8 +11,8 @@ use Rattle.vr_ckpt.specs.Saves.{saved_checkpoint}
 use Rattle.vr_disk.specs.DiskState as disk
 use Rattle.vr_disk.specs.DiskState.{Call, Cell, Face}
 use Rattle.vr_disk.specs.Regions.{sectors as disk_sectors}
-use Rattle.vr_lie.specs.Opens.{good_copies, mode_in, opened, opens}
-use Rattle.vr_lie.specs.Held.{held_after_all, held_cut, looked}
+use Rattle.vr_super.specs.Opens.{good_copies, mode_in, opened, opens}
+use Rattle.vr_rings.specs.Held.{held_after_all, held_cut, looked}
 use Rattle.vr_lie.specs.declared.fault.Fault.{Fault}
 use Rattle.vr_lie.specs.Faults.{faulted, held_at}
 use Rattle.vr_lie.specs.Table.{holds}

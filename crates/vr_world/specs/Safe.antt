@@ -21,9 +21,9 @@ use Rattle.vr_msg.specs.declared.output.Output.TheVariants as output
 use Rattle.vr_msg.specs.declared.reply.ReplyFields.{ReplyFields}
 use Rattle.vr_msg.specs.declared.statement.Statement.{Statement}
 use Rattle.vr_msg.specs.Choice.{IsIntact, denies, top_commit, top_view}
-use Rattle.vr_ckpt.specs.Texts.{Texts}
+use Rattle.vr_state.specs.declared.texts.Texts.{Texts}
 use Rattle.vr_world.specs.Lying.{Lying}
-use Rattle.vr_lie.specs.Slots.{whole_in}
+use Rattle.vr_rings.specs.Slots.{whole_in}
 use Rattle.vr_ckpt.specs.Blocks.{Content, block_header, block_of, named}
 use Rattle.vr_ckpt.specs.Grid.{named_at}
 use Rattle.vr_ckpt.specs.declared.name.Name.{Name}

@@ -6,7 +6,7 @@ use Rattle.vr_header.specs.declared.header.Header.{Header}
 use Rattle.vr_header.specs.declared.part.Part.{Part}
 use Rattle.vr_header.specs.declared.part.Part.TheVariants.{Here}
 use Rattle.vr_header.specs.Same.{same_header}
-use Rattle.vr_lie.specs.Copies.{SuperValue}
+use Rattle.vr_super.specs.Copies.{SuperValue}
 use Rattle.vr_rules.specs.Opening.{listed}
 use Rattle.vr_rules.specs.Replica.{Replica, parts_from}
 use Rattle.vr_rules.specs.Steps.{Effect, Save, Say, Write}

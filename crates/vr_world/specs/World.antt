@@ -1,5 +1,5 @@
 -- A group of replicas with their disks, and what the lines of a schedule do to it.
-use Rattle.vr_lie.specs.Copies.{SuperValue}
+use Rattle.vr_super.specs.Copies.{SuperValue}
 use Rattle.std.specs.Prelude.{ℕ, ◌-◌, ◌%◌, nat_le, List, [], ◌∷◌, ◌++◌, length, map, slice_get, slice_set, Option, Some, None, if◌then◌else◌, ◌==◌, max}
 use Rattle.std.specs.List.{range_with_len}
 use Rattle.std.specs.Option.{option_map_or, option_and_then}

@@ -1,5 +1,5 @@
-use Rattle.law_3_outputs.specs.Lying.{hazards}
-use Rattle.law_3_outputs.specs.World.{Begins, happen, no_world}
+use Rattle.vr_world.specs.Lying.{hazards}
+use Rattle.vr_world.specs.World.{Begins, happen, no_world}
 use Rattle.std.specs.Prelude.{◌∷◌}
 use Rattle.law_6_one_log.proofs.Fresh.{schedules_are_runs}
 use Rattle.law_6_one_log.proofs.Known.{one_log}

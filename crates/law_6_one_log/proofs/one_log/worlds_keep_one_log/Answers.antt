@@ -1,5 +1,5 @@
-use Rattle.law_3_outputs.specs.Lying.{hazards}
-use Rattle.law_3_outputs.specs.World.{happen}
+use Rattle.vr_world.specs.Lying.{hazards}
+use Rattle.vr_world.specs.World.{happen}
 use Rattle.law_4_disks.specs.Worlds.{first_world}
 use Rattle.law_6_one_log.proofs.Fresh.{worlds_are_runs}
 use Rattle.law_6_one_log.proofs.Known.{one_log}

@@ -1,4 +1,4 @@
-use Rattle.law_3_outputs.specs.Safe.{IsHashed}
+use Rattle.vr_world.specs.Safe.{IsHashed}
 use Rattle.law_6_one_log.proofs.Blocks.{loads_as}
 use Rattle.law_6_one_log.proofs.replies.checkpoints_load.Goals as goal
 

@@ -1,5 +1,5 @@
 use Rattle.std.proofs.Common.{◌≡◌, ◌++◌}
-use Rattle.vr_replica.specs.Outputs.{messages}
+use Rattle.vr_rules.specs.Outputs.{messages}
 use Rattle.vr_embed.specs.Groups.{told_lines}
 use Rattle.vr_embed.proofs.group.put_out.Given as goal
 

@@ -1,9 +1,9 @@
 use Rattle.std.proofs.Common.{[], ◌∷◌, Some, None, Ok, Err, subst}
 use Rattle.vr_msg.specs.declared.output.Output.TheVariants as output
 use Rattle.vr_lying.specs.Laws.{revived}
-use Rattle.vr_lying.specs.Lying.{hazards}
-use Rattle.vr_lying.specs.World.{starts}
-use Rattle.vr_replica.specs.Recovering.{RecoveredAny}
+use Rattle.vr_world.specs.Lying.{hazards}
+use Rattle.vr_world.specs.World.{starts}
+use Rattle.vr_opening.specs.Recovering.{RecoveredAny}
 use Rattle.vr_embed.specs.Told.{told_by}
 use Rattle.vr_embed.proofs.Acting.{acts_from, acts_gone, acts_to, recover_acts, recover_halts, recover_loses}
 use Rattle.vr_embed.proofs.member.recover_stopped.Goals as goal

@@ -1,5 +1,5 @@
 use Rattle.std.proofs.Common.{[], arith, refl}
-use Rattle.vr_lying.specs.World.{fused}
+use Rattle.vr_world.specs.World.{fused}
 use Rattle.vr_embed.proofs.Worlds.{acts_past, acts_there}
 use Rattle.vr_embed.proofs.members.cut_at.Goals as goal
 

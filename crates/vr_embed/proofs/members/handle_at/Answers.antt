@@ -1,6 +1,6 @@
 use Rattle.std.proofs.Common.{arith}
-use Rattle.vr_lying.specs.Lying.{hazards}
-use Rattle.vr_lying.specs.World.{handles}
+use Rattle.vr_world.specs.Lying.{hazards}
+use Rattle.vr_world.specs.World.{handles}
 use Rattle.vr_embed.proofs.Worlds.{acts_ok, acts_past}
 use Rattle.vr_embed.proofs.members.handle_at.Goals as goal
 

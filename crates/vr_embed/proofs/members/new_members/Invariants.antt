@@ -1,7 +1,7 @@
 use Rattle.std.proofs.Common.{map}
 use Rattle.std.specs.List.{range_with_len}
-use Rattle.vr_lying.specs.Lying.{hazards}
-use Rattle.vr_lying.specs.World.{fresh_host}
+use Rattle.vr_world.specs.Lying.{hazards}
+use Rattle.vr_world.specs.World.{fresh_host}
 use Rattle.vr_embed.specs.Groups.{ShowAll}
 use Rattle.vr_embed.specs.Members.{kind}
 use Rattle.vr_embed.proofs.members.new_members.Given as goal

@@ -1,6 +1,6 @@
 use Rattle.std.proofs.Common.{arith}
-use Rattle.vr_lying.specs.Lying.{hazards}
-use Rattle.vr_lying.specs.World.{starts}
+use Rattle.vr_world.specs.Lying.{hazards}
+use Rattle.vr_world.specs.World.{starts}
 use Rattle.vr_embed.proofs.Worlds.{acts_ok, acts_past}
 use Rattle.vr_embed.proofs.members.recover_at.Goals as goal
 

@@ -1,5 +1,5 @@
 use Rattle.std.proofs.Common.{[], ◌∷◌}
-use Rattle.vr_lying.specs.World.{Asks}
+use Rattle.vr_world.specs.World.{Asks}
 use Rattle.vr_embed.proofs.Stories.{went_on_ok}
 use Rattle.vr_embed.proofs.story.ask.Goals as goal
 

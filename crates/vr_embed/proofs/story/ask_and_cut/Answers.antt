@@ -1,5 +1,5 @@
 use Rattle.std.proofs.Common.{[], ◌∷◌}
-use Rattle.vr_lying.specs.World.{Asks, Fuses}
+use Rattle.vr_world.specs.World.{Asks, Fuses}
 use Rattle.vr_embed.proofs.Stories.{went_first_ok}
 use Rattle.vr_embed.proofs.story.ask_and_cut.Goals as goal
 

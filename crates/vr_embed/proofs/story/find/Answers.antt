@@ -1,5 +1,5 @@
 use Rattle.std.proofs.Common.{[], ◌∷◌}
-use Rattle.vr_lying.specs.World.{Starts}
+use Rattle.vr_world.specs.World.{Starts}
 use Rattle.vr_embed.proofs.Stories.{went_on_ok}
 use Rattle.vr_embed.proofs.story.find.Goals as goal
 

@@ -1,7 +1,7 @@
 use Rattle.std.proofs.Common.{◌≡◌, map}
 use Rattle.std.specs.List.{range_with_len}
-use Rattle.vr_lying.specs.Lying.{hazards}
-use Rattle.vr_lying.specs.World.{fresh_host}
+use Rattle.vr_world.specs.Lying.{hazards}
+use Rattle.vr_world.specs.World.{fresh_host}
 use Rattle.vr_group.proofs.hosts.make_hosts.Given as goal
 
 abbrev pub invariant-loop-index : goal.invariant-loop-index

@@ -1,5 +1,5 @@
 use Rattle.std.proofs.Common.{◌≡◌, ◌+◌, ◌++◌, length}
-use Rattle.vr_replica.specs.Outputs.{messages}
+use Rattle.vr_rules.specs.Outputs.{messages}
 use Rattle.vr_group.specs.Outputs.{puts_of}
 use Rattle.vr_group.proofs.outputs.put_out.Given as goal
 

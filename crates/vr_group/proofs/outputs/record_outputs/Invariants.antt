@@ -1,5 +1,5 @@
 use Rattle.std.proofs.Common.{◌≡◌, ◌++◌, drop, length}
-use Rattle.vr_replica.specs.Outputs.{messages}
+use Rattle.vr_rules.specs.Outputs.{messages}
 use Rattle.vr_text.specs.Fronts.{IsFront}
 use Rattle.vr_group.specs.Outputs.{numbered, text_of}
 use Rattle.vr_group.proofs.outputs.record_outputs.Given as goal

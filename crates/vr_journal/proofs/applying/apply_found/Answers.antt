@@ -1,6 +1,6 @@
 use Rattle.std.proofs.Common.{rules, ◌∙◌, ap}
 use Rattle.vr_memory.proofs.Memory.{may_ready, readies}
-use Rattle.vr_memory.specs.Words.{lost}
+use Rattle.vr_rules.specs.Words.{lost}
 use Rattle.vr_step.proofs.Stepping.{found_lost}
 use Rattle.vr_journal.proofs.applying.apply_found.Goals as goal
 

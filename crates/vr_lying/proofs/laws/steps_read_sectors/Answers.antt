@@ -1,6 +1,6 @@
 use Rattle.vr_lying.proofs.Rules.{a_react}
 use Rattle.vr_lying.proofs.Words.{a_opening}
-use Rattle.vr_world.specs.Opening.{blank}
+use Rattle.vr_rules.specs.Opening.{blank}
 use Rattle.vr_lying.proofs.laws.steps_read_sectors.Goals as goal
 
 pub returns : goal.returns

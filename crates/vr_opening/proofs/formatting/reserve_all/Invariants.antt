@@ -1,6 +1,6 @@
 use Rattle.std.proofs.Common.{◌≡◌}
 use Rattle.vr_disk.specs.declared.regions.TheConstants.{SLOTS}
-use Rattle.vr_journal.specs.Formatting.{reserved_headers}
+use Rattle.vr_rules.specs.Formatting.{reserved_headers}
 use Rattle.vr_opening.specs.Calls.{reserved_call, calls_from, Making}
 use Rattle.vr_opening.proofs.formatting.reserve_all.Given as goal
 

@@ -1,5 +1,5 @@
 use Rattle.std.proofs.Common.{◌≡◌}
-use Rattle.vr_journal.specs.Formatting.{zero_prepares}
+use Rattle.vr_rules.specs.Formatting.{zero_prepares}
 use Rattle.vr_opening.specs.Calls.{prepares_end, zero_call, calls_from, Making}
 use Rattle.vr_opening.proofs.formatting.zero_prepares.Given as goal
 

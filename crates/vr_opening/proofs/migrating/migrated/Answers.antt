@@ -2,7 +2,7 @@ use Rattle.std.proofs.Common.{◌∙◌, ◌++◌, List, [], ap}
 use Rattle.vr_header.specs.declared.header.Header.{Header}
 use Rattle.vr_super.specs.Copies.{SuperValue}
 use Rattle.vr_super.specs.declared.fields.Fields.{Fields}
-use Rattle.vr_journal.specs.Migrating.{migrated}
+use Rattle.vr_rules.specs.Migrating.{migrated}
 use Rattle.vr_opening.proofs.Moves.{saved_good}
 use Rattle.vr_opening.proofs.migrating.migrated.Goals as goal
 

@@ -1,6 +1,6 @@
 use Rattle.std.proofs.Common.{◌≡◌, drop}
 use Rattle.std.specs.List.{list_any}
-use Rattle.vr_journal.specs.Opening.{was_stored}
+use Rattle.vr_rules.specs.Opening.{was_stored}
 use Rattle.vr_opening.proofs.opening.is_stored_from.Given as goal
 
 abbrev pub invariant-loop-i : goal.invariant-loop-i

@@ -1,5 +1,5 @@
 use Rattle.std.proofs.Common.{◌≤◌, subst, sym}
-use Rattle.vr_journal.specs.Replica.{Replica}
+use Rattle.vr_rules.specs.Replica.{Replica}
 use Rattle.vr_opening.proofs.Olds.{old_window}
 use Rattle.vr_opening.proofs.opening.recover_old.Goals as goal
 

@@ -1,6 +1,6 @@
 use Rattle.std.proofs.Common.{◌≡◌, drop}
 use Rattle.std.specs.Prelude.{find}
-use Rattle.vr_journal.specs.Deciding.{is_wanted}
+use Rattle.vr_rules.specs.Deciding.{is_wanted}
 use Rattle.vr_repair.specs.Repairs.{is_block}
 use Rattle.vr_repair.proofs.wanting.find_wanted.Given as goal
 

@@ -2,7 +2,8 @@
 use Rattle.std.proofs.Common.{◌≡◌, ◌∙◌, rules, refl, sym, ap, subst}
 use Rattle.std.specs.List.Sorted.{IsSorted}
 use Rattle.std.specs.Ordering.{nat_cmp}
-use Rattle.vr_state.specs.Finite.{put, IsMap}
+use Rattle.std.specs.FinMap.Entries.{put}
+use Rattle.vr_state.specs.Finite.{IsMap}
 use Rattle.vr_state.proofs.Lookups.{inserted_is_put}
 use Rattle.vr_state.proofs.session_table.insert.Goals as goal
 

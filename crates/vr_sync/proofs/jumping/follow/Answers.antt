@@ -1,8 +1,8 @@
 use Rattle.std.proofs.Common.{rules}
 use Rattle.vr_base.specs.Bytes.{name_of}
-use Rattle.vr_journal.specs.Rules.{acknowledge_stored}
-use Rattle.vr_journal.specs.Words.{jump}
-use Rattle.vr_journal.proofs.Stepping.{does_then}
+use Rattle.vr_rules.specs.Rules.{acknowledge_stored}
+use Rattle.vr_rules.specs.Words.{jump}
+use Rattle.vr_step.proofs.Stepping.{does_then}
 use Rattle.vr_journal.specs.Telling.{each_to}
 use Rattle.vr_journal.proofs.Acks.{told}
 use Rattle.vr_sync.proofs.jumping.follow.Goals as goal

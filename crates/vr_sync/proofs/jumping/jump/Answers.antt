@@ -1,4 +1,4 @@
-use Rattle.vr_journal.proofs.Memory.{stays_ok}
+use Rattle.vr_memory.proofs.Memory.{stays_ok}
 use Rattle.vr_sync.proofs.Jumps.{view_jumped}
 use Rattle.vr_sync.proofs.jumping.jump.Goals as goal
 

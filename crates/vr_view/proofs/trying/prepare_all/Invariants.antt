@@ -1,6 +1,6 @@
 use Rattle.std.proofs.Common.{◌≡◌}
-use Rattle.vr_journal.specs.Words.{prepare_again}
-use Rattle.vr_journal.specs.Ready.{IsReady}
+use Rattle.vr_rules.specs.Words.{prepare_again}
+use Rattle.vr_memory.specs.Ready.{IsReady}
 use Rattle.vr_journal.proofs.Goes.{GoesOver}
 use Rattle.vr_view.proofs.trying.prepare_all.Given as goal
 

@@ -1,5 +1,5 @@
 use Rattle.std.proofs.Common.{rules, ◌≡◌, Err}
-use Rattle.vr_journal.specs.Halt.TheVariants.{DiskFault}
+use Rattle.vr_disk.specs.declared.fault.Halt.TheVariants.{DiskFault}
 use Rattle.vr_visit.proofs.Visits.{header_good, header_mended, header_stopped}
 use Rattle.vr_visit.proofs.visiting.mend_header.Goals as goal
 

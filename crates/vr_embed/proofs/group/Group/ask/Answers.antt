@@ -1,4 +1,4 @@
-use Rattle.vr_lying.specs.World.{Asks}
+use Rattle.vr_world.specs.World.{Asks}
 use Rattle.vr_embed.proofs.Worlds.{goes_one_ok}
 use Rattle.vr_embed.proofs.group.Group.ask.Goals as goal
 

@@ -1,5 +1,5 @@
 use Rattle.std.proofs.Common.{refl}
-use Rattle.vr_lying.specs.World.{Fuses, fused}
+use Rattle.vr_world.specs.World.{Fuses, fused}
 use Rattle.vr_embed.proofs.Worlds.{goes_one, happened_quietly}
 use Rattle.vr_embed.proofs.group.Group.cut_after.Goals as goal
 

@@ -1,5 +1,5 @@
-use Rattle.vr_lying.specs.Lying.{hazards}
-use Rattle.vr_lying.specs.World.{handles}
+use Rattle.vr_world.specs.Lying.{hazards}
+use Rattle.vr_world.specs.World.{handles}
 use Rattle.vr_embed.proofs.Worlds.{happened_as}
 use Rattle.vr_embed.proofs.group.Group.handle.Goals as goal
 

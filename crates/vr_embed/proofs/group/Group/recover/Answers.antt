@@ -1,5 +1,5 @@
-use Rattle.vr_lying.specs.Lying.{hazards}
-use Rattle.vr_lying.specs.World.{Starts, starts}
+use Rattle.vr_world.specs.Lying.{hazards}
+use Rattle.vr_world.specs.World.{Starts, starts}
 use Rattle.vr_embed.proofs.Worlds.{goes_one, happened_as}
 use Rattle.vr_embed.proofs.group.Group.recover.Goals as goal
 

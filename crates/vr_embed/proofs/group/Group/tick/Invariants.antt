@@ -1,6 +1,6 @@
 use Rattle.std.proofs.Common.{◌≡◌, map}
 use Rattle.std.specs.List.{range_with_len}
-use Rattle.vr_lying.specs.World.{Ticks}
+use Rattle.vr_world.specs.World.{Ticks}
 use Rattle.vr_embed.specs.Groups.{Goes}
 use Rattle.vr_embed.proofs.group.Group.tick.Given as goal
 

@@ -2,7 +2,7 @@ use Rattle.std.proofs.Common.{ℕ, refl, Some, Ok, subst}
 use Rattle.vr_base.specs.declared.kind.Kind.{Kind}
 use Rattle.vr_base.specs.declared.mode.Mode.TheVariants.{Strict}
 use Rattle.vr_base.specs.declared.table.Config.{Config}
-use Rattle.vr_replica.specs.Making.{Made}
+use Rattle.vr_opening.specs.Making.{Made}
 use Rattle.vr_embed.specs.Told.{told_by}
 use Rattle.vr_embed.proofs.Acting.{fresh_shown}
 use Rattle.vr_embed.proofs.member.Member.new.Goals as goal

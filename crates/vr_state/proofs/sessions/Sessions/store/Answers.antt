@@ -1,7 +1,7 @@
 -- There is room, or the client has a session, or the oldest gives way.
 use Rattle.std.proofs.Common.{◌≡◌, true, false, is_some, sym, ◌∙◌, ap, arith}
 use Rattle.std.specs.Ordering.{nat_cmp}
-use Rattle.vr_state.specs.Finite.{find}
+use Rattle.std.specs.FinMap.Entries.{find}
 use Rattle.vr_state.specs.Effects.{stored}
 use Rattle.vr_state.specs.Sessions.{Asked, Fits}
 use Rattle.vr_state.proofs.Lookups.{lookup_is_find}
