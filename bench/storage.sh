@@ -8,7 +8,7 @@ top=$(cd "$(dirname "$0")/.." && pwd)
 work=$(mktemp -d)
 trap 'rm -rf "$work"' EXIT
 mkdir "$work/crates"
-names='vr_base vr_header vr_disk vr_cells vr_mem vr_super vr_rings vr_lie vr_state vr_ckpt'
+names='vr_base vr_header vr_disk vr_mem vr_super vr_rings vr_lie vr_state vr_ckpt'
 for name in $names; do
     cp -r "$top/crates/$name" "$work/crates/$name"
 done

@@ -9,14 +9,14 @@ top=$(cd "$(dirname "$0")/.." && pwd)
 work=$(mktemp -d)
 trap 'rm -rf "$work"' EXIT
 mkdir "$work/crates"
-for name in vr_base vr_disk vr_cells vr_mem vr_header vr_super; do
+for name in vr_base vr_disk vr_mem vr_header vr_super; do
     cp -r "$top/crates/$name" "$work/crates/$name"
 done
 cp -r "$top/bench/superblock" "$work/crates/superblock_bench"
 # Sources of a crate end in .txt here, since no check of the repository reads them.
 find "$work/crates/superblock_bench" -name '*.txt' | while read -r file; do mv "$file" "${file%.txt}"; done
 { cat "$top/crates.txt"; echo 'superblock_bench: vr_base vr_disk vr_mem vr_header vr_super'; } |
-    grep -E '^(vr_base|vr_disk|vr_cells|vr_mem|vr_header|vr_super|superblock_bench):' > "$work/crates.txt"
+    grep -E '^(vr_base|vr_disk|vr_mem|vr_header|vr_super|superblock_bench):' > "$work/crates.txt"
 cd "$work/crates/superblock_bench"
 rt run --jobs 1 -- digest 1
 # Instructions of a run of so many times.

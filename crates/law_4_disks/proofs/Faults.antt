@@ -14,7 +14,7 @@ use Rattle.vr_disk.specs.DiskState.{Face, IsCell, IsContent, IsFace, cell, damag
 use Rattle.vr_disk.proofs.Faces.{there}
 use Rattle.vr_disk.specs.Regions.{sectors}
 use Rattle.vr_header.specs.Made.{Whole}
-use Rattle.vr_cells.specs.Lies.{lied}
+use Rattle.vr_mem.specs.Lies.{lied}
 use Rattle.vr_super.specs.Copies.{SuperValue}
 use Rattle.vr_super.specs.Opens.{mode_in, opens}
 use Rattle.vr_rings.specs.Held.{Holds, MayRead, entry_read, found, header_sector, is_header_sector, is_prepare, looked}

@@ -14,8 +14,8 @@ use Rattle.vr_disk.specs.Regions.{sectors}
 use Rattle.vr_disk.specs.Sectors.{together, writes}
 use Rattle.vr_disk.proofs.Together.{after_all_append, length_after_all, together_synced, together_written}
 use Rattle.vr_header.specs.declared.header.Header.{Header}
-use Rattle.vr_cells.specs.Seen.{copies}
-use Rattle.vr_cells.specs.Seen as mem
+use Rattle.vr_mem.specs.Seen.{copies}
+use Rattle.vr_mem.specs.Seen as mem
 use Rattle.vr_super.specs.Copies.{IsGood, SuperValue, copy_bytes}
 use Rattle.vr_super.specs.Opens.{copy_reading, good_copies, good_copy, opened, opens}
 use Rattle.vr_super.specs.Calls.{copy_calls, save_from}

@@ -5,7 +5,7 @@ use Rattle.std.proofs.lemmas.Bool.{cond_both}
 use Rattle.std.proofs.lemmas.List.Elements.{All-set, All-push, recursion_from_All}
 use Rattle.vr_disk.specs.DiskState.{Call, Write, Sync, Face, Cell, Waiting, blank, after, after_all, begun, cell, cut, damaged, settle, settled, settled_cell, waits, written}
 use Rattle.vr_disk.specs.Regions.{sectors}
-use Rattle.vr_cells.specs.Lies.{lied}
+use Rattle.vr_mem.specs.Lies.{lied}
 use Rattle.vr_lie.specs.declared.fault.Fault.{Fault}
 use Rattle.vr_lie.specs.declared.fault.Fault.TheVariants.{Damage, Stale, Unread, Misdirect}
 use Rattle.vr_lie.specs.Faults.{IsFault, faulted}

@@ -19,8 +19,8 @@ use Rattle.vr_node.specs.declared.node.Node.{Node}
 use Rattle.vr_serve.specs.declared.stop.Stop.{Stop}
 use Rattle.vr_serve.specs.declared.stop.Stop.TheVariants as stop
 use Rattle.law_7_members.specs.Runs.{HasDeeds, Stopped}
-use Rattle.vr_status.specs.declared.status.Status.{Status}
-use Rattle.vr_status.specs.declared.status.Status.TheVariants as status
+use Rattle.vr_base.specs.declared.status.Status.{Status}
+use Rattle.vr_base.specs.declared.status.Status.TheVariants as status
 
 -- ---- fronts
 

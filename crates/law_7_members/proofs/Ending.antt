@@ -11,7 +11,7 @@ use Rattle.vr_world.specs.Lying.{Lying, lying}
 use Rattle.vr_rules.specs.Opening.{first_value}
 use Rattle.vr_rules.specs.Steps.{Effect, Step, after_all}
 use Rattle.vr_world.proofs.FitLies.{same_version}
-use Rattle.vr_step.specs.Does.{LeftBy}
+use Rattle.vr_rules.specs.Does.{LeftBy}
 use Rattle.vr_rules.specs.Replica.{Replica, version}
 use Rattle.vr_rules.specs.Rules.{react}
 use Rattle.vr_rules.specs.Sectors.{script_calls, sectors_by}

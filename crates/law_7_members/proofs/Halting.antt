@@ -24,8 +24,8 @@ use Rattle.vr_disk.specs.declared.fault.Halt as replica
 use Rattle.vr_disk.specs.declared.fault.Halt.TheVariants as halt
 use Rattle.vr_opening.specs.Migration.{StopsMigrating, StopsMigration}
 use Rattle.vr_opening.specs.Recovering.{DoesTo, IsOther, StopsAsked, StopsMending, config_of}
-use Rattle.vr_status.specs.declared.status.Status.{Status}
-use Rattle.vr_status.specs.declared.status.Status.TheVariants as status
+use Rattle.vr_base.specs.declared.status.Status.{Status}
+use Rattle.vr_base.specs.declared.status.Status.TheVariants as status
 use Rattle.law_4_disks.proofs.Starts.{opening_is}
 use Rattle.vr_lying.proofs.Versions.{blank_by}
 use Rattle.vr_lying.proofs.Words.{a_opening}

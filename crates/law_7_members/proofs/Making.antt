@@ -18,7 +18,7 @@ use Rattle.vr_header.specs.declared.header.Header.{Header}
 use Rattle.vr_super.specs.Calls.{copy_calls, save_from}
 use Rattle.vr_super.specs.Copies.{IsGood, SuperValue, copy_bytes}
 use Rattle.vr_super.specs.Opens.{copy_reading, good_copies, good_copy, opened, opens}
-use Rattle.vr_cells.specs.Lies.{lied}
+use Rattle.vr_mem.specs.Lies.{lied}
 use Rattle.vr_lie.specs.declared.fault.Fault.{Fault}
 use Rattle.vr_lie.specs.declared.fault.Fault.TheVariants as fault
 use Rattle.vr_lie.specs.Faults.{faulted}
@@ -42,10 +42,10 @@ use Rattle.law_5_seals.proofs.Contents.{has_after_all, has_cut, has_fault}
 use Rattle.law_5_seals.proofs.Turning.{turned_sealed}
 use Rattle.law_7_members.proofs.Cuts.{rested}
 use Rattle.law_7_members.specs.Whole as whole
-use Rattle.vr_status.specs.declared.status.Status.TheVariants as status
+use Rattle.vr_base.specs.declared.status.Status.TheVariants as status
 use Rattle.law_7_members.specs.Whole.{IsUnfinished, IsUnused, LeavesUnfinished, MakingsLeaveUnfinished, as_read, made_on, making}
-use Rattle.vr_cells.specs.Seen as mem
-use Rattle.vr_cells.specs.Seen.{copies}
+use Rattle.vr_mem.specs.Seen as mem
+use Rattle.vr_mem.specs.Seen.{copies}
 use Rattle.vr_base.specs.declared.mode.Mode.TheVariants.{Strict}
 use Rattle.vr_lie.proofs.Calls.{empty_at, new_table}
 use Rattle.vr_lie.proofs.Premise.{none_stands}

@@ -26,7 +26,7 @@ use Rattle.vr_lying.proofs.Rules.{a_react}
 use Rattle.vr_lying.proofs.Versions.{blank_by}
 use Rattle.vr_lying.proofs.Words.{a_opening}
 use Rattle.vr_serve.specs.Runs.{Did}
-use Rattle.vr_step.specs.Does.{Does, LeftBy}
+use Rattle.vr_rules.specs.Does.{Does, LeftBy}
 use Rattle.vr_node.specs.Opening.{Opens}
 use Rattle.vr_node.specs.Steps.{steps}
 use Rattle.vr_node.specs.declared.node.Node.{Node}

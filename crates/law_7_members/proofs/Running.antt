@@ -12,8 +12,8 @@ use Rattle.vr_node.specs.Opening.{Opens, OpensNone}
 use Rattle.vr_node.specs.Running.{EndsAttached, Outside, Unattached, on_disk}
 use Rattle.vr_rules.specs.Sectors.{sectors_by}
 use Rattle.vr_serve.specs.Causes.{Counts}
-use Rattle.vr_status.specs.declared.status.Status.{Status}
-use Rattle.vr_status.specs.declared.status.Status.TheVariants as status
+use Rattle.vr_base.specs.declared.status.Status.{Status}
+use Rattle.vr_base.specs.declared.status.Status.TheVariants as status
 use Rattle.law_7_members.specs.Ends.{BeginsOn, FoundAndEnded, IsAttached, IsHalted, LeavesBy, LivesOn, MadeAndEnded, MakingRunsAreActs, NodeRunsAreActs, TellsAgain}
 use Rattle.law_7_members.specs.Runs.{HasDeeds}
 use Rattle.law_7_members.specs.Whole as whole

@@ -30,7 +30,7 @@ use Rattle.law_4_disks.proofs.Starts.{opening_is}
 use Rattle.vr_lying.proofs.Versions.{blank_by, opens_by}
 use Rattle.vr_lying.proofs.Words.{a_opening}
 use Rattle.vr_serve.specs.Runs.{Did, IsRun}
-use Rattle.vr_step.specs.Does.{Does, LeftBy}
+use Rattle.vr_rules.specs.Does.{Does, LeftBy}
 use Rattle.vr_node.specs.Opening.{Opens}
 use Rattle.vr_node.specs.Running.{Outside}
 use Rattle.vr_node.specs.Steps.{steps}

@@ -19,8 +19,8 @@ use Rattle.vr_node.specs.Opening.{OpensNone}
 use Rattle.vr_node.specs.Running.{NodeEnds, Outside, on_disk}
 use Rattle.vr_node.specs.declared.node.Node.{Node}
 use Rattle.vr_serve.specs.Causes.{Counts}
-use Rattle.vr_status.specs.declared.status.Status.{Status}
-use Rattle.vr_status.specs.declared.status.Status.TheVariants as status
+use Rattle.vr_base.specs.declared.status.Status.{Status}
+use Rattle.vr_base.specs.declared.status.Status.TheVariants as status
 use Rattle.law_7_members.specs.Files.{Act, Becomes, Breaks, Ends, Finds, HalfFinds, HalfMoves, Moves}
 use Rattle.law_7_members.specs.Runs.{HasDeeds, Stopped}
 use Rattle.law_7_members.specs.Whole.{Begins, LeavesUnfinished, Lives, file_of, handled, made_on, new_host}

@@ -9,7 +9,7 @@ use Rattle.vr_world.specs.World.{Host}
 use Rattle.vr_node.specs.Moving.{MigrationEnds}
 use Rattle.vr_node.specs.Running.{NodeEnds, Outside}
 use Rattle.vr_serve.specs.Causes.{Counts}
-use Rattle.vr_status.specs.declared.status.Status.{Status}
+use Rattle.vr_base.specs.declared.status.Status.{Status}
 use Rattle.law_6_one_log.specs.Schedules.{IsHashedOf}
 use Rattle.law_7_members.specs.Deeds.{config_at}
 use Rattle.law_7_members.specs.Ends.{FoundAndEnded, IsHalted, IsMoving, LeavesBy, OpensAsOwn, TellsAgain}

@@ -14,7 +14,7 @@ use Rattle.vr_node.specs.Opening.{Opens}
 use Rattle.vr_node.specs.Running.{Outside, Ran}
 use Rattle.vr_node.specs.Steps.{steps, stops}
 use Rattle.vr_node.specs.declared.node.Node.{Node}
-use Rattle.vr_status.specs.declared.status.Status.{Status}
+use Rattle.vr_base.specs.declared.status.Status.{Status}
 
 -- an event whose step stopped was the last, and left the disk so
 pub record Stopped (node : Node) (d d' : Option Disk) : Type 0 where

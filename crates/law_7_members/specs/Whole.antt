@@ -31,7 +31,7 @@ use Rattle.vr_serve.specs.Runs.{Did}
 use Rattle.vr_node.specs.Opening.{OpensNone}
 use Rattle.vr_node.specs.Running.{Outside}
 use Rattle.vr_node.specs.declared.node.Node.{Node}
-use Rattle.vr_status.specs.declared.status.Status.{Status}
+use Rattle.vr_base.specs.declared.status.Status.{Status}
 use Rattle.law_7_members.specs.Deeds.{config_at}
 use Rattle.law_7_members.specs.Files.{Act, ActBy, AtWork, Becomes, Brings, Ends, Finds, Handles, all_lines, file_after, on_file, puts_out}
 use Rattle.law_7_members.specs.Runs.{HasDeeds}

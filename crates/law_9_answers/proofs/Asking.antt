@@ -15,8 +15,8 @@ use Rattle.vr_header.specs.declared.operation.Operation.{Operation}
 use Rattle.vr_header.specs.declared.operation.Operation.TheVariants.{Register}
 use Rattle.vr_msg.specs.declared.request.RequestFields.{RequestFields}
 use Rattle.vr_rules.specs.Fit.{IsAsked}
-use Rattle.vr_status.specs.declared.status.Status.{Status}
-use Rattle.vr_status.specs.declared.status.Status.TheVariants as status
+use Rattle.vr_base.specs.declared.status.Status.{Status}
+use Rattle.vr_base.specs.declared.status.Status.TheVariants as status
 use Rattle.vr_trial.specs.Run as trial
 use Rattle.vr_trial.specs.Run.{Does, DoesAll, Ends, Fails, FailsIn, Place, TrialEnds, begins, of_client}
 use Rattle.vr_trial.specs.Script.{AreNext, IsNext, members, middle, number_after, number_of, script}

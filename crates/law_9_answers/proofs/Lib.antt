@@ -5,3 +5,10 @@ pub mod Answering
 pub mod Asking
 mod Writing
 mod Instance
+pub mod Acting
+pub mod Sessions
+pub mod Timing
+pub mod Counting
+pub mod Interleaving
+pub mod OrderInstance
+mod Started

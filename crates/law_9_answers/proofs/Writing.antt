@@ -12,8 +12,8 @@ use Rattle.vr_client.specs.declared.answer.Answer.TheVariants as answer
 use Rattle.vr_edge.specs.Told.{AppendsFront}
 use Rattle.vr_header.specs.declared.operation.Operation.{Operation}
 use Rattle.vr_header.specs.declared.operation.Operation.TheVariants.{Register}
-use Rattle.vr_status.specs.declared.status.Status.{Status}
-use Rattle.vr_status.specs.declared.status.Status.TheVariants as status
+use Rattle.vr_base.specs.declared.status.Status.{Status}
+use Rattle.vr_base.specs.declared.status.Status.TheVariants as status
 use Rattle.vr_spawn.specs.declared.spawner.SpawnCall.{SpawnCall}
 use Rattle.vr_trial.specs.Run as trial
 use Rattle.vr_trial.specs.Run.{BreaksOff, Does, DoesAll, Ends, Fails, FailsIn, Members, Place, begins, of_client, started, stopped}

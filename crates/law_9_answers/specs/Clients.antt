@@ -7,8 +7,8 @@ use Rattle.vr_ask.specs.Run.{AreExchanged, ClientEnds, EndsAt, EndsLines, EndsRu
 use Rattle.vr_client.specs.declared.answer.Answer.TheVariants as answer
 use Rattle.vr_header.specs.declared.operation.Operation.{Operation}
 use Rattle.vr_header.specs.declared.operation.Operation.TheVariants.{Register}
-use Rattle.vr_status.specs.declared.status.Status.{Status}
-use Rattle.vr_status.specs.declared.status.Status.TheVariants.{NoMemory, SessionLost, WriteFault}
+use Rattle.vr_base.specs.declared.status.Status.{Status}
+use Rattle.vr_base.specs.declared.status.Status.TheVariants.{NoMemory, SessionLost, WriteFault}
 use Rattle.law_9_answers.specs.Heard.{Heard, heard}
 
 -- by the ask with which it ended: an answer that was written whole or in part

@@ -2,3 +2,8 @@ pub mod Heard
 pub mod Clients
 pub mod Trials
 pub mod Laws
+pub mod Order
+pub mod History
+pub mod Programs
+pub mod OrderLaws
+pub mod Started

@@ -2,7 +2,7 @@
 use Rattle.std.proofs.Common.{inl, inr}
 use Rattle.std.specs.Prelude.{ℕ, List, [], ◌∷◌, ◌++◌}
 use Rattle.vr_client.specs.declared.answer.Answer.TheVariants as answer
-use Rattle.vr_status.specs.declared.status.Status.{Status}
+use Rattle.vr_base.specs.declared.status.Status.{Status}
 use Rattle.vr_trial.specs.Run.{Does, DoesAll, Ends, Fails, FailsIn, Faults, Outside, Place, TrialEnds, begins, of_client, started, stopped}
 use Rattle.vr_trial.specs.Script.{number_of, script}
 use Rattle.vr_trial.specs.Told.{Trial, operation_of}

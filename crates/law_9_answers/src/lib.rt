@@ -1,8 +1,15 @@
-//! What a client of a running group writes is what the group's one log says. Each function is a law: its contract is the statement, and it does
-//! nothing.
+//! What a client of a running group writes is what the group's one log says, and the order of that log is the order of time. Each
+//! function is a law: its contract is the statement, and it does nothing.
 #![tactic(auto)]
 
+mod order;
+
 ghost use Rattle.law_9_answers.specs.Laws.{ClientsWriteWhatTheyHear, OneLogAnswers, RunsAnswerByOneLog, SomeAnswerMay, TrialsWriteWhatTheyHear};
+
+pub use order::{
+    histories_are_linearizable, programs_are_linearizable, runs_keep_order, some_history_may,
+    trials_start_members,
+};
 
 /// What a run of `client` writes is the lines of what it heard, ask by ask, but perhaps for an end of the last one.
 pub fn clients_write_what_they_hear()

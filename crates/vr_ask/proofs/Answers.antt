@@ -11,10 +11,10 @@ use Rattle.vr_client.specs.declared.answer.AskFault.{AskFault}
 use Rattle.vr_client.specs.declared.answer.AskFault.TheVariants as fault
 use Rattle.vr_edge.specs.Told.{AppendsFront}
 use Rattle.vr_header.specs.declared.operation.Operation.{Operation}
-use Rattle.vr_status.proofs.Counting.{links_kept}
-use Rattle.vr_status.specs.Counts.{links_after, writes_after}
-use Rattle.vr_status.specs.declared.status.Status.{Status}
-use Rattle.vr_status.specs.declared.status.Status.TheVariants as status
+use Rattle.vr_base.proofs.Counting.{links_kept}
+use Rattle.vr_base.specs.Counts.{links_after, writes_after}
+use Rattle.vr_base.specs.declared.status.Status.{Status}
+use Rattle.vr_base.specs.declared.status.Status.TheVariants as status
 
 pub front_none : (t : Option (List ℕ)) (bytes : List ℕ) → AppendsFront t t bytes
 front_none t bytes = ([], bytes, Appends-nil t, refl)

@@ -12,10 +12,10 @@ use Rattle.vr_header.specs.Made.{is_register}
 use Rattle.vr_lines.proofs.Operations.{spelled_fits}
 use Rattle.vr_lines.specs.Operations.{operation_words}
 use Rattle.vr_lines.specs.Words.{words_of}
-use Rattle.vr_status.proofs.Counting.{links_kept}
-use Rattle.vr_status.specs.Counts.{links_after, writes_after}
-use Rattle.vr_status.specs.declared.status.Status.{Status}
-use Rattle.vr_status.specs.declared.status.Status.TheVariants as status
+use Rattle.vr_base.proofs.Counting.{links_kept}
+use Rattle.vr_base.specs.Counts.{links_after, writes_after}
+use Rattle.vr_base.specs.declared.status.Status.{Status}
+use Rattle.vr_base.specs.declared.status.Status.TheVariants as status
 
 -- ---- one line
 

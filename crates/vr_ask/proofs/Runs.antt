@@ -13,8 +13,8 @@ use Rattle.vr_edge.specs.declared.datagram.Datagram.{Datagram}
 use Rattle.vr_header.specs.declared.operation.Operation.{Operation}
 use Rattle.vr_header.specs.declared.operation.Operation.TheVariants.{Register}
 use Rattle.vr_mail.proofs.Growing.{failed_after, grows_nil, grows_trans}
-use Rattle.vr_status.specs.declared.status.Status.{Status}
-use Rattle.vr_status.specs.declared.status.Status.TheVariants as status
+use Rattle.vr_base.specs.declared.status.Status.{Status}
+use Rattle.vr_base.specs.declared.status.Status.TheVariants as status
 use Rattle.vr_ask.proofs.Exchanges.{stops_later}
 
 -- it couldn't register

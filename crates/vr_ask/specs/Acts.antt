@@ -10,9 +10,9 @@ use Rattle.vr_edge.specs.declared.sink.Sink as of_sink
 use Rattle.vr_edge.specs.declared.source.Source as of_source
 use Rattle.vr_header.specs.declared.operation.Operation.{Operation}
 use Rattle.vr_lines.specs.Held.{Held}
-use Rattle.vr_status.specs.Counts.{links_after, reads_after, writes_after}
-use Rattle.vr_status.specs.declared.status.Status.{Status}
-use Rattle.vr_status.specs.declared.status.Status.TheVariants.{LinkFault}
+use Rattle.vr_base.specs.Counts.{links_after, reads_after, writes_after}
+use Rattle.vr_base.specs.declared.status.Status.{Status}
+use Rattle.vr_base.specs.declared.status.Status.TheVariants.{LinkFault}
 
 -- ---- what the objects tell
 

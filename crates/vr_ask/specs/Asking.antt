@@ -15,9 +15,9 @@ use Rattle.vr_edge.specs.declared.datagram.Datagram.{Datagram}
 use Rattle.vr_header.specs.declared.operation.Operation.{Operation}
 use Rattle.vr_msg.specs.declared.reply.Answered.{Answered}
 use Rattle.vr_msg.specs.declared.request.RequestFields.{RequestFields}
-use Rattle.vr_status.specs.Counts.{links_after, writes_after}
-use Rattle.vr_status.specs.declared.status.Status.{Status}
-use Rattle.vr_status.specs.declared.status.Status.TheVariants.{SessionLost, WriteFault, LinkFault, NoMemory, NoAnswer}
+use Rattle.vr_base.specs.Counts.{links_after, writes_after}
+use Rattle.vr_base.specs.declared.status.Status.{Status}
+use Rattle.vr_base.specs.declared.status.Status.TheVariants.{SessionLost, WriteFault, LinkFault, NoMemory, NoAnswer}
 
 -- a client: the version of its frames, its group and its number, the size of the group, and the turns of each ask
 pub record Client : Type 0 where

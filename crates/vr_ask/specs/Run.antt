@@ -14,9 +14,9 @@ use Rattle.vr_header.specs.declared.operation.Operation.TheVariants.{Register}
 use Rattle.vr_msg.specs.declared.reply.Answered.{Answered}
 use Rattle.vr_lines.specs.Coming.{Breaks, EndComes, LineComes, TooLongComes}
 use Rattle.vr_lines.specs.Held.{Held}
-use Rattle.vr_status.specs.Counts.{reads_after}
-use Rattle.vr_status.specs.declared.status.Status.{Status}
-use Rattle.vr_status.specs.declared.status.Status.TheVariants.{Done, Refused, ReadFault, LinkFault, NoMemory}
+use Rattle.vr_base.specs.Counts.{reads_after}
+use Rattle.vr_base.specs.declared.status.Status.{Status}
+use Rattle.vr_base.specs.declared.status.Status.TheVariants.{Done, Refused, ReadFault, LinkFault, NoMemory}
 
 -- what a source has: bytes that were read and not handed out, and what is left after them
 pub record Reading : Type 0 where

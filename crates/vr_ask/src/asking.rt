@@ -6,10 +6,10 @@ ghost use Rattle.vr_client.specs.Acts.{MayAsk};
 
 use crate::text::answer_text;
 use std::alloc::Global;
+use vr_base::Status;
 use vr_client::{Answer, AskFault, ClientCore};
 use vr_edge::{Link, Sink, write_whole};
 use vr_header::Operation;
-use vr_status::Status;
 
 /// No answer in all turns ends as `NoAnswer`, a receive that failed as `LinkFault`, want of memory as `NoMemory`.
 fn status_of(fault: AskFault) -> Status

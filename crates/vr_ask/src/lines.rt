@@ -7,12 +7,11 @@ ghost use Rattle.vr_ask.specs.Text.{longest};
 use crate::asking::exchange;
 use crate::text::read_line;
 use std::alloc::Global;
-use vr_base::Version;
+use vr_base::{Status, Version};
 use vr_client::ClientCore;
 use vr_edge::{Link, Sink, Source};
 use vr_header::Operation;
 use vr_lines::{Found, Lines};
-use vr_status::Status;
 
 /// The most lines of a source.
 const LIMIT: u32 = 1_000_000;

@@ -8,12 +8,11 @@ ghost use Rattle.vr_edge.specs.Attaching.{texts_of};
 use crate::asking::exchange;
 use crate::lines::ask_lines;
 use std::alloc::Global;
-use vr_base::Version;
+use vr_base::{Status, Version};
 use vr_client::ClientCore;
 use vr_edge::{Link, Sink, Source};
 use vr_header::Operation;
 use vr_lines::Lines;
-use vr_status::Status;
 
 /// Registers with number 0 and writes the answer; after an outcome it asks the lines of the source in order, from number 1 on, and writes each
 /// outcome. Any other end of the register ends all, with nothing read. Source, link and sink count one fault more where the status names them, and

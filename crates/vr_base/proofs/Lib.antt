@@ -9,3 +9,4 @@ pub mod Sets
 pub mod Versions
 pub mod Writing
 pub mod ZeroLaws
+pub mod Counting

@@ -5,3 +5,5 @@ pub mod Groups
 pub mod Kinds
 pub mod Replicas
 pub mod Versions
+pub mod Counts
+pub mod Texts

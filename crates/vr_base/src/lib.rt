@@ -1,14 +1,16 @@
 //! What every crate of the repository uses: lists that contracts see as lists, the sizes and quorums of groups,
-//! names and fields of bytes, and the words for the causes of faults.
+//! names and fields of bytes, the words for the causes of faults, and how a run of the program ends.
 #![tactic(auto)]
 
 mod fields;
 mod groups;
 mod kind;
+mod member;
 mod memory;
 mod mode;
 mod replicas;
 mod seq;
+mod status;
 mod sum;
 mod table;
 mod version;
@@ -21,6 +23,7 @@ pub use memory::NoMemory;
 pub use mode::Mode;
 pub use replicas::Replicas;
 pub use seq::{ByteList, Seq};
+pub use status::{Status, code, status_line};
 pub use sum::{Sum, checksum, checksum_of_parts};
 pub use table::{Config, Quorums};
 pub use version::{Version, is_version};

@@ -2,10 +2,9 @@
 
 use crate::outside::Outside;
 use std::alloc::{AllocError, Global};
-use vr_base::ByteList;
+use vr_base::{ByteList, Status, status_line};
 use vr_edge::{Link, MemLink, MemSink};
 use vr_spawn::{MemSpawner, SpawnCall, Start, Stop};
-use vr_status::{Status, status_line};
 use vr_top::run;
 
 /// Adds the words between single spaces.

@@ -7,7 +7,7 @@ use Rattle.vr_base.specs.declared.table.Config.{Config}
 use Rattle.vr_disk.specs.DiskState.{Disk, Face, Fate, Runs}
 use Rattle.vr_disk.specs.Regions.{sectors}
 use Rattle.vr_super.specs.declared.recovering.CopyVerdict.{CopyVerdict}
-use Rattle.vr_cells.specs.Seen.{copies, zero_cell}
+use Rattle.vr_mem.specs.Seen.{copies, zero_cell}
 use Rattle.vr_msg.specs.declared.event.Event.{Event}
 use Rattle.vr_msg.specs.declared.output.Output.{Output}
 use Rattle.vr_msg.specs.declared.output.Output.TheVariants as output
@@ -17,7 +17,7 @@ use Rattle.vr_world.specs.Lying.{Lying, hazards}
 use Rattle.vr_lying.specs.Told.{IsTold}
 use Rattle.vr_world.specs.World.{Acted, Host, fresh_host, fused, handles, starts}
 use Rattle.vr_lying.proofs.Telling.{zeros_lie}
-use Rattle.vr_step.specs.Does.{Does}
+use Rattle.vr_rules.specs.Does.{Does}
 use Rattle.vr_rules.specs.Formatting.{format_calls}
 use Rattle.vr_disk.specs.declared.fault.Halt.{Halt}
 use Rattle.vr_disk.specs.declared.fault.Halt.TheVariants.{DiskFault}

@@ -9,8 +9,8 @@ use Rattle.std.proofs.lemmas.List.Elements.{All-from_recursion, All-replicate, r
 use Rattle.vr_disk.specs.DiskState.{Cell, Face, IsCell, IsContent, IsWaiting, Waiting, Write, after, noted, settle, settled, waits}
 use Rattle.vr_disk.specs.Regions.{sectors}
 use Rattle.vr_disk.proofs.Faces.{face_after, face_settled}
-use Rattle.vr_cells.specs.Seen.{copies, once, zero_cell}
-use Rattle.vr_cells.proofs.Once.{once_push, room_left}
+use Rattle.vr_mem.specs.Seen.{copies, once, zero_cell}
+use Rattle.vr_mem.proofs.Once.{once_push, room_left}
 use Rattle.vr_embed.specs.declared.sectors.Sectors.{Sectors}
 use Rattle.vr_embed.specs.declared.sectors.Slot.{Slot}
 use Rattle.vr_embed.specs.declared.sectors.Unsynced.{Unsynced}

@@ -4,7 +4,7 @@ use Rattle.std.specs.Option.{option_map}
 use Rattle.std.specs.Prelude.{◌≡◌, ◌≤◌, Bool, true, ℕ, List, [], map, Option, Some, None, if◌then◌else◌}
 use Rattle.vr_disk.specs.DiskState.{Cell, CallVerdict, Cuts, Face, Fails, Fate, Goes, IsFace, Waiting}
 use Rattle.vr_disk.specs.Regions.{sectors}
-use Rattle.vr_cells.specs.Seen.{once}
+use Rattle.vr_mem.specs.Seen.{once}
 use Rattle.vr_embed.specs.declared.power.Power.{Power}
 use Rattle.vr_embed.specs.declared.power.Judged.{Judged}
 use Rattle.vr_embed.specs.declared.power.Judged.TheVariants as judged

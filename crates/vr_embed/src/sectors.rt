@@ -3,7 +3,7 @@ ghost use Rattle.std.specs.Prelude.{◌≡◌, ◌<◌, ◌≤◌, ◌==◌, ◌
 ghost use Rattle.std.specs.List.{list_any, All};
 ghost use Rattle.std.specs.Vec.{vec_capacity};
 ghost use Rattle.vr_disk.specs.DiskState.{IsContent, Sync, Write, after, reads, settle, settled};
-ghost use Rattle.vr_cells.specs.Seen.{copies, zero_cell};
+ghost use Rattle.vr_mem.specs.Seen.{copies, zero_cell};
 ghost use Rattle.vr_embed.specs.Seen.{AreSectors, cell_of, face_of, waiting_of};
 
 use std::alloc::Global;
@@ -72,7 +72,7 @@ fn written(bytes: &[u8], was: &Slot) -> Slot
 }
 
 // A sector of zeros that was never written.
-#[tactic(auto, unfolding(vr_cells::specs::Seen::copies, vr_cells::specs::Seen::zero_cell))]
+#[tactic(auto, unfolding(vr_mem::specs::Seen::copies, vr_mem::specs::Seen::zero_cell))]
 fn zero() -> Slot
     ensures { cell_of result ≡ zero_cell }
 {

@@ -3,7 +3,7 @@ ghost use Rattle.std.specs.Prelude.{◌≡◌, ◌≤◌, [], None, Some, IfOk, 
 ghost use Rattle.vr_base.specs.Causes.{HasCause};
 ghost use Rattle.vr_disk.specs.DiskState.{name_most, nothing_beside};
 ghost use Rattle.vr_disk.specs.Regions.{sectors};
-ghost use Rattle.vr_cells.specs.Seen.{copies, zero_cell};
+ghost use Rattle.vr_mem.specs.Seen.{copies, zero_cell};
 ghost use Rattle.vr_embed.specs.Seen.{AreSectors};
 
 use crate::power::{Judged, Power};

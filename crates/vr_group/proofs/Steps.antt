@@ -18,7 +18,7 @@ use Rattle.vr_opening.specs.Recovering.{RecoveredAny, opens_as}
 use Rattle.vr_opening.proofs.Opens.{opens_in}
 use Rattle.vr_opening.specs.declared.reopen.Refusal.{Refusal}
 use Rattle.vr_opening.specs.declared.reopen.Refusal.TheVariants.{Halted, Lost, OtherMember}
-use Rattle.vr_step.specs.Does.{Does, LeftBy}
+use Rattle.vr_rules.specs.Does.{Does, LeftBy}
 use Rattle.vr_disk.specs.declared.fault.Halt.{Halt}
 use Rattle.vr_disk.specs.declared.fault.Halt.TheVariants.{DiskFault, NoMemory}
 use Rattle.vr_super.specs.Copies.{SuperValue}

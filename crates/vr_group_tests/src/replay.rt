@@ -3,7 +3,7 @@ use crate::running::{check, in_pieces, ran, replayed_to};
 use std::alloc::{AllocError, Global};
 use std::process::Abort;
 use std::test::Fail;
-use vr_status::{Status, code, status_line};
+use vr_base::{Status, code, status_line};
 
 const REDIRECT: &str = "cluster 2\nrequest 1 7 0 register\n";
 

@@ -1,9 +1,9 @@
 //! Replays over a source and a sink in memory, and how they end.
 use std::alloc::{AllocError, Global};
 use std::process::Abort;
+use vr_base::Status;
 use vr_edge::{MemSink, MemSource};
 use vr_replay::replay;
-use vr_status::Status;
 
 /// How a replay ends, and what it wrote.
 #[derive(Drop)]

@@ -10,3 +10,4 @@ pub mod Truths
 pub mod SameHeaders
 pub mod Written
 pub mod Putting
+pub mod ChainLaws

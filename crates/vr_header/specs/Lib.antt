@@ -7,3 +7,5 @@ pub mod Same
 pub mod Spelling
 pub mod Text
 pub mod Views
+pub mod Chain
+pub mod Holes

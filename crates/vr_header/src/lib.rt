@@ -1,11 +1,14 @@
-//! Headers, the operations and outcomes that stand after them, and their bytes.
+//! Headers, the operations and outcomes that stand behind them, and their bytes; chains of headers, and what is missing in
+//! a run of Parts.
 #![tactic(auto)]
 
 mod body;
+mod chain;
 mod codec;
 mod command;
 mod entry;
 mod header;
+mod holes;
 mod limits;
 mod names;
 mod operation;
@@ -16,10 +19,12 @@ mod size;
 mod text;
 mod view;
 
+pub use chain::verify;
 pub use codec::{decode, decode_by, decoded_header, encode, nameless, spelled};
 pub use command::Command;
 pub use entry::Entry;
 pub use header::{Header, HeaderFault, HeaderList};
+pub use holes::next_hole;
 pub use limits::{HEADER_SIZE, LAST_OP, MESSAGE_MOST, NAMED_AT, OP_AT, SIZE_AT};
 pub use names::Names;
 pub use operation::Operation;

@@ -11,8 +11,8 @@ use Rattle.vr_header.specs.Parts.{header_of}
 use Rattle.vr_rules.specs.Replica.{Replica, part_at}
 use Rattle.vr_rules.specs.Rules.{acknowledge_stored}
 use Rattle.vr_rules.specs.Steps.{Word}
-use Rattle.vr_step.specs.Does.{Does}
-use Rattle.vr_step.proofs.Stepping.{does_by, does_quiet, says_by}
+use Rattle.vr_rules.specs.Does.{Does}
+use Rattle.vr_rules.proofs.Stepping.{does_by, does_quiet, says_by}
 use Rattle.vr_memory.specs.Ready.{IsReady}
 use Rattle.vr_journal.specs.Acks.{ack_of, stored_ack}
 use Rattle.vr_journal.specs.Telling.{Tells, each_to}

@@ -12,8 +12,8 @@ use Rattle.vr_msg.specs.declared.output.Output.{Output}
 use Rattle.vr_journal.specs.Waits.{Waits, applies_next}
 use Rattle.vr_rules.specs.Replica.{Replica, head, is_here, part_at}
 use Rattle.vr_rules.specs.Words.{advanced, apply, apply_entry, apply_next, has_quorum, is_loaded, with_entry, with_entry_at}
-use Rattle.vr_step.specs.Does.{Does}
-use Rattle.vr_step.proofs.Stepping.{does_by, does_quiet, does_then}
+use Rattle.vr_rules.specs.Does.{Does}
+use Rattle.vr_rules.proofs.Stepping.{does_by, does_quiet, does_then}
 use Rattle.vr_rules.specs.Steps.{Word, times, when}
 use Rattle.vr_rules.specs.Sound.{IsCaughtUp}
 

@@ -8,9 +8,9 @@ use Rattle.vr_rules.specs.Replica.{Replica, part_at}
 use Rattle.vr_rules.specs.Outputs.{commit_line, applied_reply}
 use Rattle.vr_rules.specs.Words.{applied, apply_entry, apply_next, with_entry, with_entry_at, is_loaded, is_checkpoint, make_checkpoint}
 use Rattle.vr_disk.specs.declared.fault.Halt.{Halt}
-use Rattle.vr_step.specs.Does.{Does}
+use Rattle.vr_rules.specs.Does.{Does}
 use Rattle.vr_memory.specs.Ready.{due}
-use Rattle.vr_step.proofs.Stepping.{says_by_then, change_by_then, does_by, does_quiet}
+use Rattle.vr_rules.proofs.Stepping.{says_by_then, change_by_then, does_by, does_quiet}
 
 pub entry_then : (e : Whole) (r q r2 : Replica) (d d2 : Option Disk) (o o1 o2 : List Output) (res : Result (Unit {0}) Halt) → o1 ≡ o ++ (commit_line e r ++ applied_reply e r) → q ≡ applied e r
     → Does due q r2 d d2 o1 o2 res → Does (apply_entry e) r r2 d d2 o o2 res

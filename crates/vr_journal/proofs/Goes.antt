@@ -7,9 +7,9 @@ use Rattle.vr_msg.specs.Choice.{ops}
 use Rattle.vr_rules.specs.Replica.{Replica}
 use Rattle.vr_rules.specs.Steps.{Word, each}
 use Rattle.vr_disk.specs.declared.fault.Halt.{Halt}
-use Rattle.vr_step.specs.Does.{Does, Going}
+use Rattle.vr_rules.specs.Does.{Does, Going}
 use Rattle.vr_journal.specs.Telling.{each_to}
-use Rattle.vr_step.proofs.Stepping.{does_by, going_begins, going_ends, going_goes, going_stops}
+use Rattle.vr_rules.proofs.Stepping.{does_by, going_begins, going_ends, going_goes, going_stops}
 
 -- in the middle of a loop over the ops above c up to h
 unfoldable pub GoesOver : (ℕ → Word Face) → ℕ → ℕ → ℕ → Replica → Replica → Option Disk → Option Disk → List Output → List Output → Type 0

@@ -18,9 +18,9 @@ use Rattle.vr_rules.proofs.SavesWell.{savable_alike}
 use Rattle.vr_state.specs.Fitting.{Fits}
 use Rattle.vr_state.proofs.Fitting.{fits_means}
 use Rattle.vr_rules.proofs.Wording.{kept_loads, usable_is}
-use Rattle.vr_step.specs.Does.{Does, Finds}
+use Rattle.vr_rules.specs.Does.{Does, Finds}
 use Rattle.vr_rules.proofs.Versions.{loads_stay}
-use Rattle.vr_step.proofs.Stepping.{does_by, does_quiet, does_reading, change_by}
+use Rattle.vr_rules.proofs.Stepping.{does_by, does_quiet, does_reading, change_by}
 use Rattle.vr_memory.specs.Ready.{IsReady, MayLoad}
 
 pub ready_opened : (r : Replica) → MayLoad r → IsReady r

@@ -21,9 +21,9 @@ use Rattle.vr_ckpt.specs.declared.saving.SavedCheckpoint as checkpoint
 use Rattle.vr_ckpt.specs.Saves.{save_calls, saved_checkpoint}
 use Rattle.vr_msg.specs.declared.output.Output.{Output}
 use Rattle.vr_rules.specs.Steps.{◌⨾◌, change, does}
-use Rattle.vr_step.proofs.Stepping.{performs_ok, performs_fault, performs_want, performed, performs_halted, does_by, does_reading, does_then, does_no_memory, change_by_then}
+use Rattle.vr_rules.proofs.Stepping.{performs_ok, performs_fault, performs_want, performed, performs_halted, does_by, does_reading, does_then, does_no_memory, change_by_then}
 use Rattle.vr_rules.proofs.Versions.{checkpoint_stays}
-use Rattle.vr_step.specs.Does.{Does, Finds, Performs, PerformsTo, done}
+use Rattle.vr_rules.specs.Does.{Does, Finds, Performs, PerformsTo, done}
 
 -- calls that don't depend on what the disk holds
 pub runs_from : (cs : List Call) (d d' : Option Disk) (ok : Bool) → Runs cs d d' ok → RunsFrom (λ f. cs) d d' ok

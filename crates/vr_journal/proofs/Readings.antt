@@ -14,8 +14,8 @@ use Rattle.vr_rules.specs.Outputs.{prepare, send_to_all}
 use Rattle.vr_rules.specs.Steps.{Word, says}
 use Rattle.vr_rules.specs.Words.{entry_of, lost, prepare_again, with_entry, with_entry_at}
 use Rattle.vr_disk.specs.declared.fault.Halt.{Halt}
-use Rattle.vr_step.specs.Does.{Does, Finds}
-use Rattle.vr_step.proofs.Stepping.{does_by, does_quiet, found_then, found_lost, says_by}
+use Rattle.vr_rules.specs.Does.{Does, Finds}
+use Rattle.vr_rules.proofs.Stepping.{does_by, does_quiet, found_then, found_lost, says_by}
 
 -- ---- the entry of an op
 

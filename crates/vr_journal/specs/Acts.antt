@@ -7,7 +7,7 @@ use Rattle.vr_rules.specs.Replica.{Replica, last_view}
 use Rattle.vr_rules.specs.Steps.{Word}
 use Rattle.vr_msg.specs.declared.output.Output.{Output}
 use Rattle.vr_disk.specs.Counts.{Caused}
-use Rattle.vr_step.specs.Does.{Does}
+use Rattle.vr_rules.specs.Does.{Does}
 use Rattle.vr_disk.specs.declared.fault.Halt.{Halt}
 
 -- It is ready, and its value can be saved so many times more.

@@ -7,7 +7,7 @@ use Rattle.vr_rules.specs.Replica.{Replica}
 use Rattle.vr_rules.specs.Steps.{Word}
 use Rattle.vr_rules.specs.Words.{with_entry_at}
 use Rattle.vr_disk.specs.declared.fault.Halt.{Halt}
-use Rattle.vr_step.specs.Does.{Does}
+use Rattle.vr_rules.specs.Does.{Does}
 
 -- The entry of an op was read, or there was none to be had: what a word does with it then, it does with the entry of that op.
 pub record Reads (op : ℕ) (r q : Replica) (d d' : Option Disk) (found : Option Whole) : Type 0 where

@@ -5,7 +5,7 @@ use Rattle.vr_msg.specs.declared.output.Output.{Output}
 use Rattle.vr_rules.specs.Replica.{Replica}
 use Rattle.vr_rules.specs.Steps.{Word, by, each}
 use Rattle.vr_msg.specs.Choice.{ops}
-use Rattle.vr_step.specs.Does.{Does}
+use Rattle.vr_rules.specs.Does.{Does}
 
 -- these outputs are the word's, on any disk
 pub record Tells (w : Word Face) (r : Replica) (o o' : List Output) : Type 0 where

@@ -5,7 +5,7 @@ ghost use Rattle.vr_state.specs.StateTexts.{texts_of};
 ghost use Rattle.vr_rules.specs.Replica.{part_at, version};
 ghost use Rattle.vr_rules.specs.Words.{checkpoints, make_checkpoint, is_checkpoint, applied, apply_entry, apply_next, apply, with_entry, learn};
 ghost use Rattle.vr_disk.specs.Counts.{Caused};
-ghost use Rattle.vr_step.specs.Does.{PerformsTo, done};
+ghost use Rattle.vr_rules.specs.Does.{PerformsTo, done};
 ghost use Rattle.vr_header.specs.declared.part.Part.TheVariants.{Here};
 ghost use Rattle.vr_memory.specs.Ready.{MayApply, HasApplied, due};
 ghost use Rattle.vr_journal.specs.Acts.{Acts, MayAct, Spends};
@@ -92,7 +92,7 @@ fn check_point<D: SectorDisk>(
 // applied is one more. Where that op is a multiple of 32, the checkpoint is written, the window moves up, and the replica saves.
 // `MayApply`: no block is missing, and applied is below the commit number. After an `Err` the disk has had its calls up to the stop; of
 // replica and outputs nothing is said.
-#[tactic(auto, using(crate::proofs::Applies::entry_then, vr_step::proofs::Stepping::wants, vr_memory::proofs::Memory::has_applied))]
+#[tactic(auto, using(crate::proofs::Applies::entry_then, vr_rules::proofs::Stepping::wants, vr_memory::proofs::Memory::has_applied))]
 fn apply_entry<D: SectorDisk>(
     replica: &mut Replica,
     alloc: Global,
@@ -114,7 +114,7 @@ fn apply_entry<D: SectorDisk>(
 // Where the slot reads as this header's whole entry, that is applied: line, reply where the replica leads, state, and where one is due the
 // checkpoint, written and saved. Where it doesn't, the Part of the op becomes `Lost`, and nothing else is done. After an `Err` the disk has
 // had its calls up to the stop; of replica and outputs nothing is said.
-#[tactic(auto, using(vr_step::proofs::Stepping::readings, vr_step::proofs::Stepping::wants, vr_memory::proofs::Memory::readies, vr_memory::proofs::Memory::may_ready, crate::proofs::Readings::here_taken))]
+#[tactic(auto, using(vr_rules::proofs::Stepping::readings, vr_rules::proofs::Stepping::wants, vr_memory::proofs::Memory::readies, vr_memory::proofs::Memory::may_ready, crate::proofs::Readings::here_taken))]
 fn apply_found<D: SectorDisk>(
     replica: &mut Replica,
     alloc: Global,
@@ -140,7 +140,7 @@ fn apply_found<D: SectorDisk>(
 // `part` is that of the next op. Where it is `Here` and its entry reads, that is applied: line, reply where the replica leads, state, and
 // where one is due the checkpoint, written and saved. Where it is `Here` and doesn't read, it becomes `Lost`; where it isn't `Here`,
 // nothing is done. After an `Err` the disk has had its calls up to the stop; of replica and outputs nothing is said.
-#[tactic(auto, using(vr_step::proofs::Stepping::kinds, vr_memory::proofs::Memory::here_op, vr_memory::proofs::Memory::may_ready))]
+#[tactic(auto, using(vr_rules::proofs::Stepping::kinds, vr_memory::proofs::Memory::here_op, vr_memory::proofs::Memory::may_ready))]
 fn apply_part<D: SectorDisk>(
     replica: &mut Replica,
     alloc: Global,
@@ -186,7 +186,7 @@ fn apply_next<D: SectorDisk>(
 /// each: commit line, reply where the replica leads, state; at a multiple of 32 also the checkpoint, written and saved before the next op.
 /// One that is `Here` and doesn't read becomes `Lost`, and ends it. After an `Err` the disk has had its calls up to the stop; of replica
 /// and outputs nothing is said.
-#[tactic(auto, using(vr_step::proofs::Stepping::loops, vr_memory::proofs::Memory::few_to_apply), unfolding(vr_rules::specs::Words::apply))]
+#[tactic(auto, using(vr_rules::proofs::Stepping::loops, vr_memory::proofs::Memory::few_to_apply), unfolding(vr_rules::specs::Words::apply))]
 pub fn apply<D: SectorDisk>(
     replica: &mut Replica,
     alloc: Global,
@@ -207,7 +207,7 @@ pub fn apply<D: SectorDisk>(
 /// The commit number becomes the greater of itself and this one, which counts only up to the head. Then ops are applied up to it, ascending
 /// (`apply`): as long as no block is missing and the next one is `Here` and reads; one that doesn't read becomes `Lost`. After an `Err` the
 /// disk has had its calls up to the stop; of replica and outputs nothing is said.
-#[tactic(auto, using(vr_step::proofs::Stepping::steps, vr_memory::proofs::Memory::readies, vr_memory::proofs::Memory::window_of), unfolding(vr_rules::specs::Words::learn))]
+#[tactic(auto, using(vr_rules::proofs::Stepping::steps, vr_memory::proofs::Memory::readies, vr_memory::proofs::Memory::window_of), unfolding(vr_rules::specs::Words::learn))]
 pub fn learn<D: SectorDisk>(
     replica: &mut Replica,
     alloc: Global,

@@ -28,7 +28,7 @@ fn applies_next(replica: &Replica) -> bool
 /// says: the next op has no such quorum; and a block is missing, all committed ops are applied, or the next one to apply isn't `Here`. Then
 /// it answers `Ok` and leaves the very same disk. After an `Err` the disk has had its calls up to the stop; of replica and outputs nothing is
 /// said.
-#[tactic(auto, using(vr_step::proofs::Stepping::steps, vr_rules::proofs::Versions::advanced_stays, vr_memory::proofs::Memory::window_of, vr_memory::proofs::Repairs::ready_advanced, crate::proofs::Advancing::none_applied, crate::proofs::Advancing::none_next), unfolding(vr_rules::specs::Words::advance))]
+#[tactic(auto, using(vr_rules::proofs::Stepping::steps, vr_rules::proofs::Versions::advanced_stays, vr_memory::proofs::Memory::window_of, vr_memory::proofs::Repairs::ready_advanced, crate::proofs::Advancing::none_applied, crate::proofs::Advancing::none_next), unfolding(vr_rules::specs::Words::advance))]
 pub fn advance<D: SectorDisk>(
     replica: &mut Replica,
     alloc: Global,

@@ -6,7 +6,7 @@ ghost use Rattle.vr_rules.specs.Words.{writes, saves, with_saved, value_of};
 ghost use Rattle.vr_ckpt.specs.Blocks.{named};
 ghost use Rattle.vr_journal.specs.Effects.{rewrites, puts};
 ghost use Rattle.vr_rings.specs.Slots.{Takes};
-ghost use Rattle.vr_step.specs.Does.{Performs};
+ghost use Rattle.vr_rules.specs.Does.{Performs};
 
 use vr_ckpt::Name;
 use vr_disk::{DiskFault, SectorDisk};

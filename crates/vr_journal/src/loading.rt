@@ -2,7 +2,7 @@
 ghost use Rattle.std.specs.Prelude.{◌≡◌, IfOk, nat_lt};
 ghost use Rattle.vr_rules.specs.Replica.{version};
 ghost use Rattle.vr_rules.specs.Words.{load, checkpoint_at};
-ghost use Rattle.vr_step.specs.Does.{Finds};
+ghost use Rattle.vr_rules.specs.Does.{Finds};
 ghost use Rattle.vr_memory.specs.Ready.{MayLoad};
 ghost use Rattle.vr_journal.specs.Acts.{Acts, Keeps, Untouched};
 
@@ -38,7 +38,7 @@ fn has_checkpoint(replica: &Replica) -> bool
 /// missing are the blocks that don't read; or the root alone, where it doesn't read, or its state doesn't decode or fit the file's version.
 /// Without a checkpoint nothing changes. Nothing is written or put out; after an `Err` nothing is said of the replica. `MayLoad`: nothing
 /// is applied above the checkpoint.
-#[tactic(auto, using(crate::proofs::Loads::load_then, crate::proofs::Loads::load_none, vr_step::proofs::Stepping::does_no_memory, crate::proofs::Loads::ready_loaded, crate::proofs::Loads::ready_opened))]
+#[tactic(auto, using(crate::proofs::Loads::load_then, crate::proofs::Loads::load_none, vr_rules::proofs::Stepping::does_no_memory, crate::proofs::Loads::ready_loaded, crate::proofs::Loads::ready_opened))]
 pub fn load<D: SectorDisk>(
     replica: &mut Replica,
     alloc: Global,

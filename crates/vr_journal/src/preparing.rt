@@ -14,7 +14,7 @@ use vr_msg::Outbox;
 /// Where the Part of this op is `Here` and its entry reads, one prepare of it goes to each other replica, ascending. Where it is `Here` and
 /// doesn't read, it becomes `Lost`; where it isn't `Here`, nothing is done. The disk is left as it is; after an `Err` nothing is said of
 /// replica and outputs.
-#[tactic(auto, using(crate::proofs::Readings::prepared_again, crate::proofs::Readings::not_prepared, vr_step::proofs::Stepping::wants))]
+#[tactic(auto, using(crate::proofs::Readings::prepared_again, crate::proofs::Readings::not_prepared, vr_rules::proofs::Stepping::wants))]
 pub fn prepare_again<D: SectorDisk>(
     replica: &mut Replica,
     alloc: Global,

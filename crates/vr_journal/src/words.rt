@@ -18,7 +18,7 @@ use vr_super::Super;
 // Saves this value, which is the present one: copies of the superblock that don't read as the value last saved are mended, then all four
 // are written. After `Ok` it is the value last saved, and nothing else of the replica changed; nothing is put out. After an `Err` the disk
 // has had its calls up to the stop; of replica and outputs nothing is said.
-#[tactic(auto, using(vr_step::proofs::Stepping::effects, vr_memory::proofs::Memory::readies), unfolding(vr_rules::specs::Words::save))]
+#[tactic(auto, using(vr_rules::proofs::Stepping::effects, vr_memory::proofs::Memory::readies), unfolding(vr_rules::specs::Words::save))]
 fn save_made<D: SectorDisk>(
     replica: &mut Replica,
     disk: &mut D,
@@ -43,7 +43,7 @@ fn save_made<D: SectorDisk>(
 /// each copy that doesn't read as the value last saved is mended, then all four are written. After `Ok` only the value last saved has
 /// changed (`with_saved`), and nothing was put out. After an `Err` the disk has had its calls up to the stop; of replica and outputs
 /// nothing is said.
-#[tactic(auto, using(vr_step::proofs::Stepping::wants))]
+#[tactic(auto, using(vr_rules::proofs::Stepping::wants))]
 pub fn save<D: SectorDisk>(
     replica: &mut Replica,
     alloc: Global,
@@ -62,7 +62,7 @@ pub fn save<D: SectorDisk>(
 /// The entry is written into its slot: header sector first where the Part of its op is `Here`, `Lost` or `Unknown`, else prepare first.
 /// Then its Part is `Here`, and ops 64 or more below the head are forgotten; nothing is put out. `MayStore`: its op is in the window, and
 /// it was made in the log view or before. After an `Err` the disk has had its calls up to the stop; of replica and outputs nothing is said.
-#[tactic(auto, using(vr_step::proofs::Stepping::effects, vr_memory::proofs::Memory::window_of, vr_memory::proofs::Memory::entry_taken, vr_memory::proofs::Memory::readies), unfolding(vr_rules::specs::Words::write))]
+#[tactic(auto, using(vr_rules::proofs::Stepping::effects, vr_memory::proofs::Memory::window_of, vr_memory::proofs::Memory::entry_taken, vr_memory::proofs::Memory::readies), unfolding(vr_rules::specs::Words::write))]
 pub fn write<D: SectorDisk>(
     replica: &mut Replica,
     disk: &mut D,
@@ -82,7 +82,7 @@ pub fn write<D: SectorDisk>(
 /// Where the Part of its op is `Here`, nothing is done, whatever the header there. Else the entry is written into its slot, header sector
 /// first where the Part is `Lost` or `Unknown`, else prepare first. Then the Part is `Here`, ops 64 or more below the head are forgotten,
 /// and nothing is put out. After an `Err` the disk has had its calls up to the stop; of replica and outputs nothing is said.
-#[tactic(auto, using(vr_step::proofs::Stepping::steps), unfolding(vr_rules::specs::Words::accept))]
+#[tactic(auto, using(vr_rules::proofs::Stepping::steps), unfolding(vr_rules::specs::Words::accept))]
 pub fn accept<D: SectorDisk>(
     replica: &mut Replica,
     disk: &mut D,
@@ -104,7 +104,7 @@ pub fn accept<D: SectorDisk>(
 // In this order: this is the view, with acknowledgements and statements dropped, only itself heard, and idle 0; the replica saves; a
 // start_view_change goes to each other replica, ascending. Its log view and its log stay. After an `Err` the disk has had its calls up to
 // the stop; of replica and outputs nothing is said.
-#[tactic(auto, using(vr_step::proofs::Stepping::steps, vr_rules::proofs::Versions::entered_stays, vr_memory::proofs::Memory::readies, vr_memory::proofs::Memory::window_of))]
+#[tactic(auto, using(vr_rules::proofs::Stepping::steps, vr_rules::proofs::Versions::entered_stays, vr_memory::proofs::Memory::readies, vr_memory::proofs::Memory::window_of))]
 fn enter_now<D: SectorDisk>(
     replica: &mut Replica,
     alloc: Global,
@@ -128,7 +128,7 @@ fn enter_now<D: SectorDisk>(
 /// In this order: this is the view, with acknowledgements and statements dropped, only itself heard, and idle 0; the replica saves; a
 /// start_view_change goes to each other replica, ascending. Past the last view, 2^32 - 2, only idle becomes 0. Its log view and its log
 /// stay. After an `Err` the disk has had its calls up to the stop; of replica and outputs nothing is said.
-#[tactic(auto, using(vr_step::proofs::Stepping::steps, vr_memory::proofs::Memory::readies), unfolding(vr_rules::specs::Words::enter))]
+#[tactic(auto, using(vr_rules::proofs::Stepping::steps, vr_memory::proofs::Memory::readies), unfolding(vr_rules::specs::Words::enter))]
 pub fn enter<D: SectorDisk>(
     replica: &mut Replica,
     alloc: Global,

@@ -10,7 +10,7 @@ use Rattle.vr_disk.specs.Regions.{prepare_place, prepare_sectors, sectors}
 use Rattle.vr_disk.specs.Sectors.{behind, has, together}
 use Rattle.vr_disk.proofs.Places.{counted, inside}
 use Rattle.vr_disk.proofs.Running.{one_cuts, one_fails, one_goes}
-use Rattle.vr_cells.specs.Seen.{copies, zero_cell}
+use Rattle.vr_mem.specs.Seen.{copies, zero_cell}
 use Rattle.vr_lie.specs.Faults.{HeldRan, held_at}
 use Rattle.vr_rings.specs.Held.{entry_of_both, header_sector, held_after, is_prepare}
 use Rattle.vr_rings.specs.Slots.{header_reading, padded, prepare_reading}

@@ -17,7 +17,7 @@ use Rattle.vr_rings.specs.Held.{entry_of_both, found, header_sector, is_prepare,
 use Rattle.vr_rings.specs.Readings.{Begins}
 use Rattle.vr_rings.specs.Slots.{header_reading, in_front, prepare_reading, size_at, whole_in, whole_of}
 use Rattle.vr_rings.proofs.Short.{first_none, rest_other, rest_zeros}
-use Rattle.vr_cells.proofs.Zeros.{zeros_has}
+use Rattle.vr_mem.proofs.Zeros.{zeros_has}
 use Rattle.vr_lie.specs.Table.{IsOwnHeader, ends_first}
 use Rattle.vr_lie.proofs.Early.{both_parts, both_true, free_found, same_bool, whole_looked}
 

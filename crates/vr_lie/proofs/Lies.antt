@@ -3,8 +3,8 @@ use Rattle.std.proofs.Common.{ℕ, zero, suc, ◌<◌, ◌≡◌, ◌≢◌, ref
 use Rattle.std.proofs.lemmas.Bool.{cases_eq}
 use Rattle.std.proofs.lemmas.List.{set-get_or, set_comm}
 use Rattle.vr_disk.specs.DiskState.{Cell, Face, blank, cell, reads}
-use Rattle.vr_cells.specs.Lies.{lied}
-use Rattle.vr_cells.specs.Seen.{reads_of}
+use Rattle.vr_mem.specs.Lies.{lied}
+use Rattle.vr_mem.specs.Seen.{reads_of}
 use Rattle.vr_lie.specs.declared.trial.Lie.{Lie}
 use Rattle.vr_lie.specs.Table.{both, shown}
 

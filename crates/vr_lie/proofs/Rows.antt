@@ -2,7 +2,7 @@
 use Rattle.std.proofs.Common.{◌≡◌, refl, ℕ, List, [], ◌∷◌, Option, Some, None}
 use Rattle.std.specs.Prelude.{map}
 use Rattle.vr_disk.specs.DiskState.{Cell, Face}
-use Rattle.vr_cells.specs.Lies.{lied}
+use Rattle.vr_mem.specs.Lies.{lied}
 use Rattle.vr_lie.specs.declared.fault.Fault.{Fault}
 use Rattle.vr_lie.specs.declared.fault.Fault.TheVariants.{Damage, Stale, Unread, Misdirect}
 use Rattle.vr_lie.specs.Faults.{faulted}

@@ -9,8 +9,8 @@ use Rattle.vr_super.specs.Copies.{SuperValue}
 use Rattle.vr_disk.specs.DiskState.{Disk, Face, IsFace}
 use Rattle.vr_disk.specs.Regions.{sectors}
 use Rattle.vr_super.specs.Opens.{good_copies, mode_in, opened, opens}
-use Rattle.vr_cells.specs.Lies.{lied}
-use Rattle.vr_cells.specs.Seen.{reads_of}
+use Rattle.vr_mem.specs.Lies.{lied}
+use Rattle.vr_mem.specs.Seen.{reads_of}
 use Rattle.vr_lie.specs.declared.fault.Fault.{Fault}
 use Rattle.vr_lie.specs.declared.fault.Fault.TheVariants.{Damage, Stale, Unread}
 use Rattle.vr_lie.specs.declared.trial.Lie.{Lie}

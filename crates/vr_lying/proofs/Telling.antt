@@ -4,8 +4,8 @@ use Rattle.std.specs.Prelude.{replicate}
 use Rattle.std.proofs.lemmas.List.{get_or-replicate, length-replicate}
 use Rattle.vr_disk.specs.DiskState.{Beside, Call, CallVerdict, Goes, Fails, Cuts, Disk, Face, Fate, IsFace, Attaches, Runs, attach_fails, attached, attached_as, judged, ran, ran_as, runs}
 use Rattle.vr_disk.specs.Regions.{sectors}
-use Rattle.vr_cells.specs.Seen as mem
-use Rattle.vr_cells.specs.Seen.{copies}
+use Rattle.vr_mem.specs.Seen as mem
+use Rattle.vr_mem.specs.Seen.{copies}
 use Rattle.vr_super.specs.Opens.{mode_in}
 use Rattle.vr_rings.specs.Held.{looked}
 use Rattle.vr_lie.specs.Faults.{HeldLooked, HeldRan, KeepsPremise, faulted, held_as, held_at}

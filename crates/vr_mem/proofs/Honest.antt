@@ -6,7 +6,7 @@ use Rattle.std.proofs.lemmas.List.Elements.{All-set, All-push, recursion_from_Al
 use Rattle.vr_disk.specs.DiskState.{Beside, Call, Write, Sync, Cell, Disk, Face, Fate, CallVerdict, Goes, Fails, Cuts, Waiting, Runs, Attaches, after, attach_fails, attached, attached_as, begun, blank, cell, judged, ran, ran_as, runs, settle, settled, settled_cell, waits, written}
 use Rattle.vr_disk.specs.Regions.{sectors}
 use Rattle.vr_mem.specs.Honesty.{IsHonest}
-use Rattle.vr_cells.specs.Seen.{copies, zero_cell}
+use Rattle.vr_mem.specs.Seen.{copies, zero_cell}
 
 abbrev HonestCell : Cell → Type 0
 HonestCell c = c.reads ≡ Some c.truth

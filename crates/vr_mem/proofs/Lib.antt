@@ -2,3 +2,13 @@ pub mod Cutting
 pub mod Honest
 pub mod Meant
 pub mod Plain
+pub mod Faces
+pub mod Made
+pub mod Marks
+pub mod Noted
+pub mod Once
+pub mod Places
+pub mod Settling
+pub mod Shelves
+pub mod Waiting
+pub mod Zeros

@@ -12,14 +12,14 @@ use Rattle.vr_base.specs.Bytes.{IsBytes}
 use Rattle.vr_disk.specs.DiskState.{Cell, Face, Waiting, Write, Sync, after, blank, cell, damaged, digit_at, noted, settle, settled, settled_cell, waits, written}
 use Rattle.vr_disk.specs.Fronts.{front}
 use Rattle.vr_disk.specs.Regions.{sectors}
-use Rattle.vr_cells.specs.Lies.{lied}
-use Rattle.vr_cells.specs.declared.bytes.Mark.{Mark}
-use Rattle.vr_cells.specs.declared.bytes.Mark.TheVariants as mark
+use Rattle.vr_mem.specs.Lies.{lied}
+use Rattle.vr_mem.specs.declared.bytes.Mark.{Mark}
+use Rattle.vr_mem.specs.declared.bytes.Mark.TheVariants as mark
 use Rattle.vr_mem.specs.declared.texts.TextNumber.{TextNumber}
 use Rattle.vr_mem.specs.declared.texts.TextNumber.TheVariants as n
 use Rattle.vr_mem.specs.declared.texts.Texts.{Texts}
 use Rattle.vr_mem.specs.Owed.{AreFree, ArePlain, IsFree, IsPlainCell, KeepsOthers, begins_copy, byte_of, cell_by, content_by, face_by, first_item, meant, meant_cell, meant_face, number_of, same_number, stands_for, text_of, waiting_by}
-use Rattle.vr_cells.specs.Seen.{copies, marked, zero_cell}
+use Rattle.vr_mem.specs.Seen.{copies, marked, zero_cell}
 
 -- ---- faces, by a function of contents
 

@@ -12,14 +12,14 @@ use Rattle.vr_disk.specs.DiskState.{Beside, Cell, Disk, Face, Fate, IsContent, W
 use Rattle.vr_disk.specs.Fronts.{front}
 use Rattle.vr_disk.specs.Regions.{sectors}
 use Rattle.vr_disk.proofs.Faces.{face_after, face_settled}
-use Rattle.vr_cells.specs.Lies.{lied}
-use Rattle.vr_cells.specs.declared.face.MemFace.{MemFace}
-use Rattle.vr_cells.specs.declared.bytes.Mark.{Mark}
+use Rattle.vr_mem.specs.Lies.{lied}
+use Rattle.vr_mem.specs.declared.face.MemFace.{MemFace}
+use Rattle.vr_mem.specs.declared.bytes.Mark.{Mark}
 use Rattle.vr_mem.specs.declared.texts.TextNumber.{TextNumber}
 use Rattle.vr_mem.specs.declared.texts.Texts.{Texts}
 use Rattle.vr_mem.specs.Owed.{AreFree, ArePlain, AreSectors, IsPlainCell, KeepsOthers, first_item, begins_copy, meant, meant_face}
-use Rattle.vr_cells.specs.Seen.{IsMemFace, copies, face_of, marked, zero_cell}
-use Rattle.vr_cells.proofs.Faces.{face_lied, face_zeros}
+use Rattle.vr_mem.specs.Seen.{IsMemFace, copies, face_of, marked, zero_cell}
+use Rattle.vr_mem.proofs.Faces.{face_lied, face_zeros}
 use Rattle.vr_mem.proofs.Meant.{damaged_high, kept_face, meant_cell_at, meant_lied, meant_plain, meant_settle, meant_sync, meant_write, meant_zeros, plain_mark}
 
 -- ---- what stays plain

@@ -4,7 +4,7 @@ use Rattle.vr_disk.specs.DiskState.{Disk, IsFace, name_beside}
 use Rattle.vr_mem.specs.declared.cell_disk.CellDisk.{CellDisk}
 use Rattle.vr_mem.specs.Owed.{meant_face}
 use Rattle.vr_mem.specs.Calls.{fate_of, name_given}
-use Rattle.vr_cells.specs.Seen.{face_of}
+use Rattle.vr_mem.specs.Seen.{face_of}
 
 -- its sectors, with the names that are owed; what becomes of its calls; and the name by which it was attached, beside which it keeps nothing
 abbrev pub disk_of : CellDisk → Disk

@@ -3,3 +3,5 @@ pub mod Cells
 pub mod Honesty
 pub mod Owed
 pub mod Told
+pub mod Lies
+pub mod Seen

@@ -4,11 +4,11 @@ use Rattle.std.specs.List.{All}
 use Rattle.std.specs.Option.{option_map}
 use Rattle.vr_disk.specs.DiskState.{Cell, Face, IsFace, Waiting, cell, damaged}
 use Rattle.vr_disk.specs.Fronts.{front}
-use Rattle.vr_cells.specs.declared.face.MemFace.{MemFace}
+use Rattle.vr_mem.specs.declared.face.MemFace.{MemFace}
 use Rattle.vr_mem.specs.declared.texts.TextNumber.{TextNumber}
 use Rattle.vr_mem.specs.declared.texts.TextNumber.TheVariants as n
 use Rattle.vr_mem.specs.declared.texts.Texts.{Texts}
-use Rattle.vr_cells.specs.Seen.{IsMemFace, face_of}
+use Rattle.vr_mem.specs.Seen.{IsMemFace, face_of}
 
 -- ---- a face of which each content becomes what a function of contents says
 

@@ -4,17 +4,17 @@ ghost use Rattle.std.specs.Option.{option_map};
 ghost use Rattle.vr_base.specs.Causes.{HasCause};
 ghost use Rattle.vr_disk.specs.DiskState.{Sync, Write, after, cell, digit_at, judged, nothing_beside, settle, reads};
 ghost use Rattle.vr_disk.specs.Fronts.{front};
-ghost use Rattle.vr_cells.specs.Lies.{lied};
+ghost use Rattle.vr_mem.specs.Lies.{lied};
 ghost use Rattle.vr_mem.specs.Owed.{AreFree, AreSectors, IsFree, begins_copy, meant, stands_for, text_of};
 ghost use Rattle.vr_mem.specs.Calls.{call_verdict};
-ghost use Rattle.vr_cells.specs.Seen.{bytes_of, copies, face_of, zero_cell};
+ghost use Rattle.vr_mem.specs.Seen.{bytes_of, copies, face_of, zero_cell};
 
 use crate::fate::{MemFate, MemFuse, MemVerdict};
 use crate::name::DiskName;
 use crate::texts::{TEXT_SIZE, TextNumber, Texts};
+use crate::{Mark, MemBytes, MemFace};
 use std::alloc::Global;
 use vr_base::{NoMemory, Sum};
-use vr_cells::{Mark, MemBytes, MemFace};
 use vr_disk::{
     COPIES, COPY_SECTORS, DiskFailed, Memo, NAME_MOST, Room, SECTORS, Sector, SectorDisk, ZEROS,
     front_sector,

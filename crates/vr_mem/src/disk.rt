@@ -2,7 +2,7 @@
 ghost use Rattle.std.specs.Prelude.{◌≡◌, ◌-◌, ◌≤◌, Some, None, false, [], IfOk};
 ghost use Rattle.vr_disk.specs.DiskState.{nothing_beside};
 ghost use Rattle.vr_mem.specs.Honesty.{IsHonest};
-ghost use Rattle.vr_cells.specs.Seen.{copies, zero_cell};
+ghost use Rattle.vr_mem.specs.Seen.{copies, zero_cell};
 ghost use Rattle.vr_mem.specs.Cells.{disk_of};
 
 use crate::CellDisk;

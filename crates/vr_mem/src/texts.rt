@@ -1,9 +1,9 @@
 //! The three texts of which a disk in memory makes the names only where they are read.
 ghost use Rattle.std.specs.Prelude.{◌≡◌, length};
 
+use crate::{Mark, damage};
 use std::alloc::{AllocError, Global};
 use vr_base::{Sum, checksum, u64_at};
-use vr_cells::{Mark, damage};
 use vr_disk::{COPY_SIZE, FRONT_TEXT, Memo, Room, SECTOR_SIZE, Sector, ZEROS, front_sector};
 
 /// How many bytes a text has: those of a copy of the superblock without its name. The texts of `vr_super` are as long, and a
@@ -35,7 +35,7 @@ pub struct Texts {
 
 impl TextNumber {
     ghost use Rattle.vr_mem.specs.Owed.{byte_of, number_of, stands_for};
-    ghost use Rattle.vr_cells.specs.Seen.{marked};
+    ghost use Rattle.vr_mem.specs.Seen.{marked};
 
     /// The byte that stands for the text of this number.
     pub fn byte(self) -> u8
@@ -80,7 +80,7 @@ impl Texts {
     ghost use Rattle.vr_disk.specs.Fronts.{front};
     ghost use Rattle.vr_disk.specs.Sectors.{has};
     ghost use Rattle.vr_mem.specs.Owed.{KeepsOthers, content_by, meant, number_of, text_of};
-    ghost use Rattle.vr_cells.specs.Seen.{marked};
+    ghost use Rattle.vr_mem.specs.Seen.{marked};
 
     /// Three texts of zeros.
     pub fn new(alloc: Global) -> Result<Texts, AllocError> {

@@ -25,10 +25,10 @@ use Rattle.vr_serve.specs.Causes as serve
 use Rattle.vr_serve.specs.Runs.{IsServed}
 use Rattle.vr_serve.specs.declared.stop.Stop.{Stop}
 use Rattle.vr_serve.specs.declared.stop.Stop.TheVariants as stop
-use Rattle.vr_status.proofs.Counting.{links_kept}
-use Rattle.vr_status.specs.Counts.{links_after, writes_after}
-use Rattle.vr_status.specs.declared.status.Status.{Status}
-use Rattle.vr_status.specs.declared.status.Status.TheVariants as status
+use Rattle.vr_base.proofs.Counting.{links_kept}
+use Rattle.vr_base.specs.Counts.{links_after, writes_after}
+use Rattle.vr_base.specs.declared.status.Status.{Status}
+use Rattle.vr_base.specs.declared.status.Status.TheVariants as status
 
 -- ---- serving
 

@@ -7,7 +7,7 @@ use Rattle.vr_msg.specs.declared.event.Event.{Event}
 use Rattle.vr_msg.specs.declared.output.Output.{Output}
 use Rattle.vr_node.specs.Steps.{steps, stops}
 use Rattle.vr_node.specs.declared.node.Node.{Node}
-use Rattle.vr_step.specs.Does.{Does}
+use Rattle.vr_rules.specs.Does.{Does}
 use Rattle.vr_rules.specs.Replica.{version}
 use Rattle.vr_rules.specs.Rules.{react}
 

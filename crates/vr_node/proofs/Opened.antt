@@ -8,8 +8,8 @@ use Rattle.vr_node.specs.Opening.{Opening}
 use Rattle.vr_opening.specs.Recovering.{Recovered}
 use Rattle.vr_opening.specs.declared.reopen.Refusal.TheVariants as found
 use Rattle.vr_replica.specs.Running.{Running}
-use Rattle.vr_status.specs.declared.status.Status.{Status}
-use Rattle.vr_status.specs.declared.status.Status.TheVariants as status
+use Rattle.vr_base.specs.declared.status.Status.{Status}
+use Rattle.vr_base.specs.declared.status.Status.TheVariants as status
 use Rattle.vr_disk.specs.declared.fault.Halt.TheVariants as halt
 use Rattle.vr_super.specs.declared.recovering.CopyVerdict.{CopyVerdict}
 

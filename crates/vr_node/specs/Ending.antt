@@ -17,9 +17,9 @@ use Rattle.vr_serve.specs.Causes.{Counts, HasCauses, counts}
 use Rattle.vr_serve.specs.Runs.{IsServed}
 use Rattle.vr_serve.specs.declared.stop.Stop.{Stop}
 use Rattle.vr_serve.specs.declared.stop.Stop.TheVariants as stop
-use Rattle.vr_status.specs.Counts.{links_after, writes_after}
-use Rattle.vr_status.specs.declared.status.Status.{Status}
-use Rattle.vr_status.specs.declared.status.Status.TheVariants.{LinkFault}
+use Rattle.vr_base.specs.Counts.{links_after, writes_after}
+use Rattle.vr_base.specs.declared.status.Status.{Status}
+use Rattle.vr_base.specs.declared.status.Status.TheVariants.{LinkFault}
 
 -- what these objects tell
 abbrev pub outside_of : {D L C K : Type 0} → of_disk.Ghosts D → of_link.Ghosts L → of_clock.Ghosts C → of_sink.Ghosts K → D → L → C → K → Outside

@@ -5,8 +5,8 @@ use Rattle.vr_disk.specs.DiskState.{Attaches, Disk}
 use Rattle.vr_disk.specs.declared.fault.Halt.TheVariants as halt
 use Rattle.vr_opening.specs.Migration.{Migrated}
 use Rattle.vr_opening.specs.declared.reopen.Refusal.TheVariants as found
-use Rattle.vr_status.specs.declared.status.Status.{Status}
-use Rattle.vr_status.specs.declared.status.Status.TheVariants.{Done, SuperLost, OtherMember, DiskFault, NoMemory}
+use Rattle.vr_base.specs.declared.status.Status.{Status}
+use Rattle.vr_base.specs.declared.status.Status.TheVariants.{Done, SuperLost, OtherMember, DiskFault, NoMemory}
 use Rattle.vr_super.specs.declared.recovering.CopyVerdict.{CopyVerdict}
 
 -- how the migration of the file on a disk ends, for this member

@@ -13,8 +13,8 @@ use Rattle.vr_opening.specs.declared.new_member.FreshFault.TheVariants as made
 use Rattle.vr_opening.specs.declared.reopen.Refusal.TheVariants as found
 use Rattle.vr_replica.specs.Running.{Running}
 use Rattle.vr_rules.specs.Replica.{Replica}
-use Rattle.vr_status.specs.declared.status.Status.{Status}
-use Rattle.vr_status.specs.declared.status.Status.TheVariants.{SuperLost, OtherMember, DiskFault, NoMemory, Occupied}
+use Rattle.vr_base.specs.declared.status.Status.{Status}
+use Rattle.vr_base.specs.declared.status.Status.TheVariants.{SuperLost, OtherMember, DiskFault, NoMemory, Occupied}
 use Rattle.vr_disk.specs.declared.fault.Halt.TheVariants as halt
 use Rattle.vr_super.specs.declared.recovering.CopyVerdict.{CopyVerdict}
 

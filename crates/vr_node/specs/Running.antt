@@ -19,8 +19,8 @@ use Rattle.vr_serve.specs.Causes.{Counts}
 use Rattle.vr_serve.specs.Runs.{End, IsCutBefore, IsCutInTurn, IsServed, end_at}
 use Rattle.vr_serve.specs.declared.stop.Stop.{Stop}
 use Rattle.vr_serve.specs.declared.stop.Stop.TheVariants as stop
-use Rattle.vr_status.specs.declared.status.Status.{Status}
-use Rattle.vr_status.specs.declared.status.Status.TheVariants.{Done, WriteFault, DiskFault, LinkFault, NoMemory}
+use Rattle.vr_base.specs.declared.status.Status.{Status}
+use Rattle.vr_base.specs.declared.status.Status.TheVariants.{Done, WriteFault, DiskFault, LinkFault, NoMemory}
 
 -- what is outside of a member: what disk, clock, link and sink tell
 pub record Outside : Type 0 where

@@ -4,7 +4,7 @@ use Rattle.vr_node.specs.declared.node.Node.{Node}
 use Rattle.vr_rules.specs.Replica.{version}
 use Rattle.vr_rules.specs.Rules.{react}
 use Rattle.vr_serve.specs.Runs.{Doing, Halting}
-use Rattle.vr_step.specs.Does.{Does}
+use Rattle.vr_rules.specs.Does.{Does}
 
 -- one step of the rules, whole, on a file of the replica's version, which is 1 or 2: replica, disk and outputs are those that the rules give
 abbrev pub steps : Doing Node

@@ -3,8 +3,8 @@ use Rattle.std.specs.Prelude.{ℕ}
 use Rattle.vr_base.specs.Causes.{one_more}
 use Rattle.vr_serve.specs.declared.stop.Stop.{Stop}
 use Rattle.vr_serve.specs.declared.stop.Stop.TheVariants as stop
-use Rattle.vr_status.specs.declared.status.Status.{Status}
-use Rattle.vr_status.specs.declared.status.Status.TheVariants.{DiskFault, LinkFault, NoMemory, WriteFault}
+use Rattle.vr_base.specs.declared.status.Status.{Status}
+use Rattle.vr_base.specs.declared.status.Status.TheVariants.{DiskFault, LinkFault, NoMemory, WriteFault}
 
 abbrev pub status_of : Stop → Status
 status_of stop.Disk = DiskFault

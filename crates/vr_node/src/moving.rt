@@ -5,10 +5,9 @@ ghost use Rattle.vr_node.specs.Moving.{MigrationEnds, MovesFile};
 ghost use Rattle.vr_node.specs.Stops.{disk_after};
 
 use std::alloc::Global;
-use vr_base::Config;
+use vr_base::{Config, Status};
 use vr_disk::SectorDisk;
 use vr_replica::{Halt, Refusal, Replica};
-use vr_status::Status;
 
 /// Migrates the file on a disk that is attached. `Done`: its superblock was mended, and in a file of version 1 each prepare written at its new place,
 /// then the value saved as one of version 2. `SuperLost`: no value opens, and no call was made; `OtherMember`: that member's superblock was mended,

@@ -4,11 +4,10 @@ ghost use Rattle.vr_base.specs.Groups.{is_size};
 ghost use Rattle.vr_node.specs.Opening.{OpensMember};
 
 use std::alloc::Global;
-use vr_base::{Config, Kind};
+use vr_base::{Config, Kind, Status};
 use vr_disk::SectorDisk;
 use vr_msg::Outbox;
 use vr_replica::{FreshFault, Halt, Refusal, Replica};
-use vr_status::Status;
 
 /// Formats the disk for a file of this kind, and makes the replica of a new member, which runs. `Occupied`: two good copies of a superblock agree,
 /// and nothing was written; `NoMemory`: they don't, and nothing was written. `DiskFault`: the calls of the format were made up to the one that

@@ -8,12 +8,11 @@ ghost use Rattle.vr_node.specs.Stops.{status_of};
 use crate::opening::open_member;
 use crate::{Node, Role, serve};
 use std::alloc::Global;
-use vr_base::Seq;
+use vr_base::{Seq, Status};
 use vr_disk::SectorDisk;
 use vr_edge::{Clock, Link, Sink};
 use vr_msg::Outbox;
 use vr_serve::Stop;
-use vr_status::Status;
 
 /// A loop that ended for its disk, link or sink ends as `DiskFault`, `LinkFault` or `WriteFault`, and for want of memory as `NoMemory`.
 fn status_of(stop: Stop) -> Status

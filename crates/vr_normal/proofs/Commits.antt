@@ -13,8 +13,8 @@ use Rattle.vr_rules.specs.Replica.{Replica, head, last_view}
 use Rattle.vr_rules.specs.Rules.{obey_commit, on_commit}
 use Rattle.vr_rules.specs.Steps.{◌⨾◌, change}
 use Rattle.vr_rules.specs.Words.{rested, learn}
-use Rattle.vr_step.specs.Does.{Does}
-use Rattle.vr_step.proofs.Stepping.{does_by, does_quiet, says_by}
+use Rattle.vr_rules.specs.Does.{Does}
+use Rattle.vr_rules.proofs.Stepping.{does_by, does_quiet, says_by}
 use Rattle.vr_normal.specs.declared.learning.CommitRule.{CommitRule}
 use Rattle.vr_normal.specs.declared.learning.CommitRule.TheVariants as rule
 use Rattle.vr_normal.specs.Messages.{IsCommitting}

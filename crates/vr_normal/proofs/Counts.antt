@@ -18,8 +18,8 @@ use Rattle.vr_rules.specs.Words.{advance}
 use Rattle.vr_rules.proofs.Keeping.{sound_ackers}
 use Rattle.vr_rules.proofs.Ruling.{by_rows}
 use Rattle.vr_rules.proofs.SavesWell.{savable_alike}
-use Rattle.vr_step.specs.Does.{Does}
-use Rattle.vr_step.proofs.Stepping.{does_by, does_naming, does_quiet}
+use Rattle.vr_rules.specs.Does.{Does}
+use Rattle.vr_rules.proofs.Stepping.{does_by, does_naming, does_quiet}
 use Rattle.vr_memory.specs.Ready.{IsReady}
 use Rattle.vr_normal.specs.declared.counting.CountRule.{CountRule}
 use Rattle.vr_normal.specs.declared.counting.CountRule.TheVariants as rule

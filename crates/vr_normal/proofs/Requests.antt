@@ -28,8 +28,8 @@ use Rattle.vr_rules.proofs.Ruling.{by_rows, IsFor, for_of}
 use Rattle.vr_state.specs.declared.session.SessionAnswer.{SessionAnswer}
 use Rattle.vr_state.specs.declared.session.SessionAnswer.TheVariants as answer
 use Rattle.vr_disk.specs.declared.fault.Halt.{Halt}
-use Rattle.vr_step.specs.Does.{Does}
-use Rattle.vr_step.proofs.Stepping.{does_by, does_naming, does_quiet, says_by}
+use Rattle.vr_rules.specs.Does.{Does}
+use Rattle.vr_rules.proofs.Stepping.{does_by, does_naming, does_quiet, says_by}
 use Rattle.vr_memory.specs.Ready.{IsReady, MayStore}
 use Rattle.vr_normal.specs.declared.requesting.RequestRule.{RequestRule}
 use Rattle.vr_normal.specs.declared.requesting.RequestRule.TheVariants as rule

@@ -60,7 +60,7 @@ pub fn decide_prepare_ok(replica: &Replica, ack: &PrepareOk) -> CountRule
 // The sender is added to those that have acknowledged this op. Then advance: the commit number rises, up to the head, as long as the next
 // op has its quorum, and what is committed is applied. Where that neither raises nor applies anything (`Waits`), it answers `Ok` and leaves
 // the very same disk. After an `Err` the disk has had its calls up to the stop; of replica and outputs nothing is said.
-#[tactic(auto, using(vr_step::proofs::Stepping::steps, crate::proofs::Counts::counted_from, crate::proofs::Counts::counted_within, crate::proofs::Counts::ready_counted))]
+#[tactic(auto, using(vr_rules::proofs::Stepping::steps, crate::proofs::Counts::counted_from, crate::proofs::Counts::counted_within, crate::proofs::Counts::ready_counted))]
 fn count<D: SectorDisk>(
     replica: &mut Replica,
     alloc: Global,

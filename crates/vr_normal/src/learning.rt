@@ -73,7 +73,7 @@ fn is_behind(replica: &Replica, commit: &Commit) -> bool
 
 // Where the head that the commit tells of is above the replica's, one get_view of the commit's view goes to its sender; else nothing is put
 // out. Replica and disk are left as they are; after an `Err` nothing is said of outputs.
-#[tactic(auto, using(crate::proofs::Commits::behind, vr_step::proofs::Stepping::wants))]
+#[tactic(auto, using(crate::proofs::Commits::behind, vr_rules::proofs::Stepping::wants))]
 fn ask_behind<D: SectorDisk>(
     replica: &Replica,
     _disk: &mut D,
@@ -93,7 +93,7 @@ fn ask_behind<D: SectorDisk>(
 // In this order: idle is 0; where the commit's head is above the replica's, a get_view of its view goes to its sender. Then its commit
 // number is learned, at most up to the head, and what is committed is applied. After an `Err` the disk has had its calls up to the stop; of
 // replica and outputs nothing is said.
-#[tactic(auto, using(vr_step::proofs::Stepping::steps, vr_memory::proofs::Memory::readies))]
+#[tactic(auto, using(vr_rules::proofs::Stepping::steps, vr_memory::proofs::Memory::readies))]
 fn hear<D: SectorDisk>(
     replica: &mut Replica,
     alloc: Global,
@@ -114,7 +114,7 @@ fn hear<D: SectorDisk>(
 /// done. Above the log view a get_view of its view goes to the sender, and that is all. Else idle is 0, and where its head is above the
 /// replica's, that get_view goes out. Then its commit number is learned, at most up to the head, and what is committed is applied. After an
 /// `Err` the disk has had its calls up to the stop; of replica and outputs nothing is said.
-#[tactic(auto, using(crate::proofs::Commits::rules, crate::proofs::Commits::view_fits, vr_step::proofs::Stepping::wants))]
+#[tactic(auto, using(crate::proofs::Commits::rules, crate::proofs::Commits::view_fits, vr_rules::proofs::Stepping::wants))]
 pub fn handle_commit<D: SectorDisk>(
     replica: &mut Replica,
     alloc: Global,

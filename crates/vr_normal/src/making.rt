@@ -66,7 +66,7 @@ fn next_entry(replica: &Replica, alloc: Global, request: &Request) -> Result<Ent
 // In this order: the entry is written into its slot, and `Here`; a prepare of it goes to each other replica, ascending. Then the commit
 // number rises as long as the next op has its quorum, and what is committed is applied. After an `Err` the disk has had its calls up to the
 // stop; of replica and outputs nothing is said.
-#[tactic(auto, using(vr_step::proofs::Stepping::steps, vr_memory::proofs::Memory::readies), unfolding(vr_rules::specs::Rules::make))]
+#[tactic(auto, using(vr_rules::proofs::Stepping::steps, vr_memory::proofs::Memory::readies), unfolding(vr_rules::specs::Rules::make))]
 fn make<D: SectorDisk>(
     replica: &mut Replica,
     alloc: Global,
@@ -88,7 +88,7 @@ fn make<D: SectorDisk>(
 /// Rule 6, which has to apply: the entry of this request is made in the replica's view for the op after the head, on the head's name. In
 /// this order: it is written, and `Here`; a prepare of it goes to each other replica, ascending; the commit number rises as quorums allow;
 /// what is committed is applied. After an `Err` the disk has had its calls up to the stop; of replica and outputs nothing is said.
-#[tactic(auto, using(vr_step::proofs::Stepping::steps, crate::proofs::Requests::may_make, crate::proofs::Requests::made_taken, crate::proofs::Requests::made_view, crate::proofs::Requests::head_room))]
+#[tactic(auto, using(vr_rules::proofs::Stepping::steps, crate::proofs::Requests::may_make, crate::proofs::Requests::made_taken, crate::proofs::Requests::made_view, crate::proofs::Requests::head_room))]
 pub fn make_next<D: SectorDisk>(
     replica: &mut Replica,
     alloc: Global,

@@ -220,7 +220,7 @@ fn reply_stored(
 // `Answered`: reply what the sessions answer, which it has (`Answers`). `Made`: the next entry is made, written, prepared to each other
 // replica, and counted; what is committed is applied. In all others replica and disk are left as they are. After an `Err` the disk has had
 // its calls up to the stop; of replica and outputs nothing is said.
-#[tactic(auto, using(crate::proofs::Requests::rules, vr_step::proofs::Stepping::wants))]
+#[tactic(auto, using(crate::proofs::Requests::rules, vr_rules::proofs::Stepping::wants))]
 fn obey_request<D: SectorDisk>(
     replica: &mut Replica,
     alloc: Global,
@@ -263,7 +263,7 @@ fn obey_request<D: SectorDisk>(
 /// or why there is none. The head is at least 8 above the commit number or at least 2^62, reply `busy`. Else, in this order: the next entry
 /// is written; a prepare goes to each other replica; the commit number rises as quorums allow; what is committed is applied. After an `Err`
 /// the disk has had its calls up to the stop; of replica and outputs nothing is said.
-#[tactic(auto, using(vr_step::proofs::Stepping::wants))]
+#[tactic(auto, using(vr_rules::proofs::Stepping::wants))]
 pub fn handle_request<D: SectorDisk>(
     replica: &mut Replica,
     alloc: Global,

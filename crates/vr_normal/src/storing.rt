@@ -113,7 +113,7 @@ pub fn decide_prepare(replica: &Replica, prepare: &Prepare) -> PrepareRule
 
 // In this order: idle is 0; this commit number is learned, at most up to the head; what is committed is applied. After an `Err` the disk
 // has had its calls up to the stop; of replica and outputs nothing is said.
-#[tactic(auto, using(vr_step::proofs::Stepping::steps, vr_memory::proofs::Memory::readies))]
+#[tactic(auto, using(vr_rules::proofs::Stepping::steps, vr_memory::proofs::Memory::readies))]
 fn hear<D: SectorDisk>(
     replica: &mut Replica,
     alloc: Global,
@@ -131,7 +131,7 @@ fn hear<D: SectorDisk>(
 // Rule 11, in this order: idle is 0; the entry is written, unless the Part of its op is `Here`; a prepare_ok of it goes to the view's
 // primary. Then the prepare's commit number is learned, at most up to the head, and what is committed is applied. After an `Err` the disk
 // has had its calls up to the stop; of replica and outputs nothing is said.
-#[tactic(auto, using(vr_step::proofs::Stepping::steps, vr_memory::proofs::Memory::readies))]
+#[tactic(auto, using(vr_rules::proofs::Stepping::steps, vr_memory::proofs::Memory::readies))]
 fn store_known<D: SectorDisk>(
     replica: &mut Replica,
     alloc: Global,
@@ -152,7 +152,7 @@ fn store_known<D: SectorDisk>(
 // Rule 12, in this order: idle is 0; the entry is written, and `Here`; a prepare_ok of it goes to the view's primary. Then the prepare's
 // commit number is learned, at most up to the head, and what is committed is applied. After an `Err` the disk has had its calls up to the
 // stop; of replica and outputs nothing is said.
-#[tactic(auto, using(vr_step::proofs::Stepping::steps, vr_memory::proofs::Memory::readies))]
+#[tactic(auto, using(vr_rules::proofs::Stepping::steps, vr_memory::proofs::Memory::readies))]
 fn store_next<D: SectorDisk>(
     replica: &mut Replica,
     alloc: Global,
@@ -172,7 +172,7 @@ fn store_next<D: SectorDisk>(
 
 // Rule 13, in this order: idle is 0; a get_view of the prepare's view goes to its sender; the commit number is learned; what is committed
 // is applied. The entry isn't written. After an `Err` the disk has had its calls up to the stop; of replica and outputs nothing is said.
-#[tactic(auto, using(vr_step::proofs::Stepping::steps, vr_memory::proofs::Memory::readies))]
+#[tactic(auto, using(vr_rules::proofs::Stepping::steps, vr_memory::proofs::Memory::readies))]
 fn ask_ahead<D: SectorDisk>(
     replica: &mut Replica,
     alloc: Global,
@@ -195,7 +195,7 @@ fn ask_ahead<D: SectorDisk>(
 /// a place (`Other`), its commit number is learned, and what is committed applied. Where it is ignored, before the view or `Other`
 /// (`passes`), it answers `Ok` and leaves the very same disk. After an `Err` the disk has had its calls up to the stop; of replica and
 /// outputs nothing is said.
-#[tactic(auto, using(crate::proofs::Prepares::rules, crate::proofs::Prepares::may_store, crate::proofs::Prepares::view_fits, vr_memory::proofs::Memory::readies, vr_step::proofs::Stepping::wants))]
+#[tactic(auto, using(crate::proofs::Prepares::rules, crate::proofs::Prepares::may_store, crate::proofs::Prepares::view_fits, vr_memory::proofs::Memory::readies, vr_rules::proofs::Stepping::wants))]
 pub fn handle_prepare<D: SectorDisk>(
     replica: &mut Replica,
     alloc: Global,

@@ -18,10 +18,10 @@ use Rattle.vr_rules.proofs.SavesOpening.{savable_next}
 use Rattle.vr_rules.proofs.SavesWell.{savable_alike}
 use Rattle.vr_rules.proofs.Keeping.{sound_alike}
 use Rattle.vr_disk.specs.declared.fault.Halt.{Halt}
-use Rattle.vr_step.specs.Does.{Does}
+use Rattle.vr_rules.specs.Does.{Does}
 use Rattle.vr_memory.specs.Ready.{IsReady, MayLoad}
 use Rattle.vr_opening.specs.Finding.{IsOpeningOld}
-use Rattle.vr_step.proofs.Stepping.{does_by, does_quiet, change_by_then, says_by}
+use Rattle.vr_rules.proofs.Stepping.{does_by, does_quiet, change_by_then, says_by}
 
 pub opening_blank : (v : SuperValue) (r : Replica) → r ≡ blank v → IsGood v → IsOpeningOld 0 r
 unfolding IsOpeningOld blank

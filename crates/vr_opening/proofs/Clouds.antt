@@ -22,11 +22,11 @@ use Rattle.vr_rules.proofs.Openings.{partly_spans, partly_clouded, opened_forget
 use Rattle.vr_rules.proofs.SavesFound.{clouded_known, found_topped, savable_found, savable_forgetting}
 use Rattle.vr_rules.proofs.SavesParts.{Topped, topped_forgetting}
 use Rattle.vr_disk.specs.declared.fault.Halt.{Halt}
-use Rattle.vr_step.specs.Does.{Does}
+use Rattle.vr_rules.specs.Does.{Does}
 use Rattle.vr_memory.specs.Ready.{IsReady, HasWindow, MayLoad}
 use Rattle.vr_opening.specs.Finding.{IsOpening, cloud_by, cloud_to, window_end, window_of}
 use Rattle.vr_rules.proofs.Versions.{clouded_stays, forgetting_stays}
-use Rattle.vr_step.proofs.Stepping.{does_then, does_stopped, change_by_then, change_by}
+use Rattle.vr_rules.proofs.Stepping.{does_then, does_stopped, change_by_then, change_by}
 
 pub any_more : (xs : List Part) (i : ℕ) → was_stored (get_or xs i Nothing) ≡ false → list_any was_stored (drop i xs) ≡ list_any was_stored (drop (i + 1) xs)
 any_more [] zero e = refl

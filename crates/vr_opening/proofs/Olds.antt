@@ -23,11 +23,11 @@ use Rattle.vr_rules.proofs.Slots.{Right, value_is}
 use Rattle.vr_rules.proofs.Openings.{first_is, partly_part, IsOld, old_right}
 use Rattle.vr_rules.proofs.SavesFound.{set_keeps, known_old, only_later}
 use Rattle.vr_disk.specs.declared.fault.Halt.{Halt}
-use Rattle.vr_step.specs.Does.{Finds, Does, LeftBy, Going}
+use Rattle.vr_rules.specs.Does.{Finds, Does, LeftBy, Going}
 use Rattle.vr_opening.specs.Finding.{IsOpening, IsOpeningOld, DoesAt, recover_listed, window_end, window_of}
 use Rattle.vr_window.proofs.Lists.{found_is}
 use Rattle.vr_rules.proofs.Versions.{part_stays}
-use Rattle.vr_step.proofs.Stepping.{does_reading, change_by, going_goes, going_stops, going_ends, going_begins}
+use Rattle.vr_rules.proofs.Stepping.{does_reading, change_by, going_goes, going_stops, going_ends, going_begins}
 
 pub old_then : (h : Header) (e : Option Whole) (p : Part) (r q : Replica) (d d' : Option Disk) (o : List Output) → Finds (version r) (entry_of h) d d' e → p ≡ old_part h e → q ≡ with_part h.op p r
     → Does (recover_old h) r q d d' o o (Ok tt)

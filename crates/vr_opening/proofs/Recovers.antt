@@ -25,9 +25,9 @@ use Rattle.vr_opening.specs.declared.reopen.NoValue.{NoValue}
 use Rattle.vr_opening.specs.declared.reopen.NoValue.TheVariants as none
 use Rattle.vr_opening.specs.declared.reopen.Refusal.{Refusal}
 use Rattle.vr_opening.specs.declared.reopen.Refusal.TheVariants.{Halted}
-use Rattle.vr_step.specs.Does.{Does, Performs}
+use Rattle.vr_rules.specs.Does.{Does, Performs}
 use Rattle.vr_opening.specs.Recovering.{after_mend, all_good, DoesTo, config_of, is_left, is_other, not_found, opens_as, refusal_of, runs_as, LosesCopies, LeavesAlone, LosesValue, MendsValue, BeginsWith, StopsMending, LeavesUnmended, FindsValue, IsOther, IsAsked, StopsAsked, Recovered, RecoveredAny}
-use Rattle.vr_step.proofs.Stepping.{does_no_memory, effect_then, effect_stopped}
+use Rattle.vr_rules.proofs.Stepping.{does_no_memory, effect_then, effect_stopped}
 
 pub begun_wanted : (v : SuperValue) (d : Option Disk) (o : List Output) → DoesTo (after_mend v) (blank v) d d o o (Err NoMemory)
 begun_wanted v d o = does_no_memory (after_mend v) (blank v) (blank v) d o o

@@ -22,7 +22,7 @@ use Rattle.vr_opening.specs.declared.reopen.NoValue.{NoValue}
 use Rattle.vr_opening.specs.declared.reopen.NoValue.TheVariants as none
 use Rattle.vr_opening.specs.declared.reopen.Refusal.{Refusal}
 use Rattle.vr_opening.specs.declared.reopen.Refusal.TheVariants.{Lost, OtherMember, Halted}
-use Rattle.vr_step.specs.Does.{Does}
+use Rattle.vr_rules.specs.Does.{Does}
 
 -- an opening, after the mending of the superblock
 abbrev pub after_mend : SuperValue → Word Face

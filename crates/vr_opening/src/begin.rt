@@ -5,7 +5,7 @@ ghost use Rattle.vr_rules.specs.Outputs.{send_to_all, start_view_change};
 ghost use Rattle.vr_rules.specs.Replica.{last_view};
 ghost use Rattle.vr_rules.specs.Words.{apply, load, save};
 ghost use Rattle.vr_rules.specs.Steps.{◌⨾◌};
-ghost use Rattle.vr_step.specs.Does.{Does};
+ghost use Rattle.vr_rules.specs.Does.{Does};
 ghost use Rattle.vr_disk.specs.Counts.{Caused};
 ghost use Rattle.vr_memory.specs.Ready.{IsReady, MayLoad};
 ghost use Rattle.vr_opening.specs.Finding.{IsOpeningOld};
@@ -82,7 +82,7 @@ fn tell_view(replica: &Replica, out: &mut Outbox) -> Result<(), AllocError>
 
 // A replica whose view isn't started sends each other one a `start_view_change` of it, unless it is past the last view; before that it counts itself
 // alone as heard. One whose view is started stays as it is. All else of the replica stays, and no call of the disk is made. After `Ok` it is ready.
-#[tactic(auto, using(crate::proofs::Begins::announce_then, crate::proofs::Begins::announce_none, crate::proofs::Begins::ready_heard, vr_step::proofs::Stepping::does_no_memory))]
+#[tactic(auto, using(crate::proofs::Begins::announce_then, crate::proofs::Begins::announce_none, crate::proofs::Begins::ready_heard, vr_rules::proofs::Stepping::does_no_memory))]
 fn announce<D: SectorDisk>(
     replica: &mut Replica,
     _disk: &mut D,
@@ -103,7 +103,7 @@ fn announce<D: SectorDisk>(
 // In this order: the checkpoint, where there is one, is loaded; committed entries are applied and put out, with a checkpoint where one is due. Of a
 // view that isn't started the others are told at last. While blocks of the checkpoint can't be read, they count as missing, and nothing is applied.
 // After `Ok` it is ready.
-#[tactic(auto, using(vr_step::proofs::Stepping::steps, vr_journal::proofs::Loads::ready_opened))]
+#[tactic(auto, using(vr_rules::proofs::Stepping::steps, vr_journal::proofs::Loads::ready_opened))]
 fn load_on<D: SectorDisk>(
     replica: &mut Replica,
     alloc: Global,
@@ -121,7 +121,7 @@ fn load_on<D: SectorDisk>(
 
 // In this order: a replica that leads goes to the next view and saves that; the start line is put out. Then its checkpoint is loaded, committed
 // entries are applied, and of a view that isn't started the others are told. After `Ok` it is ready.
-#[tactic(auto, using(vr_step::proofs::Stepping::steps, vr_journal::proofs::Loads::ready_opened))]
+#[tactic(auto, using(vr_rules::proofs::Stepping::steps, vr_journal::proofs::Loads::ready_opened))]
 fn go_on<D: SectorDisk>(
     replica: &mut Replica,
     alloc: Global,
@@ -140,7 +140,7 @@ fn go_on<D: SectorDisk>(
 // Where sequence numbers are at their end, above 2^64 - 256, the start line is put out, and nothing is written or sent. Else a replica that leads
 // goes to the next view and saves that; the start line comes next. Then its checkpoint is loaded, committed entries are applied, and of a view that
 // isn't started the others are told. After `Ok` it is ready.
-#[tactic(auto, using(crate::proofs::Begins::resumed, crate::proofs::Begins::spent, crate::proofs::Begins::unspent_room, vr_journal::proofs::Loads::ready_opened, vr_step::proofs::Stepping::wants))]
+#[tactic(auto, using(crate::proofs::Begins::resumed, crate::proofs::Begins::spent, crate::proofs::Begins::unspent_room, vr_journal::proofs::Loads::ready_opened, vr_rules::proofs::Stepping::wants))]
 fn resume<D: SectorDisk>(
     replica: &mut Replica,
     alloc: Global,
@@ -162,7 +162,7 @@ fn resume<D: SectorDisk>(
 /// sequence numbers are at their end, only the start line is put out after that. Else a replica that leads leaves its view and saves that; the start
 /// line is put out, the checkpoint loaded, and committed entries are applied. Of a view that isn't started the others are told at last; after `Ok` it
 /// is ready.
-#[tactic(auto, using(vr_step::proofs::Stepping::steps))]
+#[tactic(auto, using(vr_rules::proofs::Stepping::steps))]
 pub fn open_mended<D: SectorDisk>(
     replica: &mut Replica,
     alloc: Global,

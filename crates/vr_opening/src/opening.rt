@@ -4,7 +4,7 @@ ghost use Rattle.std.specs.List.{list_any};
 ghost use Rattle.vr_rules.specs.Opening.{old_part, recover_old, recover_op, recover_parts, old_headers, was_stored, clouded, blank};
 ghost use Rattle.vr_header.specs.declared.part.Part.TheVariants.{Nothing};
 ghost use Rattle.vr_rules.specs.Steps.{each};
-ghost use Rattle.vr_step.specs.Does.{Does};
+ghost use Rattle.vr_rules.specs.Does.{Does};
 ghost use Rattle.vr_disk.specs.Counts.{Caused};
 ghost use Rattle.vr_memory.specs.Ready.{HasWindow, MayLoad};
 ghost use Rattle.vr_opening.specs.Finding.{IsOpening, IsOpeningOld, recover_listed, DoesAt, cloud_by, window_end, window_of};
@@ -38,7 +38,7 @@ fn was_stored(part: &Part) -> bool
 
 // Looks for the entry of this header, whose op is at most the checkpoint: its Part is `Here` where its slot has it, and else `Lost`. Nothing is
 // written or put out. After `Ok` one header more of the value's list is done, and the saved value is as it was.
-#[tactic(auto, using(crate::proofs::Olds::old_then, crate::proofs::Olds::old_window, crate::proofs::Olds::opening_old, vr_step::proofs::Stepping::does_no_memory))]
+#[tactic(auto, using(crate::proofs::Olds::old_then, crate::proofs::Olds::old_window, crate::proofs::Olds::opening_old, vr_rules::proofs::Stepping::does_no_memory))]
 fn recover_old<D: SectorDisk>(
     replica: &mut Replica,
     alloc: Global,
@@ -96,7 +96,7 @@ fn op_at(replica: &Replica, i: u64) -> u64
 // Where the op of this header is at most the checkpoint, its Part is `Here` where its slot has its entry, and else `Lost`. Any other header is passed
 // over, and the replica stays. Nothing is written or put out. After `Ok` one header more of the value's list is done, and the saved value is as it
 // was.
-#[tactic(auto, using(vr_step::proofs::Stepping::does_quiet, crate::proofs::Olds::old_skipped))]
+#[tactic(auto, using(vr_rules::proofs::Stepping::does_quiet, crate::proofs::Olds::old_skipped))]
 fn recover_listed<D: SectorDisk>(
     replica: &mut Replica,
     alloc: Global,
@@ -143,7 +143,7 @@ fn recover_at<D: SectorDisk>(
 
 // Takes each header that the value names, in order, whose op is at most the checkpoint: its Part is `Here` where its slot has its entry, and else
 // `Lost`. Nothing is written or put out. After `Ok` the Parts up to the checkpoint are found, and the saved value is as it was.
-#[tactic(auto, using(vr_step::proofs::Stepping::going_begins, crate::proofs::Olds::olds_at, crate::proofs::Olds::olds_end, crate::proofs::Olds::olds_stopped, crate::proofs::Olds::olds_found))]
+#[tactic(auto, using(vr_rules::proofs::Stepping::going_begins, crate::proofs::Olds::olds_at, crate::proofs::Olds::olds_end, crate::proofs::Olds::olds_stopped, crate::proofs::Olds::olds_found))]
 fn recover_olds<D: SectorDisk>(
     replica: &mut Replica,
     alloc: Global,
@@ -188,7 +188,7 @@ fn recover_nth<D: SectorDisk>(
 // Finds the 64 ops above the checkpoint, ascending. One is `Here` where its slot's prepare is its entry; a header sector that doesn't fit beside that
 // is first written again, and synced. Else it is `Lost`, `Wanted`, `Nothing` or `Unknown`, by the table of `verdict`. Nothing is put out; a fault
 // ends it, and no slot after it is written. After `Ok` all Parts of the window are found, and the saved value is as it was.
-#[tactic(auto, using(vr_step::proofs::Stepping::going_begins, vr_step::proofs::Stepping::going_ends, crate::proofs::Olds::ops_at, crate::proofs::Olds::ops_stopped, crate::proofs::Olds::ops_begin, crate::proofs::Olds::window_length))]
+#[tactic(auto, using(vr_rules::proofs::Stepping::going_begins, vr_rules::proofs::Stepping::going_ends, crate::proofs::Olds::ops_at, crate::proofs::Olds::ops_stopped, crate::proofs::Olds::ops_begin, crate::proofs::Olds::window_length))]
 fn recover_window<D: SectorDisk>(
     replica: &mut Replica,
     disk: &mut D,
@@ -213,7 +213,7 @@ fn recover_window<D: SectorDisk>(
 // Finds the 64 ops above the checkpoint, ascending, with a buffer of its own to read into. One is `Here` where its slot's prepare is its entry; a
 // header sector that doesn't fit beside that is first written again, and synced. Else it is `Lost`, `Wanted`, `Nothing` or `Unknown`, by the table of
 // `verdict`. Nothing is put out. After `Ok` all Parts of the window are found, and the saved value is as it was.
-#[tactic(auto, using(vr_step::proofs::Stepping::does_no_memory))]
+#[tactic(auto, using(vr_rules::proofs::Stepping::does_no_memory))]
 fn recover_ops<D: SectorDisk>(
     replica: &mut Replica,
     alloc: Global,

@@ -11,7 +11,7 @@ use Rattle.vr_ckpt.specs.Grid.{block_reading, named_at}
 use Rattle.vr_ckpt.specs.declared.name.Name.{Name}
 use Rattle.vr_rules.specs.Rules.{block_at}
 use Rattle.vr_rules.specs.Sectors.{block_in}
-use Rattle.vr_step.specs.Does.{Finds}
+use Rattle.vr_rules.specs.Does.{Finds}
 
 past_grid : (f : Face) (name : Name) → grid_size ≤ name.address → None ≡ block_in f name
 unfolding named_at

@@ -3,3 +3,4 @@ pub mod Repaired
 pub mod Rules
 pub mod Words
 pub mod Handled
+pub mod Visits

@@ -30,8 +30,8 @@ use Rattle.vr_rules.specs.Words.{apply, resend, with_entry_at, write}
 use Rattle.vr_rules.proofs.Ruling.{may_store_given}
 use Rattle.vr_rules.proofs.Storing.{MayStore as May}
 use Rattle.vr_disk.specs.declared.fault.Halt.{Halt}
-use Rattle.vr_step.specs.Does.{Does, Finds, LeftBy}
-use Rattle.vr_step.proofs.Stepping.{does_by, does_naming, does_quiet, does_reading, says_by}
+use Rattle.vr_rules.specs.Does.{Does, Finds, LeftBy}
+use Rattle.vr_rules.proofs.Stepping.{does_by, does_naming, does_quiet, does_reading, says_by}
 
 -- ---- get_prepare
 

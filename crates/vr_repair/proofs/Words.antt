@@ -19,8 +19,8 @@ use Rattle.vr_rules.specs.Steps.{PutBlock, Word, change, says}
 use Rattle.vr_rules.specs.Words.{ask, ask_for, ask_peer, is_loaded, least_absent, load, resend}
 use Rattle.vr_disk.specs.declared.fault.Halt.{Halt}
 use Rattle.vr_disk.specs.declared.fault.Halt.TheVariants.{DiskFault, NoMemory}
-use Rattle.vr_step.specs.Does.{Does, Performs}
-use Rattle.vr_step.proofs.Stepping.{change_by_then, does_by, does_change, does_naming, does_no_memory, does_quiet, effect_stopped, effect_then, says_by}
+use Rattle.vr_rules.specs.Does.{Does, Performs}
+use Rattle.vr_rules.proofs.Stepping.{change_by_then, does_by, does_change, does_naming, does_no_memory, does_quiet, effect_stopped, effect_then, says_by}
 
 -- want of memory, where the disk is as it was
 pub wanted : (w : Word Face) (r q : Replica) (d d' : Option Disk) (o o' : List Output) → d' ≡ d → Does w r q d d' o o' (Err NoMemory)

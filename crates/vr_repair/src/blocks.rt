@@ -6,7 +6,7 @@ ghost use Rattle.vr_rules.specs.Deciding.{is_wanted};
 ghost use Rattle.vr_rules.specs.Rules.{asked_block, block_at, give_read, mend_found, on_get_block, on_give_block, put_found};
 ghost use Rattle.vr_rules.specs.Steps.{reading};
 ghost use Rattle.vr_disk.specs.Counts.{Caused};
-ghost use Rattle.vr_step.specs.Does.{Does};
+ghost use Rattle.vr_rules.specs.Does.{Does};
 ghost use Rattle.vr_journal.specs.Acts.{Acts, MayAct};
 
 use crate::deciding::{Repair, decide_get_block};
@@ -31,7 +31,7 @@ fn asked_block(get: &GetBlock) -> Name
 
 // Where the asked block reads whole under its name, one give_block with its bytes goes to the sender; else nothing is put out. The disk is
 // only read; after an `Err` nothing is said of outputs.
-#[tactic(auto, using(crate::proofs::Rules::block_read, crate::proofs::Rules::block_unread, vr_step::proofs::Stepping::wants))]
+#[tactic(auto, using(crate::proofs::Rules::block_read, crate::proofs::Rules::block_unread, vr_rules::proofs::Stepping::wants))]
 fn give_block<D: SectorDisk>(
     replica: &Replica,
     alloc: Global,
@@ -71,7 +71,7 @@ pub fn handle_get_block<D: SectorDisk>(
 // The name is the first missing one whose block the bytes are. They are written at its address, and then no block of that address is
 // missing. Where none is missing now, the checkpoint is loaded anew; then what is committed is applied. After an `Err` the disk has had its
 // calls up to the stop; of replica and outputs nothing is said.
-#[tactic(auto, using(vr_step::proofs::Stepping::steps, crate::proofs::Rules::may_put, crate::proofs::Rules::is_put))]
+#[tactic(auto, using(vr_rules::proofs::Stepping::steps, crate::proofs::Rules::may_put, crate::proofs::Rules::is_put))]
 fn take_block<D: SectorDisk>(
     replica: &mut Replica,
     alloc: Global,

@@ -17,7 +17,7 @@ use vr_msg::{GetPrepare, GivePrepare, Outbox};
 // Where the asked op is `Here` and its entry reads, one give_prepare of it goes to the sender. Where it is `Here` and doesn't read, its
 // Part becomes `Lost`; where it isn't `Here`, nothing is done. The disk is left as it is; after an `Err` nothing is said of replica and
 // outputs.
-#[tactic(auto, using(crate::proofs::Rules::given_read, crate::proofs::Rules::given_none, vr_step::proofs::Stepping::wants))]
+#[tactic(auto, using(crate::proofs::Rules::given_read, crate::proofs::Rules::given_none, vr_rules::proofs::Stepping::wants))]
 fn give_entry<D: SectorDisk>(
     replica: &mut Replica,
     alloc: Global,
@@ -58,7 +58,7 @@ pub fn handle_get_prepare<D: SectorDisk>(
 // The entry is written into its slot, and `Here`. Then, where the view is started and its op is above the commit number, it is told of;
 // then what is committed is applied. Told of: the primary sends its prepare to each other replica, a backup a prepare_ok to the primary.
 // The commit number stays. After an `Err` the disk has had its calls up to the stop; of replica and outputs nothing is said.
-#[tactic(auto, using(vr_step::proofs::Stepping::steps, crate::proofs::Rules::entry_made))]
+#[tactic(auto, using(vr_rules::proofs::Stepping::steps, crate::proofs::Rules::entry_made))]
 fn take_entry<D: SectorDisk>(
     replica: &mut Replica,
     alloc: Global,

@@ -1,7 +1,7 @@
 //! A block that is read to be given.
 ghost use Rattle.std.specs.Prelude.{ℕ, ◌≡◌, IfOk, IfSome, None, Some, length, if◌then◌else◌};
 ghost use Rattle.vr_rules.specs.Rules.{block_at};
-ghost use Rattle.vr_step.specs.Does.{Finds};
+ghost use Rattle.vr_rules.specs.Does.{Finds};
 ghost use Rattle.vr_journal.specs.Acts.{Untouched};
 
 use std::alloc::{AllocError, Global};

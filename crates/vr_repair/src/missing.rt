@@ -19,7 +19,7 @@ use vr_msg::Outbox;
 
 // One get_block of this name goes to the peer whose turn it is, (index + 1 + turn) modulo n. Then the turn moves on by one, modulo n - 1;
 // nothing else of the replica changes. The disk is left as it is; after an `Err` nothing is said of replica and outputs.
-#[tactic(auto, using(vr_step::proofs::Stepping::steps, vr_memory::proofs::Repairs::ready_turned), unfolding(vr_rules::specs::Words::ask_peer))]
+#[tactic(auto, using(vr_rules::proofs::Stepping::steps, vr_memory::proofs::Repairs::ready_turned), unfolding(vr_rules::specs::Words::ask_peer))]
 fn ask_block<D: SectorDisk>(
     replica: &mut Replica,
     _disk: &mut D,
@@ -37,7 +37,7 @@ fn ask_block<D: SectorDisk>(
 
 // One get_prepare of this header's op and name goes to the peer whose turn it is, (index + 1 + turn) modulo n. Then the turn moves on by
 // one, modulo n - 1; nothing else of the replica changes. The disk is left as it is; after an `Err` nothing is said of replica and outputs.
-#[tactic(auto, using(vr_step::proofs::Stepping::steps, vr_memory::proofs::Repairs::ready_turned), unfolding(vr_rules::specs::Words::ask_peer))]
+#[tactic(auto, using(vr_rules::proofs::Stepping::steps, vr_memory::proofs::Repairs::ready_turned), unfolding(vr_rules::specs::Words::ask_peer))]
 fn ask_entry<D: SectorDisk>(
     replica: &mut Replica,
     _disk: &mut D,

@@ -40,7 +40,7 @@ fn tell(replica: &Replica, alloc: Global, entry: &Entry, out: &mut Outbox) -> Re
 /// Where the view isn't started, or the entry's op is at most the commit number, nothing is put out. Else its primary sends a prepare of
 /// the entry to each other replica, ascending, a backup one prepare_ok to the primary. Replica and disk are left as they are; after an
 /// `Err` nothing is said of outputs.
-#[tactic(auto, using(crate::proofs::Words::resent, crate::proofs::Words::not_resent, vr_step::proofs::Stepping::wants))]
+#[tactic(auto, using(crate::proofs::Words::resent, crate::proofs::Words::not_resent, vr_rules::proofs::Stepping::wants))]
 pub fn resend<D: SectorDisk>(
     replica: &Replica,
     alloc: Global,

@@ -1,9 +1,9 @@
 -- Faults of the source and of the sink, by how a replay ends.
 use Rattle.std.proofs.Common.{◌≡◌, ℕ, List, Option}
 use Rattle.vr_replay.specs.Run.{Ends}
-use Rattle.vr_status.specs.Counts.{reads_after, writes_after}
-use Rattle.vr_status.specs.declared.status.Status.{Status}
-use Rattle.vr_status.specs.declared.status.Status.TheVariants as status
+use Rattle.vr_base.specs.Counts.{reads_after, writes_after}
+use Rattle.vr_base.specs.declared.status.Status.{Status}
+use Rattle.vr_base.specs.declared.status.Status.TheVariants as status
 
 pub counts_told : (s s' k k' : ℕ) (lo ln to tn : Option (List ℕ)) (how : Status) → Ends s s' k k' lo ln to tn how → s' ≡ reads_after how s
 counts_told s s' k k' lo ln to tn status.Done h = h.0

@@ -8,8 +8,8 @@ use Rattle.vr_replay.specs.Playing.{Played}
 use Rattle.vr_group.specs.Outputs.{text_of}
 use Rattle.vr_replay.specs.declared.stop.Stop.{Stop}
 use Rattle.vr_replay.specs.declared.stop.Stop.TheVariants as stop
-use Rattle.vr_status.specs.declared.status.Status.{Status}
-use Rattle.vr_status.specs.declared.status.Status.TheVariants.{Refused, WriteFault, NoMemory}
+use Rattle.vr_base.specs.declared.status.Status.{Status}
+use Rattle.vr_base.specs.declared.status.Status.TheVariants.{Refused, WriteFault, NoMemory}
 
 -- the status for a stop
 abbrev pub status_of : Stop → Status

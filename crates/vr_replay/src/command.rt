@@ -4,12 +4,12 @@ ghost use Rattle.vr_base.specs.Causes.{Rose};
 ghost use Rattle.vr_replay.specs.Headline.{ScheduleHasOneLog};
 ghost use Rattle.vr_replay.specs.Schedule.{schedule_of};
 ghost use Rattle.vr_replay.specs.Run.{IsDone, IsRefused, IsCutShort, IsPartial, Ends, refused_in, status_for};
-ghost use Rattle.vr_status.specs.Counts.{reads_after, writes_after};
+ghost use Rattle.vr_base.specs.Counts.{reads_after, writes_after};
 
 use crate::Replay;
 use std::alloc::Global;
+use vr_base::Status;
 use vr_edge::{Sink, Source};
-use vr_status::Status;
 
 /// Reads a schedule, and writes its outputs piece by piece.
 fn read_schedule<S: Source, K: Sink>(alloc: Global, source: &mut S, sink: &mut K) -> Status

@@ -2,8 +2,8 @@
 ghost use Rattle.vr_replay.specs.declared.stop.Stop.TheVariants.{NoMemory, WriteFault};
 ghost use Rattle.std.specs.Prelude.{◌≡◌};
 
+use vr_base::Status;
 use vr_edge::WriteFailed;
-use vr_status::Status;
 
 /// Why a replay stops.
 #[derive(Clone, Copy, Debug, PartialEq, Eq)]

@@ -11,7 +11,7 @@ use Rattle.vr_msg.specs.declared.frame.SyncView.{SyncView}
 use Rattle.vr_msg.specs.Forms.{IsFrame}
 use Rattle.vr_rules.specs.Replica.{last_view}
 use Rattle.vr_normal.specs.Messages.{IsPreparing, IsCommitting}
-use Rattle.vr_sync.specs.Jumps.{IsSyncing}
+use Rattle.vr_view.specs.Jumps.{IsSyncing}
 use Rattle.vr_view.specs.Messages.{IsStating, IsStarting}
 
 pub preparing : (m : Frame) (p : Prepare) → m ≡ frame.Prepare p → IsFrame m → IsPreparing p

@@ -8,8 +8,8 @@ use Rattle.vr_msg.specs.declared.event.Event.{Event}
 use Rattle.vr_msg.specs.declared.output.Output.{Output}
 use Rattle.vr_rules.specs.Replica.{Replica, is_frozen, is_spent, last_view}
 use Rattle.vr_rules.specs.Rules.{on_event, react}
-use Rattle.vr_step.specs.Does.{Does}
-use Rattle.vr_step.proofs.Stepping.{does_by, does_quiet}
+use Rattle.vr_rules.specs.Does.{Does}
+use Rattle.vr_rules.proofs.Stepping.{does_by, does_quiet}
 
 pub frozen : (event : Event) (r : Replica) (d : Option Disk) (o : List Output) → is_frozen r ≡ true → Does (react event) r r d d o o (Ok tt)
 unfolding react

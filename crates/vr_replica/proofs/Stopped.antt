@@ -11,7 +11,7 @@ use Rattle.vr_rules.specs.Replica.{Replica}
 use Rattle.vr_rules.specs.Steps.{Word}
 use Rattle.vr_disk.specs.declared.fault.Halt.{Halt}
 use Rattle.vr_disk.specs.declared.fault.Halt.TheVariants.{DiskFault, NoMemory}
-use Rattle.vr_step.specs.Does.{Does}
+use Rattle.vr_rules.specs.Does.{Does}
 
 pub halted : (w : Word Face) (r r' q : Replica) (d d' : Option Disk) (o o' p : List Output) (e : Halt) → Does w r r' d d' o o' (Err e) → Does w r q d d' o p (Err e)
 halted w r r' q d d' o o' p DiskFault h = record { untold = h.untold; told = h.told; same = λ i. cc }

@@ -16,8 +16,8 @@ use Rattle.vr_rules.specs.Words.{enter, entered, rested, prepare_again, ask, vis
 use Rattle.vr_rules.proofs.Keeping.{sound_alike}
 use Rattle.vr_rules.proofs.SavesWell.{savable_alike}
 use Rattle.vr_rules.proofs.Storing.{head_number}
-use Rattle.vr_step.specs.Does.{Does, LeftBy}
-use Rattle.vr_step.proofs.Stepping.{does_by, does_quiet, does_change_then}
+use Rattle.vr_rules.specs.Does.{Does, LeftBy}
+use Rattle.vr_rules.proofs.Stepping.{does_by, does_quiet, does_change_then}
 use Rattle.vr_memory.specs.Ready.{IsReady}
 use Rattle.vr_replica.specs.Ticks.{tells_first, tells_all}
 

@@ -7,7 +7,7 @@ ghost use Rattle.vr_opening.specs.Migration.{Migrated, MigratedAny};
 ghost use Rattle.vr_opening.specs.Recovering.{Recovered, RecoveredAny};
 ghost use Rattle.vr_rules.specs.Replica.{header_at, part_at, version};
 ghost use Rattle.vr_rules.specs.Rules.{react};
-ghost use Rattle.vr_step.specs.Does.{Does};
+ghost use Rattle.vr_rules.specs.Does.{Does};
 ghost use Rattle.vr_journal.specs.Waits.{EndsAtOnce};
 ghost use Rattle.vr_replica.specs.AtOnce.{IsAtOnce};
 ghost use Rattle.vr_replica.specs.Entries.{after_reading, entry_by};

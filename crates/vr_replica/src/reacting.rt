@@ -14,16 +14,16 @@ use vr_journal::{Halt, LAST_VIEW, Replica};
 use vr_msg::{Event, Frame, Message, Outbox};
 use vr_normal::{handle_commit, handle_prepare, handle_prepare_ok, handle_request};
 use vr_repair::{handle_get_block, handle_get_prepare, handle_give_block, handle_give_prepare};
-use vr_sync::{handle_get_sync, handle_sync_view};
 use vr_view::{
-    handle_do_view_change, handle_get_view, handle_start_view, handle_start_view_change,
+    handle_do_view_change, handle_get_sync, handle_get_view, handle_start_view,
+    handle_start_view_change, handle_sync_view,
 };
 
 // Does what the rules of this kind of message say, on replica, disk and outputs (`on_message`); a reply does nothing. On these it answers
 // `Ok` and leaves the very same disk: a prepare of rule `Ignored`, `PreparedBefore` or `Other`; a start_view_change of `Ignored` or
 // `ChangeBefore`. So on a prepare_ok that isn't counted, or after which the next op has no quorum and nothing can be applied. After an
 // `Err` the disk has had its calls up to the stop; of replica and outputs nothing is said.
-#[tactic(auto, using(crate::proofs::Forms::forms, vr_step::proofs::Stepping::does_quiet))]
+#[tactic(auto, using(crate::proofs::Forms::forms, vr_rules::proofs::Stepping::does_quiet))]
 fn handle_message<D: SectorDisk>(
     replica: &mut Replica,
     alloc: Global,

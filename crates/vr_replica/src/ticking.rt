@@ -14,9 +14,8 @@ use std::alloc::Global;
 use vr_disk::SectorDisk;
 use vr_journal::{Halt, Replica, enter, prepare_again};
 use vr_msg::Outbox;
-use vr_repair::ask;
+use vr_repair::{ask, visit};
 use vr_view::speak;
-use vr_visit::visit;
 
 /// What a tick finds the replica to be.
 #[derive(Clone, Copy, Debug, PartialEq, Eq)]
@@ -49,7 +48,7 @@ pub fn decide_tick(replica: &Replica) -> TickRule
 // Unless a block is missing, one place of the disk is visited, and the cursor moves on. Then the peer whose turn it is is asked for the
 // first thing missing, if any, and the turn moves on. After an `Err` the disk has had its calls up to the stop; of replica and outputs
 // nothing is said.
-#[tactic(auto, using(vr_step::proofs::Stepping::steps))]
+#[tactic(auto, using(vr_rules::proofs::Stepping::steps))]
 fn look_and_ask<D: SectorDisk>(
     replica: &mut Replica,
     disk: &mut D,
@@ -98,7 +97,7 @@ fn tell_first<D: SectorDisk>(
 // Rule 32, in this order: a commit goes to each other replica; the op after the commit number, up to the head, if `Here`, is read, and
 // prepared to each. One that doesn't read becomes `Lost`. Then one place of the disk is visited, and the peer whose turn it is is asked for
 // what is missing. After an `Err` the disk has had its calls up to the stop; of replica and outputs nothing is said.
-#[tactic(auto, using(vr_step::proofs::Stepping::steps), unfolding(crate::specs::Ticks::tells_first))]
+#[tactic(auto, using(vr_rules::proofs::Stepping::steps), unfolding(crate::specs::Ticks::tells_first))]
 fn tick_primary<D: SectorDisk>(
     replica: &mut Replica,
     alloc: Global,
@@ -164,7 +163,7 @@ fn tick_backup<D: SectorDisk>(
 // In this order: a start_view_change goes to each other replica; the replica speaks; one place of the disk is visited; a peer is asked for
 // what is missing. Speaking, with a view-change quorum heard: the primary tries to begin the view, another replica sends its statement to
 // the primary. After an `Err` the disk has had its calls up to the stop; of replica and outputs nothing is said.
-#[tactic(auto, using(vr_step::proofs::Stepping::steps))]
+#[tactic(auto, using(vr_rules::proofs::Stepping::steps))]
 fn tell_all<D: SectorDisk>(
     replica: &mut Replica,
     alloc: Global,

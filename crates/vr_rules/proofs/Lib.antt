@@ -54,3 +54,5 @@ pub mod Visiting
 pub mod SilentVisits
 pub mod Versions
 pub mod Migrating
+pub mod Stepping
+pub mod Stops

@@ -15,3 +15,5 @@ pub mod Laws
 pub mod Fit
 pub mod Pinned
 pub mod Own
+pub mod Does
+pub mod Stopping

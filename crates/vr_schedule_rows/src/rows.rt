@@ -5,8 +5,8 @@
 use crate::{TellingSink, TellingSource};
 use std::cell::Cell;
 use std::io;
+use vr_base::status_line;
 use vr_replay::replay;
-use vr_status::status_line;
 
 /// Replays the lines of a row, and tells of it.
 fn tell_row(rt: &HostRuntime, lines: &str) -> io::Result<()> {

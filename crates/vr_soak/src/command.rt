@@ -6,9 +6,8 @@ ghost use Rattle.vr_soak.specs.Summing.{soak_text};
 
 use crate::Soaking;
 use std::alloc::Global;
-use vr_base::{ByteList, NoMemory};
+use vr_base::{ByteList, NoMemory, Status};
 use vr_edge::{Sink, write_whole};
-use vr_status::Status;
 
 /// The text of the summary.
 fn text_for(alloc: Global, seed: u64, count: u32) -> Result<ByteList, NoMemory>

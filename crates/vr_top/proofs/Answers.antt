@@ -17,8 +17,8 @@ use Rattle.vr_replay.specs.Run.{Ends}
 use Rattle.vr_serve.specs.Causes as serve
 use Rattle.vr_soak.specs.Ends.{SoakEnds}
 use Rattle.vr_spawn.specs.declared.spawner.SpawnCall.{SpawnCall}
-use Rattle.vr_status.specs.declared.status.Status.{Status}
-use Rattle.vr_status.specs.declared.status.Status.TheVariants as status
+use Rattle.vr_base.specs.declared.status.Status.{Status}
+use Rattle.vr_base.specs.declared.status.Status.TheVariants as status
 use Rattle.vr_top.specs.Answers.{client_gives, migrate_gives, node_gives, replay_gives, soak_gives, trial_gives}
 use Rattle.vr_trial.specs.Run as trial
 use Rattle.vr_trial.specs.Script.{number_of, script}

@@ -11,8 +11,8 @@ use Rattle.vr_edge.specs.declared.link.Link as of_link
 use Rattle.vr_edge.specs.declared.sink.Sink as of_sink
 use Rattle.vr_edge.specs.declared.source.Source as of_source
 use Rattle.vr_spawn.specs.declared.spawner.Spawner as of_spawner
-use Rattle.vr_status.specs.declared.status.Status.{Status}
-use Rattle.vr_status.specs.declared.status.Status.TheVariants.{NoMemory}
+use Rattle.vr_base.specs.declared.status.Status.{Status}
+use Rattle.vr_base.specs.declared.status.Status.TheVariants.{NoMemory}
 use Rattle.vr_top.specs.Beginning.{Began, Comes, Makes, Runs, makes, no_disk, no_ground, no_link, no_path, no_words, path_told, runs, words_after}
 use Rattle.vr_top.specs.Ends.{Ends, Tries}
 use Rattle.vr_top.specs.Making.{Clock, Disk, Ground, Link, Making, Path, Sink, Source, Spawner, Words}

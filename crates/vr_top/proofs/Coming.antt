@@ -22,10 +22,10 @@ use Rattle.vr_serve.specs.Causes as serve
 use Rattle.vr_soak.specs.Ends.{SoakEnds}
 use Rattle.vr_soak.specs.Summing.{soak_text}
 use Rattle.vr_spawn.specs.declared.spawner.Spawner as spawners
-use Rattle.vr_status.proofs.Counting.{links_kept}
-use Rattle.vr_status.specs.Counts.{links_after, reads_after, writes_after}
-use Rattle.vr_status.specs.declared.status.Status.{Status}
-use Rattle.vr_status.specs.declared.status.Status.TheVariants as status
+use Rattle.vr_base.proofs.Counting.{links_kept}
+use Rattle.vr_base.specs.Counts.{links_after, reads_after, writes_after}
+use Rattle.vr_base.specs.declared.status.Status.{Status}
+use Rattle.vr_base.specs.declared.status.Status.TheVariants as status
 use Rattle.vr_top.proofs.Answers.{not_given, of_client, of_migrate, of_node, of_replay, of_soak, of_trial}
 use Rattle.vr_top.proofs.Counts.{no_disk, no_read, no_write}
 use Rattle.vr_top.specs.Answers.{client_gives, gives, migrate_gives, node_gives, replay_gives, soak_gives, trial_gives}

@@ -1,9 +1,9 @@
 -- The counts of faults, by an answer that is no fault of theirs.
 use Rattle.std.proofs.Common.{◌≡◌, ℕ, refl}
 use Rattle.vr_node.specs.Stops.{disk_after}
-use Rattle.vr_status.specs.Counts.{reads_after, writes_after}
-use Rattle.vr_status.specs.declared.status.Status.{Status}
-use Rattle.vr_status.specs.declared.status.Status.TheVariants as status
+use Rattle.vr_base.specs.Counts.{reads_after, writes_after}
+use Rattle.vr_base.specs.declared.status.Status.{Status}
+use Rattle.vr_base.specs.declared.status.Status.TheVariants as status
 
 pub no_read : (s : Status) (k : ℕ) → (s ≡ status.ReadFault → ⊥) → k ≡ reads_after s k
 no_read status.Done k h = refl

@@ -10,9 +10,9 @@ use Rattle.vr_edge.specs.declared.link.Link as of_link
 use Rattle.vr_edge.specs.declared.sink.Sink as of_sink
 use Rattle.vr_edge.specs.declared.source.Source as of_source
 use Rattle.vr_spawn.specs.declared.spawner.Spawner as of_spawner
-use Rattle.vr_status.specs.Texts.{code_of}
-use Rattle.vr_status.specs.declared.status.Status.{Status}
-use Rattle.vr_status.specs.declared.status.Status.TheVariants.{NoMemory}
+use Rattle.vr_base.specs.Texts.{code_of}
+use Rattle.vr_base.specs.declared.status.Status.{Status}
+use Rattle.vr_base.specs.declared.status.Status.TheVariants.{NoMemory}
 use Rattle.vr_top.specs.Ends.{Ends, Tries}
 use Rattle.vr_top.specs.Making.{Making, Clock, Disk, Ground, Link, Path, Sink, Source, Spawner, Words, texts_told}
 use Rattle.vr_top.specs.Outside.{Outside, Spawner as SpawnerOutside, outside, trial_outside}

@@ -2,9 +2,9 @@
 use Rattle.std.specs.Prelude.{◌≡◌}
 use Rattle.vr_edge.specs.Failing.{LinkFailure}
 use Rattle.vr_node.specs.Stops.{disk_after}
-use Rattle.vr_status.specs.Counts.{links_after, reads_after, writes_after}
-use Rattle.vr_status.specs.declared.status.Status.{Status}
-use Rattle.vr_status.specs.declared.status.Status.TheVariants.{LinkFault}
+use Rattle.vr_base.specs.Counts.{links_after, reads_after, writes_after}
+use Rattle.vr_base.specs.declared.status.Status.{Status}
+use Rattle.vr_base.specs.declared.status.Status.TheVariants.{LinkFault}
 use Rattle.vr_top.specs.Outside.{Outside}
 
 -- A failed read of the source, a failed write, a failed attach, write or sync of the disk, and a failed attach or receive of the link is told: it

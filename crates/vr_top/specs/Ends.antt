@@ -12,8 +12,8 @@ use Rattle.vr_serve.specs.Causes as serve
 use Rattle.vr_soak.specs.Ends.{SoakEnds}
 use Rattle.vr_soak.specs.Headline.{SoakHasOneLog}
 use Rattle.vr_soak.specs.Summing.{soak_text}
-use Rattle.vr_status.specs.declared.status.Status.{Status}
-use Rattle.vr_status.specs.declared.status.Status.TheVariants.{NoMemory, SpawnFault, Usage}
+use Rattle.vr_base.specs.declared.status.Status.{Status}
+use Rattle.vr_base.specs.declared.status.Status.TheVariants.{NoMemory, SpawnFault, Usage}
 use Rattle.vr_top.specs.Answers.{gives}
 use Rattle.vr_top.specs.Causes.{HasCauses}
 use Rattle.vr_top.specs.Outside.{Outside, TrialOutside}

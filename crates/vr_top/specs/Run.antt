@@ -8,7 +8,7 @@ use Rattle.vr_edge.specs.declared.link.Link as of_link
 use Rattle.vr_edge.specs.declared.sink.Sink as of_sink
 use Rattle.vr_edge.specs.declared.source.Source as of_source
 use Rattle.vr_spawn.specs.declared.spawner.Spawner as of_spawner
-use Rattle.vr_status.specs.declared.status.Status.{Status}
+use Rattle.vr_base.specs.declared.status.Status.{Status}
 use Rattle.vr_top.specs.Ends.{Ends, Tries}
 use Rattle.vr_top.specs.Outside.{outside, trial_outside}
 use Rattle.vr_top.specs.declared.outside.Outside.{Outside as Handed}

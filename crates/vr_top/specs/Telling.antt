@@ -4,9 +4,9 @@ use Rattle.std.specs.Prelude.{ℕ, ◌==◌, ◌≡◌, ◌⊎◌, Bool, true, f
 use Rattle.vr_base.specs.Causes.{Rose}
 use Rattle.vr_edge.specs.Told.{AppendsFront}
 use Rattle.vr_edge.specs.declared.sink.Sink as of_sink
-use Rattle.vr_status.specs.Texts.{status_text}
-use Rattle.vr_status.specs.declared.status.Status.{Status}
-use Rattle.vr_status.specs.declared.status.Status.TheVariants.{Refused, OtherMember}
+use Rattle.vr_base.specs.Texts.{status_text}
+use Rattle.vr_base.specs.declared.status.Status.{Status}
+use Rattle.vr_base.specs.declared.status.Status.TheVariants.{Refused, OtherMember}
 
 -- the text of the status as a line; one without a text has none
 abbrev pub line_of : Status → List ℕ

@@ -9,13 +9,13 @@ use crate::outside::Outside;
 use crate::roles::{plan_of, role_of};
 use std::alloc::Global;
 use vr_ask::run_client;
+use vr_base::Status;
 use vr_disk::SectorDisk;
 use vr_edge::{Clock, Link, Sink, Source};
 use vr_node::{run_migration, run_node};
 use vr_replay::replay;
 use vr_soak::soak;
 use vr_spawn::Spawner;
-use vr_status::Status;
 use vr_trial::run_trial;
 use vr_words::{Command, WordsFault, parse};
 

@@ -1,11 +1,11 @@
 //! What a program says of its end.
 ghost use Rattle.std.specs.Prelude.{◌≡◌, IfOk, MatchOption, string_bytes, true};
-ghost use Rattle.vr_status.specs.Texts.{code_of};
+ghost use Rattle.vr_base.specs.Texts.{code_of};
 ghost use Rattle.vr_top.specs.Telling.{Tells, line_of, takes_memory};
 
 use std::alloc::{AllocError, Global};
+use vr_base::{Status, code, status_line};
 use vr_edge::{Sink, write_whole};
-use vr_status::{Status, code, status_line};
 
 /// The line of a status, with its LF; the empty text of `Done`, which has none. `None` only for `Refused` and `OtherMember`, whose lines name a
 /// number or members.

@@ -5,8 +5,8 @@ use crate::command::run;
 use crate::program::{Program, Untold};
 use crate::telling::finish;
 use std::alloc::{AllocError, Global};
+use vr_base::Status;
 use vr_edge::Sink;
-use vr_status::Status;
 
 /// The words after the program's name, none where that isn't there. Where one of them is no text (`NoText`), there are none: no words are no
 /// command. An `Err` exactly where telling them wanted memory.

@@ -13,10 +13,10 @@ use Rattle.vr_edge.specs.Told.{Grows}
 use Rattle.vr_edge.specs.declared.attach.Attach.{Attach as Attached}
 use Rattle.vr_mail.proofs.Growing.{failure_after, grows_nil}
 use Rattle.vr_spawn.specs.declared.spawner.SpawnCall.{SpawnCall}
-use Rattle.vr_status.proofs.Counting.{links_kept}
-use Rattle.vr_status.specs.Counts.{links_after}
-use Rattle.vr_status.specs.declared.status.Status.{Status}
-use Rattle.vr_status.specs.declared.status.Status.TheVariants as status
+use Rattle.vr_base.proofs.Counting.{links_kept}
+use Rattle.vr_base.specs.Counts.{links_after}
+use Rattle.vr_base.specs.declared.status.Status.{Status}
+use Rattle.vr_base.specs.declared.status.Status.TheVariants as status
 use Rattle.vr_trial.specs.Run.{AsksNothing, BreaksOff, CantCall, Counts, Does, Ends, Fails, FailsIn, Faults, IsCut, Members, Outside, Place, Starts, Stops, faults, of_client, running_at, start_call, started, stopped, stops_of}
 use Rattle.vr_trial.specs.Script.{number_of}
 use Rattle.vr_trial.specs.Told.{Trial, operation_of, start_words}

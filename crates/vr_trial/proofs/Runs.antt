@@ -2,8 +2,8 @@
 use Rattle.std.proofs.Common.{◌≡◌, ◌≤◌, ◌<◌, ◌+◌, ℕ, List, ◌∷◌, get_or, drop, length, Option, refl, sym, inl, inr, subst, arith}
 use Rattle.std.proofs.lemmas.List.{drop_more}
 use Rattle.vr_spawn.specs.declared.spawner.SpawnCall.{SpawnCall}
-use Rattle.vr_status.specs.declared.status.Status.{Status}
-use Rattle.vr_status.specs.declared.status.Status.TheVariants.{Done, NoMemory}
+use Rattle.vr_base.specs.declared.status.Status.{Status}
+use Rattle.vr_base.specs.declared.status.Status.TheVariants.{Done, NoMemory}
 use Rattle.vr_trial.specs.Run.{Does, DoesAll, Ends, Fails, FailsIn, Faults, Outside, Place, StopsAll, TrialEnds, faults, spawns, spawns_after, tells}
 use Rattle.vr_trial.specs.Script.{AreNext, IsNext, number_after}
 use Rattle.vr_trial.specs.Told.{Trial}

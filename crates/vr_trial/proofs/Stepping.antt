@@ -7,8 +7,8 @@ use Rattle.vr_base.specs.Causes.{one_more}
 use Rattle.vr_edge.specs.Told.{Grows}
 use Rattle.vr_header.specs.declared.operation.Operation.{Operation}
 use Rattle.vr_spawn.specs.declared.spawner.SpawnCall.{SpawnCall}
-use Rattle.vr_status.specs.declared.status.Status.{Status}
-use Rattle.vr_status.specs.declared.status.Status.TheVariants.{NoMemory, SpawnFault}
+use Rattle.vr_base.specs.declared.status.Status.{Status}
+use Rattle.vr_base.specs.declared.status.Status.TheVariants.{NoMemory, SpawnFault}
 use Rattle.vr_trial.specs.Run.{BreaksOff, CantCall, Counts, IsCut, IsTold, Members, Starts, Stops, running_at, start_call, stop_call, stops_of}
 use Rattle.vr_trial.proofs.Writing.{rose_one}
 

@@ -9,8 +9,8 @@ use Rattle.vr_edge.specs.Told.{Grows}
 use Rattle.vr_edge.specs.declared.attach.Attach.{Attach as Attached}
 use Rattle.vr_edge.specs.declared.datagram.Datagram.{Datagram}
 use Rattle.vr_spawn.specs.declared.spawner.SpawnCall.{SpawnCall}
-use Rattle.vr_status.specs.declared.status.Status.{Status}
-use Rattle.vr_status.specs.declared.status.Status.TheVariants.{LinkFault}
+use Rattle.vr_base.specs.declared.status.Status.{Status}
+use Rattle.vr_base.specs.declared.status.Status.TheVariants.{LinkFault}
 use Rattle.vr_trial.specs.Run.{AsksNothing, BreaksOff, CantStart, Does, Fails, HasStarted, IsTold, OnlyAsks, Starts, Stops, faults, members, place, running_at, start_call, started, stopped, stops_of}
 use Rattle.vr_trial.specs.Script.{number_of}
 use Rattle.vr_trial.specs.Told.{Trial, operation_of, start_words}

@@ -6,9 +6,9 @@ use Rattle.vr_ask.specs.Asking.{CountsWrites}
 use Rattle.vr_base.specs.Causes.{Rose}
 use Rattle.vr_header.specs.declared.operation.Operation.{Operation}
 use Rattle.vr_spawn.specs.declared.spawner.SpawnCall.{SpawnCall}
-use Rattle.vr_status.specs.Counts.{writes_after}
-use Rattle.vr_status.specs.declared.status.Status.{Status}
-use Rattle.vr_status.specs.declared.status.Status.TheVariants as status
+use Rattle.vr_base.specs.Counts.{writes_after}
+use Rattle.vr_base.specs.declared.status.Status.{Status}
+use Rattle.vr_base.specs.declared.status.Status.TheVariants as status
 use Rattle.vr_trial.specs.Run.{CantCall, CountsSpawns, IsCut, Members, spawns_after}
 
 writes_at : (s is : Status) (b n : ℕ) → s ≡ is → n ≡ writes_after is b → n ≡ writes_after s b

@@ -3,7 +3,7 @@ use Rattle.std.proofs.Common.{◌≡◌, ℕ, List, [], Option, refl, inl, inr, 
 use Rattle.std.proofs.KnownBytes.{Appends-nil}
 use Rattle.vr_base.specs.Causes.{Rose, one_more}
 use Rattle.vr_edge.specs.Told.{AppendsFront}
-use Rattle.vr_status.specs.declared.status.Status.TheVariants.{NoMemory, WriteFault}
+use Rattle.vr_base.specs.declared.status.Status.TheVariants.{NoMemory, WriteFault}
 use Rattle.vr_trial.specs.Run.{IsCut}
 
 -- there was no memory for it

@@ -10,9 +10,9 @@ use Rattle.vr_edge.specs.Told.{Grows}
 use Rattle.vr_edge.specs.declared.link.Link as of_link
 use Rattle.vr_edge.specs.declared.sink.Sink as of_sink
 use Rattle.vr_spawn.specs.declared.spawner.Spawner as of_spawner
-use Rattle.vr_status.specs.Counts.{links_after, writes_after}
-use Rattle.vr_status.specs.declared.status.Status.{Status}
-use Rattle.vr_status.specs.declared.status.Status.TheVariants.{LinkFault, SpawnFault}
+use Rattle.vr_base.specs.Counts.{links_after, writes_after}
+use Rattle.vr_base.specs.declared.status.Status.{Status}
+use Rattle.vr_base.specs.declared.status.Status.TheVariants.{LinkFault, SpawnFault}
 use Rattle.vr_trial.specs.Run.{BreaksOff, CantCall, Counts, CountsSpawns, Does, DoesAll, Ends, Fails, FailsIn, Faults, IsCut, IsTold, Members, Outside, Place, Spawns, Starts, Stops, StopsAll, TrialEnds, counts, faults, members, outside, place, running_at, spawns, start_call, started, stopped, stops_of}
 use Rattle.vr_trial.specs.Script.{AreNext, IsNext, number_after, number_of}
 use Rattle.vr_trial.specs.Told.{Trial, operation_of, start_words, trial_of}

@@ -13,8 +13,8 @@ use Rattle.vr_edge.specs.declared.datagram.Datagram.{Datagram}
 use Rattle.vr_msg.specs.declared.reply.Answered.{Answered}
 use Rattle.vr_spawn.specs.declared.spawner.SpawnCall.{SpawnCall}
 use Rattle.vr_spawn.specs.declared.spawner.SpawnCall.TheVariants as call
-use Rattle.vr_status.specs.declared.status.Status.{Status}
-use Rattle.vr_status.specs.declared.status.Status.TheVariants.{Done, LinkFault, NoMemory, SpawnFault, WriteFault}
+use Rattle.vr_base.specs.declared.status.Status.{Status}
+use Rattle.vr_base.specs.declared.status.Status.TheVariants.{Done, LinkFault, NoMemory, SpawnFault, WriteFault}
 use Rattle.vr_trial.specs.Script.{number_of, script}
 use Rattle.vr_trial.specs.Told.{Trial, member_line, operation_of, start_words}
 use Rattle.vr_trial.specs.declared.course.Course.{Course}

@@ -8,9 +8,9 @@ ghost use Rattle.vr_trial.specs.Told.{key, member_line, operation_of, value};
 
 use crate::step::Question;
 use std::alloc::{AllocError, Global};
+use vr_base::Status;
 use vr_edge::{Sink, write_whole};
 use vr_header::{Key, Operation, Value};
-use vr_status::Status;
 
 /// The line that says what became of a member: this word, a space, its number in decimal digits, and an LF.
 #[tactic(auto, using(std::proofs::lemmas::Grind::common_steps), unfolding(crate::specs::Told::member_line))]

@@ -10,9 +10,9 @@ use crate::plan::Plan;
 use crate::step::{Question, Step};
 use crate::words::start_words;
 use vr_ask::exchange;
+use vr_base::Status;
 use vr_edge::{Link, Sink};
 use vr_spawn::Spawner;
-use vr_status::Status;
 
 impl Course {
     /// Has the spawner start a member by its words, those of a new file where `is_fresh`. After `Ok` it runs by the number that it was

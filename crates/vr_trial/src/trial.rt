@@ -9,9 +9,9 @@ use crate::order::script;
 use crate::plan::Plan;
 use crate::step::Step;
 use std::alloc::Global;
+use vr_base::Status;
 use vr_edge::{Link, Sink};
 use vr_spawn::Spawner;
-use vr_status::Status;
 
 /// Takes these steps in order; after `Ok` each went well. An `Err` is that of the first one that didn't: those before it were done whole,
 /// and none after it is begun. No member is stopped for it. Link, sink and spawner count one fault more where the `Err` names them, and

@@ -16,8 +16,8 @@ use Rattle.vr_rules.specs.Words.{enter, entered, speak, with_saved}
 use Rattle.vr_rules.proofs.Keeping.{sound_alike}
 use Rattle.vr_rules.proofs.Ruling.{by_rows}
 use Rattle.vr_rules.proofs.SavesWell.{savable_alike}
-use Rattle.vr_step.specs.Does.{Does}
-use Rattle.vr_step.proofs.Stepping.{does_by, does_quiet, says_by}
+use Rattle.vr_rules.specs.Does.{Does}
+use Rattle.vr_rules.proofs.Stepping.{does_by, does_quiet, says_by}
 use Rattle.vr_memory.specs.Ready.{IsReady}
 use Rattle.vr_view.specs.declared.changing.ChangeRule.{ChangeRule}
 use Rattle.vr_view.specs.declared.changing.ChangeRule.TheVariants as rule

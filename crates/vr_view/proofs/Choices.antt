@@ -25,8 +25,8 @@ use Rattle.vr_rules.proofs.Taking.{may_take_is}
 use Rattle.vr_rules.proofs.Trying.{all_stated, chosen_log_is, decided_ends}
 use Rattle.vr_base.specs.Bytes.{name_of}
 use Rattle.vr_disk.specs.declared.fault.Halt.{Halt}
-use Rattle.vr_step.specs.Does.{Does}
-use Rattle.vr_step.proofs.Stepping.{does_by, does_quiet, says_by}
+use Rattle.vr_rules.specs.Does.{Does}
+use Rattle.vr_rules.proofs.Stepping.{does_by, does_quiet, says_by}
 use Rattle.vr_memory.specs.Choosing.{chosen_line}
 use Rattle.vr_memory.specs.Ready.{IsReady}
 use Rattle.vr_view.specs.Logs.{IsTaught, MayTake}

@@ -4,3 +4,5 @@ pub mod Changes
 pub mod States
 pub mod Starts
 pub mod Copies
+pub mod Syncs
+pub mod Jumps

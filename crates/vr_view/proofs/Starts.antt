@@ -22,8 +22,8 @@ use Rattle.vr_rules.proofs.Ruling.{IsFor, by_rows, group_of_primary}
 use Rattle.vr_rules.specs.Given.{IsLogFor}
 use Rattle.vr_rules.proofs.Trying.{from_at}
 use Rattle.vr_disk.specs.declared.fault.Halt.{Halt}
-use Rattle.vr_step.specs.Does.{Does}
-use Rattle.vr_step.proofs.Stepping.{does_by, does_naming, does_quiet, says_by}
+use Rattle.vr_rules.specs.Does.{Does}
+use Rattle.vr_rules.proofs.Stepping.{does_by, does_naming, does_quiet, says_by}
 use Rattle.vr_view.specs.declared.starting.StartRule.{StartRule}
 use Rattle.vr_view.specs.declared.starting.StartRule.TheVariants as started
 use Rattle.vr_view.specs.declared.starting.ViewRule.{ViewRule}

@@ -57,7 +57,7 @@ pub fn decide_start_view_change(replica: &Replica, message: &StartViewChange) ->
 // start_view_change; its sender is heard; the replica speaks. Speaking, with a view-change quorum
 // heard: the primary tries to begin the view, another replica sends its statement to the primary. After
 // an `Err` the disk has had its calls up to the stop; of replica and outputs nothing is said.
-#[tactic(auto, using(vr_step::proofs::Stepping::steps, crate::proofs::Changes::later))]
+#[tactic(auto, using(vr_rules::proofs::Stepping::steps, crate::proofs::Changes::later))]
 fn enter_later<D: SectorDisk>(
     replica: &mut Replica,
     alloc: Global,
@@ -79,7 +79,7 @@ fn enter_later<D: SectorDisk>(
 // primary tries to begin the view, another replica sends its statement to the primary. With fewer heard
 // nothing more is done. After an `Err` the disk has had its calls up to the stop; of replica and
 // outputs nothing is said.
-#[tactic(auto, using(vr_step::proofs::Stepping::steps, crate::proofs::Changes::heard))]
+#[tactic(auto, using(vr_rules::proofs::Stepping::steps, crate::proofs::Changes::heard))]
 fn hear_one<D: SectorDisk>(
     replica: &mut Replica,
     alloc: Global,
@@ -103,7 +103,7 @@ fn hear_one<D: SectorDisk>(
 /// sends its statement to the primary. Where it is `Ignored` or below the view (`passes`), it answers
 /// `Ok` and leaves the very same disk. After an `Err` the disk has had its calls up to the stop; of
 /// replica and outputs nothing is said.
-#[tactic(auto, using(crate::proofs::Changes::changes, crate::proofs::Changes::means, vr_memory::proofs::Memory::some_member, vr_step::proofs::Stepping::wants))]
+#[tactic(auto, using(crate::proofs::Changes::changes, crate::proofs::Changes::means, vr_memory::proofs::Memory::some_member, vr_rules::proofs::Stepping::wants))]
 pub fn handle_start_view_change<D: SectorDisk>(
     replica: &mut Replica,
     alloc: Global,

@@ -107,7 +107,7 @@ pub fn decide_get_view(replica: &Replica, get: &GetView) -> ViewRule
 // ascending, if `Here`, a prepare_ok goes to the primary. Then what is committed is applied. `MayTake`:
 // the log is newer, fits and is a chain. After an `Err` the disk has had its calls up to the stop; of
 // replica and outputs nothing is said.
-#[tactic(auto, using(vr_step::proofs::Stepping::steps, crate::proofs::Takes::taken_low, crate::proofs::Choices::head_small, vr_journal::proofs::Acks::told_to))]
+#[tactic(auto, using(vr_rules::proofs::Stepping::steps, crate::proofs::Takes::taken_low, crate::proofs::Choices::head_small, vr_journal::proofs::Acks::told_to))]
 fn follow<D: SectorDisk>(
     replica: &mut Replica,
     alloc: Global,
@@ -131,7 +131,7 @@ fn follow<D: SectorDisk>(
 /// Rule 35: else, where it is newer, and ends past the window or begins above the commit number, one
 /// get_sync of its view goes to the sender. Else nothing is done. After an `Err` the disk has had its
 /// calls up to the stop; of replica and outputs nothing is said.
-#[tactic(auto, using(crate::proofs::Starts::starts, crate::proofs::Starts::may_follow, crate::proofs::Starts::view_started, vr_step::proofs::Stepping::wants))]
+#[tactic(auto, using(crate::proofs::Starts::starts, crate::proofs::Starts::may_follow, crate::proofs::Starts::view_started, vr_rules::proofs::Stepping::wants))]
 pub fn handle_start_view<D: SectorDisk>(
     replica: &mut Replica,
     alloc: Global,
@@ -157,7 +157,7 @@ pub fn handle_start_view<D: SectorDisk>(
 /// sender. Else, and where the message isn't of this version and group and from another replica,
 /// nothing is put out. Replica and disk are left as they are; after an `Err` nothing is said of
 /// outputs.
-#[tactic(auto, using(crate::proofs::Starts::gives, vr_memory::proofs::Memory::some_member, vr_step::proofs::Stepping::wants))]
+#[tactic(auto, using(crate::proofs::Starts::gives, vr_memory::proofs::Memory::some_member, vr_rules::proofs::Stepping::wants))]
 pub fn handle_get_view<D: SectorDisk>(
     replica: &Replica,
     alloc: Global,

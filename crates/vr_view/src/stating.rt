@@ -158,7 +158,7 @@ fn enter_up_to<D: SectorDisk>(
 // place of the sender's; the replica tries to begin its view (`try`). Entering saves, and tells each
 // other replica. After an `Err` the disk has had its calls up to the stop; of replica and outputs
 // nothing is said.
-#[tactic(auto, using(vr_step::proofs::Stepping::steps, crate::proofs::States::states))]
+#[tactic(auto, using(vr_rules::proofs::Stepping::steps, crate::proofs::States::states))]
 fn keep<D: SectorDisk>(
     replica: &mut Replica,
     alloc: Global,
@@ -184,7 +184,7 @@ fn keep<D: SectorDisk>(
 /// It tries: where the statements decide on a log that may be taken, the view begins with it; else
 /// nothing or one `wait` line is put out. After an `Err` the disk has had its calls up to the stop; of
 /// replica and outputs nothing is said.
-#[tactic(auto, using(crate::proofs::States::rules, vr_memory::proofs::Memory::some_member, vr_step::proofs::Stepping::wants))]
+#[tactic(auto, using(crate::proofs::States::rules, vr_memory::proofs::Memory::some_member, vr_rules::proofs::Stepping::wants))]
 pub fn handle_do_view_change<D: SectorDisk>(
     replica: &mut Replica,
     alloc: Global,

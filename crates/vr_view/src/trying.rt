@@ -138,7 +138,7 @@ fn apply_log<D: SectorDisk>(
 // to each other replica; one that doesn't read becomes `Lost`. Then what is committed is applied; in a
 // group of one what is `Here` counts as committed first. After an `Err` the disk has had its calls up
 // to the stop; of replica and outputs nothing is said.
-#[tactic(auto, using(vr_step::proofs::Stepping::steps, crate::proofs::Takes::taken_low, crate::proofs::Choices::head_small, crate::proofs::Choices::begins))]
+#[tactic(auto, using(vr_rules::proofs::Stepping::steps, crate::proofs::Takes::taken_low, crate::proofs::Choices::head_small, crate::proofs::Choices::begins))]
 fn begin_view<D: SectorDisk>(
     replica: &mut Replica,
     alloc: Global,
@@ -163,7 +163,7 @@ fn begin_view<D: SectorDisk>(
 // with the log's head is put out, and nothing else is done. `IsTaught`: the headers are those of
 // entries of the group, of a view that may be entered. After an `Err` the disk has had its calls up to
 // the stop; of replica and outputs nothing is said.
-#[tactic(auto, using(vr_step::proofs::Stepping::steps, crate::proofs::Takes::may_take_now, vr_memory::proofs::Memory::window_of), unfolding(vr_rules::specs::Words::try_log))]
+#[tactic(auto, using(vr_rules::proofs::Stepping::steps, crate::proofs::Takes::may_take_now, vr_memory::proofs::Memory::window_of), unfolding(vr_rules::specs::Words::try_log))]
 fn try_log<D: SectorDisk>(
     replica: &mut Replica,
     alloc: Global,
@@ -199,7 +199,7 @@ fn are_too_few(replica: &Replica) -> bool
 // `wait` line with its op. An end: where the chosen log may be taken, the view begins with it
 // (`begin_view`); else one `wait` line with the log's head. After an `Err` the disk has had its calls
 // up to the stop; of replica and outputs nothing is said.
-#[tactic(auto, using(crate::proofs::Choices::choices, crate::proofs::Choices::chosen_taught, vr_memory::proofs::Memory::window_of, vr_step::proofs::Stepping::wants))]
+#[tactic(auto, using(crate::proofs::Choices::choices, crate::proofs::Choices::chosen_taught, vr_memory::proofs::Memory::window_of, vr_rules::proofs::Stepping::wants))]
 fn choose_log<D: SectorDisk>(
     replica: &mut Replica,
     alloc: Global,
@@ -271,7 +271,7 @@ fn is_heard(replica: &Replica) -> bool
 /// (`try`), with the log that the statements decide on, and another replica sends one do_view_change
 /// with its statement to the primary. After an `Err` the disk has had its calls up to the stop; of
 /// replica and outputs nothing is said.
-#[tactic(auto, using(vr_step::proofs::Stepping::steps, vr_memory::proofs::Memory::some_member), unfolding(vr_rules::specs::Words::speak))]
+#[tactic(auto, using(vr_rules::proofs::Stepping::steps, vr_memory::proofs::Memory::some_member), unfolding(vr_rules::specs::Words::speak))]
 pub fn speak<D: SectorDisk>(
     replica: &mut Replica,
     alloc: Global,

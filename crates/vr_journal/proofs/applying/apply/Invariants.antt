@@ -1,6 +1,6 @@
 use Rattle.std.proofs.Common.{◌≡◌, ◌+◌, ◌≤◌}
 use Rattle.vr_rules.specs.Words.{apply_next}
-use Rattle.vr_step.specs.Does.{Looping}
+use Rattle.vr_rules.specs.Does.{Looping}
 use Rattle.vr_memory.specs.Ready.{IsReady}
 use Rattle.vr_journal.proofs.applying.apply.Given as goal
 

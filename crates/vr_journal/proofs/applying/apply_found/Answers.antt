@@ -1,7 +1,7 @@
 use Rattle.std.proofs.Common.{rules, ◌∙◌, ap}
 use Rattle.vr_memory.proofs.Memory.{may_ready, readies}
 use Rattle.vr_rules.specs.Words.{lost}
-use Rattle.vr_step.proofs.Stepping.{found_lost}
+use Rattle.vr_rules.proofs.Stepping.{found_lost}
 use Rattle.vr_journal.proofs.applying.apply_found.Goals as goal
 
 pub returns-in-None-clause-acts : goal.returns-in-None-clause-acts

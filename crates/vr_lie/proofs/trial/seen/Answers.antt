@@ -1,5 +1,5 @@
 use Rattle.vr_lie.proofs.Lies.{lied_same}
-use Rattle.vr_cells.specs.Seen.{reads_of}
+use Rattle.vr_mem.specs.Seen.{reads_of}
 use Rattle.vr_lie.proofs.trial.seen.Goals as goal
 
 pub returns-clause-same : goal.returns-clause-same

@@ -3,7 +3,7 @@ use Rattle.vr_edge.specs.Attaching.{attach_of, texts_of}
 use Rattle.vr_edge.specs.Told.{Grows}
 use Rattle.vr_node.specs.Ending.{faults_of, outside_of}
 use Rattle.vr_node.proofs.Ends.{linked, own_address}
-use Rattle.vr_status.specs.Counts.{links_after}
+use Rattle.vr_base.specs.Counts.{links_after}
 use Rattle.vr_node.proofs.running.serve_group.Goals as goal
 
 pub returns-in-Ok : goal.returns-in-Ok

@@ -1,5 +1,5 @@
 use Rattle.std.proofs.Common.{arith}
-use Rattle.vr_step.proofs.Stepping.{steps}
+use Rattle.vr_rules.proofs.Stepping.{steps}
 use Rattle.vr_normal.proofs.counting.count.Goals as goal
 
 pub returns-clause-acts : goal.returns-clause-acts

@@ -2,7 +2,7 @@ use Rattle.std.proofs.Common.{rules, ◌≡◌, Err}
 use Rattle.vr_disk.specs.declared.fault.Halt.TheVariants.{NoMemory}
 use Rattle.vr_rules.specs.Rules.{make}
 use Rattle.vr_rules.specs.Words.{write}
-use Rattle.vr_step.proofs.Stepping.{does_no_memory, does_then}
+use Rattle.vr_rules.proofs.Stepping.{does_no_memory, does_then}
 use Rattle.vr_normal.proofs.making.make.Goals as goal
 
 pub returns-in_err-send_prepare : goal.returns-in_err-send_prepare

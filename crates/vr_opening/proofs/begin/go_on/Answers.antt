@@ -1,7 +1,7 @@
 use Rattle.std.proofs.Common.{rules, ◌≡◌, Err}
 use Rattle.vr_disk.specs.declared.fault.Halt.TheVariants.{NoMemory}
 use Rattle.vr_rules.specs.Opening.{leave_view}
-use Rattle.vr_step.proofs.Stepping.{does_no_memory, does_then}
+use Rattle.vr_rules.proofs.Stepping.{does_no_memory, does_then}
 use Rattle.vr_opening.proofs.begin.go_on.Goals as goal
 
 pub returns-in_err-say_start : goal.returns-in_err-say_start

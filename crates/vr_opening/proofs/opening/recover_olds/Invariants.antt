@@ -1,5 +1,5 @@
 use Rattle.std.proofs.Common.{◌≡◌}
-use Rattle.vr_step.specs.Does.{Going}
+use Rattle.vr_rules.specs.Does.{Going}
 use Rattle.vr_opening.specs.Finding.{IsOpeningOld, recover_listed}
 use Rattle.vr_opening.proofs.opening.recover_olds.Given as goal
 

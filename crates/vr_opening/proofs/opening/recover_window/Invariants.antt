@@ -1,6 +1,6 @@
 use Rattle.std.proofs.Common.{◌≡◌, ◌+◌}
 use Rattle.vr_rules.specs.Opening.{recover_op}
-use Rattle.vr_step.specs.Does.{Going}
+use Rattle.vr_rules.specs.Does.{Going}
 use Rattle.vr_opening.specs.Finding.{IsOpening, window_of}
 use Rattle.vr_opening.proofs.opening.recover_window.Given as goal
 

@@ -1,5 +1,5 @@
 use Rattle.std.proofs.Common.{rules}
-use Rattle.vr_status.specs.declared.status.Status.TheVariants.{NoMemory}
+use Rattle.vr_base.specs.declared.status.Status.TheVariants.{NoMemory}
 use Rattle.vr_top.proofs.Begun.{grounded, groundless}
 use Rattle.vr_top.proofs.whole.run_outside.Goals as goal
 

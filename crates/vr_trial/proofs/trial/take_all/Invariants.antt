@@ -1,6 +1,6 @@
 use Rattle.std.proofs.Common.{◌≡◌, drop}
 use Rattle.vr_ask.specs.Asking.{client_of}
-use Rattle.vr_status.specs.declared.status.Status.{Status}
+use Rattle.vr_base.specs.declared.status.Status.{Status}
 use Rattle.vr_trial.specs.Parts.{faults_of, place_of}
 use Rattle.vr_trial.specs.Run.{DoesAll, FailsIn, Faults, Place}
 use Rattle.vr_trial.specs.Script.{AreNext}

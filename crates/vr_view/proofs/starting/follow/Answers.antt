@@ -2,7 +2,7 @@ use Rattle.std.proofs.Common.{rules}
 use Rattle.vr_base.specs.Bytes.{name_of}
 use Rattle.vr_rules.specs.Rules.{acknowledge_stored}
 use Rattle.vr_rules.specs.Words.{take}
-use Rattle.vr_step.proofs.Stepping.{does_then}
+use Rattle.vr_rules.proofs.Stepping.{does_then}
 use Rattle.vr_journal.specs.Telling.{each_to}
 use Rattle.vr_journal.proofs.Acks.{told_to}
 use Rattle.vr_view.proofs.starting.follow.Goals as goal

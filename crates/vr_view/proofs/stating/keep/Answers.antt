@@ -1,6 +1,6 @@
 use Rattle.std.proofs.Common.{refl, rules, ◌≡◌, Err}
 use Rattle.vr_disk.specs.declared.fault.Halt.TheVariants.{NoMemory}
-use Rattle.vr_step.proofs.Stepping.{does_no_memory, does_then}
+use Rattle.vr_rules.proofs.Stepping.{does_no_memory, does_then}
 use Rattle.vr_view.specs.Entering.{entering}
 use Rattle.vr_view.proofs.States.{place_stated, ready_stated, stated_means, still_for, view_stated}
 use Rattle.vr_view.proofs.stating.keep.Goals as goal

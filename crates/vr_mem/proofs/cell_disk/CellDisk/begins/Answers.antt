@@ -1,5 +1,5 @@
 use Rattle.std.proofs.Common.{◌∙◌, ap, sym, Some}
-use Rattle.vr_cells.specs.Seen.{face_of, read_mark_at}
+use Rattle.vr_mem.specs.Seen.{face_of, read_mark_at}
 use Rattle.vr_mem.proofs.Plain.{told_some}
 use Rattle.vr_mem.proofs.cell_disk.CellDisk.begins.Goals as goal
 

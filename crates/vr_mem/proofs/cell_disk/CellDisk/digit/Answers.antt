@@ -1,5 +1,5 @@
 use Rattle.std.proofs.Common.{◌∙◌, sym}
-use Rattle.vr_cells.specs.Seen.{face_of}
+use Rattle.vr_mem.specs.Seen.{face_of}
 use Rattle.vr_mem.proofs.Meant.{meant_digit}
 use Rattle.vr_mem.proofs.cell_disk.CellDisk.digit.Goals as goal
 

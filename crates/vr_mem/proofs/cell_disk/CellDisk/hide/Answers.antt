@@ -1,5 +1,5 @@
 use Rattle.std.specs.Prelude.{None}
-use Rattle.vr_cells.specs.Seen.{face_of}
+use Rattle.vr_mem.specs.Seen.{face_of}
 use Rattle.vr_mem.proofs.Meant.{meant_lied}
 use Rattle.vr_mem.proofs.Plain.{content_high, none_content, same_told, sectors_lied}
 use Rattle.vr_mem.proofs.cell_disk.CellDisk.hide.Goals as goal

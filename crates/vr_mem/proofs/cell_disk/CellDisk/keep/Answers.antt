@@ -1,4 +1,4 @@
-use Rattle.vr_cells.specs.Seen.{face_of}
+use Rattle.vr_mem.specs.Seen.{face_of}
 use Rattle.vr_mem.proofs.Meant.{kept_face}
 use Rattle.vr_mem.proofs.Plain.{kept_sectors, same_told}
 use Rattle.vr_mem.proofs.cell_disk.CellDisk.keep.Goals as goal

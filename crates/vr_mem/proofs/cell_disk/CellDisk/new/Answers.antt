@@ -1,4 +1,4 @@
-use Rattle.vr_cells.specs.Seen.{face_of}
+use Rattle.vr_mem.specs.Seen.{face_of}
 use Rattle.vr_mem.proofs.Meant.{meant_zeros}
 use Rattle.vr_mem.proofs.Plain.{made_sectors}
 use Rattle.vr_mem.proofs.cell_disk.CellDisk.new.Goals as goal

@@ -3,7 +3,7 @@ use Rattle.std.specs.Prelude.{map, replicate}
 use Rattle.std.proofs.lemmas.Bool.{both_ways}
 use Rattle.vr_disk.specs.Fronts.{front}
 use Rattle.vr_mem.specs.Owed.{begins_copy, meant}
-use Rattle.vr_cells.specs.Seen.{face_of}
+use Rattle.vr_mem.specs.Seen.{face_of}
 use Rattle.vr_mem.proofs.Meant.{meant_mark, meant_write}
 use Rattle.vr_mem.proofs.Plain.{front_content, same_told, sectors_write}
 use Rattle.vr_mem.proofs.cell_disk.CellDisk.owe.Goals as goal

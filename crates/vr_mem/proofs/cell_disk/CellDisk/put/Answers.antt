@@ -1,4 +1,4 @@
-use Rattle.vr_cells.specs.Seen.{face_of}
+use Rattle.vr_mem.specs.Seen.{face_of}
 use Rattle.vr_mem.proofs.Meant.{meant_plain, meant_write}
 use Rattle.vr_mem.proofs.Plain.{same_told, sectors_write}
 use Rattle.vr_mem.proofs.cell_disk.CellDisk.put.Goals as goal

@@ -1,4 +1,4 @@
-use Rattle.vr_cells.specs.Seen.{face_of, read_mark_at}
+use Rattle.vr_mem.specs.Seen.{face_of, read_mark_at}
 use Rattle.vr_mem.proofs.Plain.{plain_reading}
 use Rattle.vr_mem.proofs.cell_disk.CellDisk.reading.Goals as goal
 

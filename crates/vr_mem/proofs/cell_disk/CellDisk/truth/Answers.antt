@@ -1,4 +1,4 @@
-use Rattle.vr_cells.specs.Seen.{bytes_of, face_of}
+use Rattle.vr_mem.specs.Seen.{bytes_of, face_of}
 use Rattle.vr_mem.proofs.Plain.{told_truth}
 use Rattle.vr_mem.proofs.cell_disk.CellDisk.truth.Goals as goal
 

@@ -1,6 +1,6 @@
 use Rattle.std.proofs.Common.{◌∙◌, ap}
 use Rattle.vr_disk.specs.Sectors.{has}
-use Rattle.vr_cells.specs.Seen.{face_of, read_mark_at}
+use Rattle.vr_mem.specs.Seen.{face_of, read_mark_at}
 use Rattle.vr_mem.proofs.Plain.{told_none, told_some}
 use Rattle.vr_mem.proofs.cell_disk.CellDiskSectorDisk.reads_as.Goals as goal
 

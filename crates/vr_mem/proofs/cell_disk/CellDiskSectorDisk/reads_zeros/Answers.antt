@@ -1,7 +1,7 @@
 use Rattle.std.proofs.Common.{◌∙◌, ap, sym}
 use Rattle.std.specs.Prelude.{replicate}
 use Rattle.vr_disk.specs.Sectors.{has}
-use Rattle.vr_cells.specs.Seen.{face_of}
+use Rattle.vr_mem.specs.Seen.{face_of}
 use Rattle.vr_mem.proofs.Plain.{told_plain}
 use Rattle.vr_mem.proofs.cell_disk.CellDiskSectorDisk.reads_zeros.Goals as goal
 

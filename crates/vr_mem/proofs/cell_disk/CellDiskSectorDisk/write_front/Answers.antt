@@ -2,7 +2,7 @@ use Rattle.vr_disk.specs.Fronts.{front}
 use Rattle.vr_mem.specs.Cells.{disk_of}
 use Rattle.vr_mem.specs.Owed.{meant_face}
 use Rattle.vr_mem.specs.Calls.{fate_of, name_given}
-use Rattle.vr_cells.specs.Seen.{face_of}
+use Rattle.vr_mem.specs.Seen.{face_of}
 use Rattle.vr_mem.proofs.Cutting.{write_cut}
 use Rattle.vr_mem.proofs.cell_disk.CellDiskSectorDisk.write_front.Goals as goal
 

@@ -1,5 +1,0 @@
-use Rattle.law_9_order.proofs.Interleaving.{programs_linearize}
-use Rattle.law_9_order.proofs.programs_are_linearizable.Goals as goal
-
-pub returns : goal.returns
-returns _ = programs_linearize

@@ -1,5 +1,0 @@
-use Rattle.law_9_order.proofs.Started.{trials_start}
-use Rattle.law_9_order.proofs.trials_start_members.Goals as goal
-
-pub returns : goal.returns
-returns _ = trials_start

@@ -1,4 +1,0 @@
-pub mod Going
-pub mod Row
-pub mod Clients
-pub mod Effect
