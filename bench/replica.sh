@@ -38,8 +38,8 @@ named() { awk -v name=":$1 " 'index($0, name) { sum += $1 } END { print sum + 0 
 figures() {
     inside "$1" "$2" > "$folder/all"
     inside vr_lie::table::look_in "$2" > "$folder/lies"
-    disk=$(named vr_lying::disk::HostDiskSectorDisk::write "$folder/all")
-    disk=$((disk + $(named vr_lying::disk::HostDiskSectorDisk::sync "$folder/all")))
+    disk=$(named vr_host_disk::disk::HostDiskSectorDisk::write "$folder/all")
+    disk=$((disk + $(named vr_host_disk::disk::HostDiskSectorDisk::sync "$folder/all")))
     echo "$(awk '/PROGRAM TOTALS/ { print $1 }' "$folder/all")" "$(named vr_lie::table::look_in "$folder/all")" $disk \
         "$(named sha2::block256::Core256::update "$folder/all")" "$(named sha2::block256::Core256::update "$folder/lies")"
 }

@@ -19,7 +19,7 @@ use Rattle.vr_node.specs.Opening.{Opens}
 use Rattle.vr_node.specs.Steps.{steps, stops}
 use Rattle.vr_node.specs.declared.node.Node.{Node}
 use Rattle.vr_serve.specs.Runs.{Did, IsRun}
-use Rattle.vr_lying.proofs.Versions.{blank_by}
+use Rattle.vr_host_disk.proofs.Versions.{blank_by}
 use Rattle.law_7_members.specs.Ends.{EndsAs, FoundRunsEnd, MadeRunsEnd, TellsAgain, step_calls}
 use Rattle.law_7_members.specs.Files as files
 use Rattle.law_7_members.specs.Files.{Act, Becomes, cut_in, file_after}

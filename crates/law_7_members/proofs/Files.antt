@@ -32,9 +32,9 @@ use Rattle.vr_world.proofs.FitLies.{same_version}
 use Rattle.law_4_disks.specs.Worlds.{IsLine}
 use Rattle.law_4_disks.proofs.Lines.{other_place, own_place, some_member}
 use Rattle.law_4_disks.proofs.Starts.{opening_is}
-use Rattle.vr_lying.proofs.Rules.{a_react}
-use Rattle.vr_lying.proofs.Versions.{blank_by, opens_by}
-use Rattle.vr_lying.proofs.Words.{a_opening}
+use Rattle.vr_host_disk.proofs.Rules.{a_react}
+use Rattle.vr_host_disk.proofs.Versions.{blank_by, opens_by}
+use Rattle.vr_host_disk.proofs.Words.{a_opening}
 use Rattle.vr_serve.specs.Runs.{Did}
 use Rattle.vr_rules.specs.Does.{Does, LeftBy}
 use Rattle.vr_node.specs.Opening.{Opens}

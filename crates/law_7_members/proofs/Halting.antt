@@ -27,8 +27,8 @@ use Rattle.vr_opening.specs.Recovering.{DoesTo, IsOther, StopsAsked, StopsMendin
 use Rattle.vr_base.specs.declared.status.Status.{Status}
 use Rattle.vr_base.specs.declared.status.Status.TheVariants as status
 use Rattle.law_4_disks.proofs.Starts.{opening_is}
-use Rattle.vr_lying.proofs.Versions.{blank_by}
-use Rattle.vr_lying.proofs.Words.{a_opening}
+use Rattle.vr_host_disk.proofs.Versions.{blank_by}
+use Rattle.vr_host_disk.proofs.Words.{a_opening}
 use Rattle.law_7_members.specs.Ends.{IsAttached, IsHalfFound, IsMoving, LeavesBy, MigrationsAreActs, OpeningsHalt, OpensAsOwn, TellsAgain}
 use Rattle.law_7_members.specs.Files as files
 use Rattle.law_7_members.specs.Files.{Act, cut_in}

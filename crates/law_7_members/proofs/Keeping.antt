@@ -17,8 +17,8 @@ use Rattle.law_4_disks.specs.Beside.{AreMade}
 use Rattle.law_4_disks.specs.Worlds.{IsMatched, first_host, first_world, left}
 use Rattle.law_4_disks.proofs.Fresh.{some_world}
 use Rattle.law_4_disks.proofs.Opening.{openings_find}
-use Rattle.vr_lying.proofs.Versions.{blank_by}
-use Rattle.vr_lying.proofs.Words.{Alike, a_does, a_parts, a_then}
+use Rattle.vr_host_disk.proofs.Versions.{blank_by}
+use Rattle.vr_host_disk.proofs.Words.{Alike, a_does, a_parts, a_then}
 use Rattle.law_6_one_log.specs.ScheduleLaws.{LeavesUnforged}
 use Rattle.law_6_one_log.specs.Schedules.{room}
 use Rattle.law_6_one_log.proofs.Fresh.{worlds_are_runs}

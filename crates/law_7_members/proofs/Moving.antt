@@ -22,9 +22,9 @@ use Rattle.vr_world.proofs.FitGroups.{fresh_group_fits, groups_fit}
 use Rattle.vr_world.proofs.FitLies.{lies_fit}
 use Rattle.law_4_disks.specs.Worlds.{IsOfBytes}
 use Rattle.law_4_disks.proofs.Starts.{opening_is}
-use Rattle.vr_lying.proofs.Rules.{a_react}
-use Rattle.vr_lying.proofs.Versions.{blank_by}
-use Rattle.vr_lying.proofs.Words.{a_opening}
+use Rattle.vr_host_disk.proofs.Rules.{a_react}
+use Rattle.vr_host_disk.proofs.Versions.{blank_by}
+use Rattle.vr_host_disk.proofs.Words.{a_opening}
 use Rattle.vr_serve.specs.Runs.{Did}
 use Rattle.vr_rules.specs.Does.{Does, LeftBy}
 use Rattle.vr_node.specs.Opening.{Opens}

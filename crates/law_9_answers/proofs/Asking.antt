@@ -2,11 +2,11 @@
 use Rattle.std.proofs.Common.{ℕ, zero, suc, ◌+◌, ◌^◌, ◌<◌, ◌≡◌, ◌∙◌, ◌⊎◌, inl, inr, arith, refl, sym, subst, List, [], ◌∷◌, ◌++◌, length, map, take}
 use Rattle.std.specs.Prelude.{⊤}
 use Rattle.std.specs.List.{AllByRecursion}
-use Rattle.vr_ask.specs.Asking as ask
-use Rattle.vr_ask.specs.Asking.{Answers, Client, EndsWith, Stand, request_of}
-use Rattle.vr_ask.specs.Run as client
-use Rattle.vr_ask.specs.Run.{AreExchanged, ClientEnds, EndsAt, EndsLines, EndsRun, Exchange, Reading, StopsAt, reading_of, standing}
-use Rattle.vr_ask.proofs.Exchanges.{later_first, later_fits}
+use Rattle.cmd_client.specs.Asking as ask
+use Rattle.cmd_client.specs.Asking.{Answers, Client, EndsWith, Stand, request_of}
+use Rattle.cmd_client.specs.Run as client
+use Rattle.cmd_client.specs.Run.{AreExchanged, ClientEnds, EndsAt, EndsLines, EndsRun, Exchange, Reading, StopsAt, reading_of, standing}
+use Rattle.cmd_client.proofs.Exchanges.{later_first, later_fits}
 use Rattle.vr_client.specs.declared.answer.Answer.{Answer}
 use Rattle.vr_client.specs.declared.answer.Answer.TheVariants as answer
 use Rattle.vr_header.specs.Bodies.{IsOperation}
@@ -17,16 +17,16 @@ use Rattle.vr_msg.specs.declared.request.RequestFields.{RequestFields}
 use Rattle.vr_rules.specs.Fit.{IsAsked}
 use Rattle.vr_base.specs.declared.status.Status.{Status}
 use Rattle.vr_base.specs.declared.status.Status.TheVariants as status
-use Rattle.vr_trial.specs.Run as trial
-use Rattle.vr_trial.specs.Run.{Does, DoesAll, Ends, Fails, FailsIn, Place, TrialEnds, begins, of_client}
-use Rattle.vr_trial.specs.Script.{AreNext, IsNext, members, middle, number_after, number_of, script}
-use Rattle.vr_trial.specs.Told.{Trial, operation_of}
-use Rattle.vr_trial.specs.declared.step.Question.{Question}
-use Rattle.vr_trial.specs.declared.step.Question.TheVariants as question
-use Rattle.vr_trial.specs.declared.step.Step.{Step}
-use Rattle.vr_trial.specs.declared.step.Step.TheVariants.{Start, Restart, Attach, Ask, Stop}
-use Rattle.vr_trial.proofs.Numbering.{script_next}
-use Rattle.vr_trial.proofs.Texts.{key_text, value_fits}
+use Rattle.cmd_trial.specs.Run as trial
+use Rattle.cmd_trial.specs.Run.{Does, DoesAll, Ends, Fails, FailsIn, Place, TrialEnds, begins, of_client}
+use Rattle.cmd_trial.specs.Script.{AreNext, IsNext, members, middle, number_after, number_of, script}
+use Rattle.cmd_trial.specs.Told.{Trial, operation_of}
+use Rattle.cmd_trial.specs.declared.step.Question.{Question}
+use Rattle.cmd_trial.specs.declared.step.Question.TheVariants as question
+use Rattle.cmd_trial.specs.declared.step.Step.{Step}
+use Rattle.cmd_trial.specs.declared.step.Step.TheVariants.{Start, Restart, Attach, Ask, Stop}
+use Rattle.cmd_trial.proofs.Numbering.{script_next}
+use Rattle.cmd_trial.proofs.Texts.{key_text, value_fits}
 use Rattle.law_1_machine.specs.Basics.{In}
 use Rattle.law_7_members.specs.Files.{ActBy}
 use Rattle.law_7_members.proofs.Whole.{runs_keep_one_log}

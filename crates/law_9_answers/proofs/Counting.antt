@@ -2,22 +2,22 @@
 use Rattle.std.proofs.Common.{ℕ, ◌+◌, ◌≤◌, ◌≡◌, ◌∙◌, ◌⊎◌, inl, inr, arith, refl, sym, ap, subst, List, [], ◌∷◌, ◌++◌, length, map}
 use Rattle.std.specs.Prelude.{⊤}
 use Rattle.std.proofs.lemmas.List.{append-nil, append_assoc}
-use Rattle.vr_ask.specs.Asking as ask
-use Rattle.vr_ask.specs.Asking.{Client, EndsWith, Stand, request_of}
-use Rattle.vr_ask.specs.Run as client
-use Rattle.vr_ask.specs.Run.{AreExchanged, ClientEnds, EndsAt, EndsLines, EndsRun, Exchange, Reading, StopsAt, reading_of, standing}
+use Rattle.cmd_client.specs.Asking as ask
+use Rattle.cmd_client.specs.Asking.{Client, EndsWith, Stand, request_of}
+use Rattle.cmd_client.specs.Run as client
+use Rattle.cmd_client.specs.Run.{AreExchanged, ClientEnds, EndsAt, EndsLines, EndsRun, Exchange, Reading, StopsAt, reading_of, standing}
 use Rattle.vr_header.specs.declared.operation.Operation.{Operation}
 use Rattle.vr_header.specs.declared.operation.Operation.TheVariants.{Register}
 use Rattle.vr_msg.specs.declared.request.RequestFields.{RequestFields}
 use Rattle.vr_base.specs.declared.status.Status.{Status}
 use Rattle.vr_base.specs.declared.status.Status.TheVariants as status
-use Rattle.vr_trial.specs.Run as trial
-use Rattle.vr_trial.specs.Run.{Does, DoesAll, Ends, Fails, FailsIn, Place, TrialEnds, begins, of_client}
-use Rattle.vr_trial.specs.Script.{AreNext, number_of, script}
-use Rattle.vr_trial.specs.Told.{Trial, operation_of}
-use Rattle.vr_trial.specs.declared.step.Step.{Step}
-use Rattle.vr_trial.specs.declared.step.Step.TheVariants.{Start, Restart, Attach, Ask, Stop}
-use Rattle.vr_trial.proofs.Numbering.{script_next}
+use Rattle.cmd_trial.specs.Run as trial
+use Rattle.cmd_trial.specs.Run.{Does, DoesAll, Ends, Fails, FailsIn, Place, TrialEnds, begins, of_client}
+use Rattle.cmd_trial.specs.Script.{AreNext, number_of, script}
+use Rattle.cmd_trial.specs.Told.{Trial, operation_of}
+use Rattle.cmd_trial.specs.declared.step.Step.{Step}
+use Rattle.cmd_trial.specs.declared.step.Step.TheVariants.{Start, Restart, Attach, Ask, Stop}
+use Rattle.cmd_trial.proofs.Numbering.{script_next}
 use Rattle.law_1_machine.specs.Basics.{In}
 use Rattle.law_9_answers.specs.Clients.{heard_at, heard_client, heard_each, heard_last, heard_lines, heard_run}
 use Rattle.law_9_answers.specs.Heard.{Heard}

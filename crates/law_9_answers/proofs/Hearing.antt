@@ -3,7 +3,7 @@ use Rattle.std.proofs.Common.{ℕ, ◌≡◌, refl, ap, subst, Bool, true, false
 use Rattle.std.specs.Prelude.{Ok}
 use Rattle.std.specs.List.{AllByRecursion}
 use Rattle.std.proofs.lemmas.Slice.Eq.{bytes_eq-Decides}
-use Rattle.vr_ask.specs.Asking.{Answers, Client, Stand, request_of}
+use Rattle.cmd_client.specs.Asking.{Answers, Client, Stand, request_of}
 use Rattle.vr_base.specs.declared.sum.Sum.{Sum}
 use Rattle.vr_client.specs.Asking.{EndsBy, ask_of}
 use Rattle.vr_client.specs.Heeding.{heed, heed_kind, heed_message}

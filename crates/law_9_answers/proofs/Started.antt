@@ -5,9 +5,9 @@ use Rattle.std.specs.Prelude.{codes}
 use Rattle.clap.specs.Faults.{defaults_fault, walk_fault}
 use Rattle.clap.specs.Walk.{walked}
 use Rattle.vr_lines.specs.Numbers.{digits_on, number_of}
-use Rattle.vr_words.specs.Forms.{above, addresses, client, flag, making, migrate, node, peered, plain, replay, running, soak, taking, the_command, top, trial, wanted, wanting}
-use Rattle.vr_words.specs.Asked.{asked, asked_at, asker_at, client_at, entered_by, faults_in, flag_at, fresh_at, id_at, member_at, migrate_at, mover_at, n_at, node_at, peers_at, trial_at, trier_at, version_at}
-use Rattle.vr_trial.specs.Told as start
+use Rattle.vr_args.specs.Forms.{above, addresses, client, flag, making, migrate, node, peered, plain, replay, running, soak, taking, the_command, top, trial, wanted, wanting}
+use Rattle.vr_args.specs.Asked.{asked, asked_at, asker_at, client_at, entered_by, faults_in, flag_at, fresh_at, id_at, member_at, migrate_at, mover_at, n_at, node_at, peers_at, trial_at, trier_at, version_at}
+use Rattle.cmd_trial.specs.Told as start
 use Rattle.law_9_answers.specs.Started.{StartsMember, TrialsStartMembers, made_as, trial_of_size}
 
 made_3_0 : StartsMember (trial_of_size 3) 0 true

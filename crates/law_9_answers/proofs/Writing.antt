@@ -3,11 +3,11 @@ use Rattle.std.proofs.Common.{ℕ, ◌+◌, ◌≡◌, ◌∙◌, ◌⊎◌, inl
 use Rattle.std.specs.Io.KnownBytes.{Appends}
 use Rattle.std.proofs.KnownBytes.{Appends-nil, Appends-trans}
 use Rattle.std.proofs.lemmas.List.{append-nil, append_assoc}
-use Rattle.vr_ask.specs.Asking as ask
-use Rattle.vr_ask.specs.Asking.{Client, EndsWith, Stand}
-use Rattle.vr_ask.specs.Run as client
-use Rattle.vr_ask.specs.Run.{AreExchanged, EndsAt, EndsLines, EndsRun, Exchange, Reading, StopsAt, reading_of, standing}
-use Rattle.vr_ask.specs.Text.{answer_text}
+use Rattle.cmd_client.specs.Asking as ask
+use Rattle.cmd_client.specs.Asking.{Client, EndsWith, Stand}
+use Rattle.cmd_client.specs.Run as client
+use Rattle.cmd_client.specs.Run.{AreExchanged, EndsAt, EndsLines, EndsRun, Exchange, Reading, StopsAt, reading_of, standing}
+use Rattle.cmd_client.specs.Text.{answer_text}
 use Rattle.vr_client.specs.declared.answer.Answer.TheVariants as answer
 use Rattle.vr_edge.specs.Told.{AppendsFront}
 use Rattle.vr_header.specs.declared.operation.Operation.{Operation}
@@ -15,12 +15,12 @@ use Rattle.vr_header.specs.declared.operation.Operation.TheVariants.{Register}
 use Rattle.vr_base.specs.declared.status.Status.{Status}
 use Rattle.vr_base.specs.declared.status.Status.TheVariants as status
 use Rattle.vr_spawn.specs.declared.spawner.SpawnCall.{SpawnCall}
-use Rattle.vr_trial.specs.Run as trial
-use Rattle.vr_trial.specs.Run.{BreaksOff, Does, DoesAll, Ends, Fails, FailsIn, Members, Place, begins, of_client, started, stopped}
-use Rattle.vr_trial.specs.Script.{number_of, script}
-use Rattle.vr_trial.specs.Told.{Trial, operation_of, start_words}
-use Rattle.vr_trial.specs.declared.step.Step.{Step}
-use Rattle.vr_trial.specs.declared.step.Step.TheVariants.{Start, Restart, Attach, Ask, Stop}
+use Rattle.cmd_trial.specs.Run as trial
+use Rattle.cmd_trial.specs.Run.{BreaksOff, Does, DoesAll, Ends, Fails, FailsIn, Members, Place, begins, of_client, started, stopped}
+use Rattle.cmd_trial.specs.Script.{number_of, script}
+use Rattle.cmd_trial.specs.Told.{Trial, operation_of, start_words}
+use Rattle.cmd_trial.specs.declared.step.Step.{Step}
+use Rattle.cmd_trial.specs.declared.step.Step.TheVariants.{Start, Restart, Attach, Ask, Stop}
 use Rattle.law_9_answers.specs.Clients.{lines_of, heard_at, heard_each, heard_last, heard_lines, heard_run}
 use Rattle.law_9_answers.specs.Laws.{ClientsWriteWhatTheyHear, TrialsWriteWhatTheyHear}
 use Rattle.law_9_answers.specs.Heard.{Heard}

@@ -1,9 +1,9 @@
 -- What the run of a client heard, ask by ask: of the clause of `run_client`.
 use Rattle.std.proofs.Common.{inl, inr}
 use Rattle.std.specs.Prelude.{ℕ, ◌+◌, ◌⊎◌, ◌≡◌, List, [], ◌∷◌, ◌++◌, length}
-use Rattle.vr_ask.specs.Asking.{Client, EndsWith, Faults, Stand}
-use Rattle.vr_ask.specs.Text.{answer_text}
-use Rattle.vr_ask.specs.Run.{AreExchanged, ClientEnds, EndsAt, EndsLines, EndsRun, Exchange, Outside, Reading, StopsAt, reading_of, standing}
+use Rattle.cmd_client.specs.Asking.{Client, EndsWith, Faults, Stand}
+use Rattle.cmd_client.specs.Text.{answer_text}
+use Rattle.cmd_client.specs.Run.{AreExchanged, ClientEnds, EndsAt, EndsLines, EndsRun, Exchange, Outside, Reading, StopsAt, reading_of, standing}
 use Rattle.vr_client.specs.declared.answer.Answer.TheVariants as answer
 use Rattle.vr_header.specs.declared.operation.Operation.{Operation}
 use Rattle.vr_header.specs.declared.operation.Operation.TheVariants.{Register}

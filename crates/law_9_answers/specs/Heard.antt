@@ -1,6 +1,6 @@
 -- What clients hear of members of a group, and when that is what the group's one log says.
 use Rattle.std.specs.Prelude.{ℕ, ◌≡◌, ⊤, List, ◌++◌, Contains, slice_get, take, Some}
-use Rattle.vr_ask.specs.Asking.{Answers, Client, Stand, request_of}
+use Rattle.cmd_client.specs.Asking.{Answers, Client, Stand, request_of}
 use Rattle.vr_state.specs.Folds.{state_after}
 use Rattle.vr_state.specs.declared.session.SessionAnswer.TheVariants as session
 use Rattle.vr_state.specs.Sessions.{checked}

@@ -1,10 +1,10 @@
 -- What clients of a group write is what its one log says.
 use Rattle.std.specs.Prelude.{ℕ, ◌^◌, ◌<◌, ◌≤◌, ◌≡◌, List, [], ◌∷◌, length, map}
 use Rattle.std.specs.List.{AllByRecursion}
-use Rattle.vr_ask.specs.Asking as ask
-use Rattle.vr_ask.specs.Asking.{Client}
-use Rattle.vr_ask.specs.Run as client
-use Rattle.vr_ask.specs.Run.{ClientEnds}
+use Rattle.cmd_client.specs.Asking as ask
+use Rattle.cmd_client.specs.Asking.{Client}
+use Rattle.cmd_client.specs.Run as client
+use Rattle.cmd_client.specs.Run.{ClientEnds}
 use Rattle.vr_base.specs.declared.kind.Kind.{Kind}
 use Rattle.vr_rules.specs.Opening.{AreKinds}
 use Rattle.vr_client.specs.declared.answer.Answer.{Answer}
@@ -21,9 +21,9 @@ use Rattle.vr_msg.specs.declared.request.RequestFields.{RequestFields}
 use Rattle.vr_node.specs.declared.node.Node.{Node}
 use Rattle.vr_serve.specs.Runs.{Did}
 use Rattle.vr_base.specs.declared.status.Status.{Status}
-use Rattle.vr_trial.specs.Run as trial
-use Rattle.vr_trial.specs.Run.{TrialEnds}
-use Rattle.vr_trial.specs.Told.{Trial}
+use Rattle.cmd_trial.specs.Run as trial
+use Rattle.cmd_trial.specs.Run.{TrialEnds}
+use Rattle.cmd_trial.specs.Told.{Trial}
 use Rattle.vr_world.specs.Group.{Asked}
 use Rattle.vr_world.specs.Lying.{Lying}
 use Rattle.vr_world.specs.World.{Host}

@@ -3,10 +3,10 @@ use Rattle.std.proofs.Common.{inl, inr}
 use Rattle.std.specs.Prelude.{ℕ, ◌+◌, ◌≡◌, ◌==◌, ◌⊎◌, List, [], ◌∷◌, ◌++◌, Contains, length, map, slice_get, Some, if◌then◌else◌}
 use Rattle.std.specs.List.{AllByRecursion}
 use Rattle.std.specs.Option.{option_map_or}
-use Rattle.vr_ask.specs.Asking as ask
-use Rattle.vr_ask.specs.Asking.{Client, EndsWith, Stand, request_of}
-use Rattle.vr_ask.specs.Run as client
-use Rattle.vr_ask.specs.Run.{ClientEnds, EndsAt, EndsLines, EndsRun, Reading, StopsAt, reading_of, standing}
+use Rattle.cmd_client.specs.Asking as ask
+use Rattle.cmd_client.specs.Asking.{Client, EndsWith, Stand, request_of}
+use Rattle.cmd_client.specs.Run as client
+use Rattle.cmd_client.specs.Run.{ClientEnds, EndsAt, EndsLines, EndsRun, Reading, StopsAt, reading_of, standing}
 use Rattle.vr_base.specs.declared.kind.Kind.{Kind}
 use Rattle.vr_client.specs.declared.answer.Answer.TheVariants as answer
 use Rattle.vr_header.specs.NoCollision.{NoCollision}
@@ -16,12 +16,12 @@ use Rattle.vr_msg.specs.declared.reply.Answered.{Answered}
 use Rattle.vr_msg.specs.declared.request.RequestFields.{RequestFields}
 use Rattle.vr_base.specs.declared.status.Status.{Status}
 use Rattle.vr_base.specs.declared.status.Status.TheVariants.{LinkFault, NoAnswer, NoMemory}
-use Rattle.vr_trial.specs.Run as trial
-use Rattle.vr_trial.specs.Run.{Ends, Fails, FailsIn, Place, TrialEnds, begins, of_client}
-use Rattle.vr_trial.specs.Script.{number_of, script}
-use Rattle.vr_trial.specs.Told.{Trial, operation_of}
-use Rattle.vr_trial.specs.declared.step.Step.{Step}
-use Rattle.vr_trial.specs.declared.step.Step.TheVariants.{Ask}
+use Rattle.cmd_trial.specs.Run as trial
+use Rattle.cmd_trial.specs.Run.{Ends, Fails, FailsIn, Place, TrialEnds, begins, of_client}
+use Rattle.cmd_trial.specs.Script.{number_of, script}
+use Rattle.cmd_trial.specs.Told.{Trial, operation_of}
+use Rattle.cmd_trial.specs.declared.step.Step.{Step}
+use Rattle.cmd_trial.specs.declared.step.Step.TheVariants.{Ask}
 use Rattle.vr_world.specs.Lying.{Lying}
 use Rattle.vr_world.specs.World.{Host}
 use Rattle.law_7_members.specs.Files.{ActBy}

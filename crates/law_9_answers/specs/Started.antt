@@ -1,11 +1,11 @@
 -- The members that a trial starts are those of `runs_keep_one_log`: the words by which it starts one ask for that very member, made anew or found again.
 use Rattle.std.specs.Prelude.{ℕ, ◌≡◌, Bool, true, false, [], ◌∷◌, Option, Some, None, codes, length, take}
-use Rattle.vr_ask.specs.Run.{client_with}
+use Rattle.cmd_client.specs.Run.{client_with}
 use Rattle.vr_base.specs.Kinds.{strict}
 use Rattle.vr_base.specs.declared.kind.Kind.{Kind}
 use Rattle.vr_base.specs.declared.table.Config.{Config}
-use Rattle.vr_trial.specs.Told.{Trial, start_words}
-use Rattle.vr_words.specs.Asked.{Node, NodeAsked, asked}
+use Rattle.cmd_trial.specs.Told.{Trial, start_words}
+use Rattle.vr_args.specs.Asked.{Node, NodeAsked, asked}
 use Rattle.law_7_members.specs.Deeds.{config_at}
 
 abbrev pub config_of : NodeAsked → Config

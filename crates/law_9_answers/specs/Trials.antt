@@ -3,11 +3,11 @@ use Rattle.std.proofs.Common.{inl, inr}
 use Rattle.std.specs.Prelude.{ℕ, List, [], ◌∷◌, ◌++◌}
 use Rattle.vr_client.specs.declared.answer.Answer.TheVariants as answer
 use Rattle.vr_base.specs.declared.status.Status.{Status}
-use Rattle.vr_trial.specs.Run.{Does, DoesAll, Ends, Fails, FailsIn, Faults, Outside, Place, TrialEnds, begins, of_client, started, stopped}
-use Rattle.vr_trial.specs.Script.{number_of, script}
-use Rattle.vr_trial.specs.Told.{Trial, operation_of}
-use Rattle.vr_trial.specs.declared.step.Step.{Step}
-use Rattle.vr_trial.specs.declared.step.Step.TheVariants.{Start, Restart, Attach, Ask, Stop}
+use Rattle.cmd_trial.specs.Run.{Does, DoesAll, Ends, Fails, FailsIn, Faults, Outside, Place, TrialEnds, begins, of_client, started, stopped}
+use Rattle.cmd_trial.specs.Script.{number_of, script}
+use Rattle.cmd_trial.specs.Told.{Trial, operation_of}
+use Rattle.cmd_trial.specs.declared.step.Step.{Step}
+use Rattle.cmd_trial.specs.declared.step.Step.TheVariants.{Start, Restart, Attach, Ask, Stop}
 use Rattle.law_9_answers.specs.Heard.{Heard, heard}
 use Rattle.law_9_answers.specs.Clients.{heard_last, lines_of}
 

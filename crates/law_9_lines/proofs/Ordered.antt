@@ -9,11 +9,11 @@ use Rattle.vr_group.specs.Lines.{AreLinesOf, happenings}
 use Rattle.vr_group.proofs.Headline.{lines_may}
 use Rattle.vr_lines.specs.Cuts.{lines_of}
 use Rattle.vr_lines.specs.declared.line.Line.{Line}
-use Rattle.vr_replay.specs.Schedule.{schedule_of}
-use Rattle.vr_replay.proofs.Few.{few_lines}
-use Rattle.vr_replay.proofs.Headline.{schedule_read}
-use Rattle.vr_soak.specs.Made.{lines_from, size_of}
-use Rattle.vr_soak.proofs.Asked.{lines_asked, lines_count, lines_fit}
+use Rattle.cmd_replay.specs.Schedule.{schedule_of}
+use Rattle.cmd_replay.proofs.Few.{few_lines}
+use Rattle.cmd_replay.proofs.Headline.{schedule_read}
+use Rattle.cmd_soak.specs.Made.{lines_from, size_of}
+use Rattle.cmd_soak.proofs.Asked.{lines_asked, lines_count, lines_fit}
 use Rattle.vr_rules.specs.Opening.{IsKind}
 use Rattle.law_9_asked.proofs.Ordered.{schedules_keep_order}
 use Rattle.law_9_lines.specs.Laws.{LinesKeepOrder, ReplaysKeepOrder, SoaksKeepOrder}

@@ -5,8 +5,8 @@ use Rattle.vr_base.specs.declared.kind.Kind.{Kind}
 use Rattle.vr_group.specs.Lines.{happenings}
 use Rattle.vr_header.specs.NoCollision.{NoCollision}
 use Rattle.vr_lines.specs.declared.line.Line.{Line}
-use Rattle.vr_replay.specs.Schedule.{Schedule, schedule_of}
-use Rattle.vr_soak.specs.Made.{lines_from, size_of}
+use Rattle.cmd_replay.specs.Schedule.{Schedule, schedule_of}
+use Rattle.cmd_soak.specs.Made.{lines_from, size_of}
 use Rattle.vr_world.specs.Lying.{hazards}
 use Rattle.vr_world.specs.World.{fresh_world, happen}
 use Rattle.law_6_one_log.specs.Laws.{KeepsOneLog}

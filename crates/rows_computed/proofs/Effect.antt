@@ -21,7 +21,7 @@ use Rattle.vr_msg.specs.declared.output.Output.TheVariants as output
 use Rattle.vr_msg.specs.declared.reply.Answered.{Answered}
 use Rattle.vr_msg.specs.declared.reply.ReplyFields.{ReplyFields}
 use Rattle.vr_msg.specs.declared.reply.ReplyKind.TheVariants as reply
-use Rattle.vr_replay.specs.Schedule.{Schedule, accepted, schedule_of}
+use Rattle.cmd_replay.specs.Schedule.{Schedule, accepted, schedule_of}
 use Rattle.vr_rules.specs.Opening.{blank}
 use Rattle.vr_rules.specs.Steps.{outputs}
 use Rattle.vr_rules.specs.Words.{value_of}

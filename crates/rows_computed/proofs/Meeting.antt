@@ -18,7 +18,7 @@ use Rattle.law_6_one_log.specs.Schedules.{IsHashed}
 use Rattle.vr_group.specs.Headline.{HaveAsked}
 use Rattle.vr_group.specs.Lines.{AreLinesOf, happenings}
 use Rattle.vr_group.proofs.Headline.{lines_keep}
-use Rattle.vr_replay.specs.Schedule.{Schedule, accepted, schedule_of}
+use Rattle.cmd_replay.specs.Schedule.{Schedule, accepted, schedule_of}
 use Rattle.rows_computed.specs.Rows as rows
 use Rattle.rows_computed.specs.Rows.{AcknowledgedMeetsAll, CarefulPathMeetsAll, DroppedMeetsAll, MeetsAll, MovedMeetsAll, OneAloneMeetsAll, PlainPathMeetsAll, TornPrepareMeetsAll}
 use Rattle.rows_computed.proofs.Denied.{acknowledged_never}

@@ -11,7 +11,7 @@ use Rattle.vr_msg.specs.declared.reply.Answered.{Answered}
 use Rattle.vr_msg.specs.declared.reply.ReplyFields.{ReplyFields}
 use Rattle.vr_msg.specs.declared.reply.ReplyKind.TheVariants as reply
 use Rattle.vr_msg.specs.declared.request.RequestFields.{RequestFields}
-use Rattle.vr_replay.specs.Schedule.{Schedule, schedule_of}
+use Rattle.cmd_replay.specs.Schedule.{Schedule, schedule_of}
 use Rattle.vr_world.specs.Lying.{Lying, hazards}
 use Rattle.vr_world.specs.World.{AsksInVersion, Happening, World, fresh_world, happen}
 use Rattle.law_6_one_log.specs.Laws.{KeepsOneLog}

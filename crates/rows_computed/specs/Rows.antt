@@ -6,7 +6,7 @@ use Rattle.vr_world.specs.World.{fresh_world, happen}
 use Rattle.law_6_one_log.specs.Laws.{KeepsOneLog}
 use Rattle.law_6_one_log.specs.Schedules.{IsHashed}
 use Rattle.vr_group.specs.Lines.{happenings}
-use Rattle.vr_replay.specs.Schedule.{Schedule, schedule_of}
+use Rattle.cmd_replay.specs.Schedule.{Schedule, schedule_of}
 
 -- ---- schedules, as they are written
 

@@ -1,4 +1,4 @@
-//! The letters of what a primary had of the log that it chose. All other lines of outputs are rows of `vr_message_rows` and `vr_schedule_rows`.
+//! The letters of what a primary had of the log that it chose. All other lines of outputs are rows of `rows_messages` and `rows_schedules`.
 use std::alloc::Global;
 use std::process::Abort;
 use std::test::Fail;

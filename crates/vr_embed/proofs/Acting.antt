@@ -11,12 +11,12 @@ use Rattle.vr_mem.specs.Seen.{copies, zero_cell}
 use Rattle.vr_msg.specs.declared.event.Event.{Event}
 use Rattle.vr_msg.specs.declared.output.Output.{Output}
 use Rattle.vr_msg.specs.declared.output.Output.TheVariants as output
-use Rattle.vr_lying.specs.Disks.{calm}
-use Rattle.vr_lying.specs.Laws.{revived}
+use Rattle.vr_host_disk.specs.Disks.{calm}
+use Rattle.vr_host_disk.specs.Laws.{revived}
 use Rattle.vr_world.specs.Lying.{Lying, hazards}
-use Rattle.vr_lying.specs.Told.{IsTold}
+use Rattle.vr_host_disk.specs.Told.{IsTold}
 use Rattle.vr_world.specs.World.{Acted, Host, fresh_host, fused, handles, starts}
-use Rattle.vr_lying.proofs.Telling.{zeros_lie}
+use Rattle.vr_host_disk.proofs.Telling.{zeros_lie}
 use Rattle.vr_rules.specs.Does.{Does}
 use Rattle.vr_rules.specs.Formatting.{format_calls}
 use Rattle.vr_disk.specs.declared.fault.Halt.{Halt}

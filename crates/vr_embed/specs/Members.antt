@@ -4,7 +4,7 @@ use Rattle.vr_base.specs.declared.kind.Kind.{Kind}
 use Rattle.vr_base.specs.declared.mode.Mode.TheVariants.{Strict}
 use Rattle.vr_disk.specs.DiskState.{Disk}
 use Rattle.vr_world.specs.Lying.{Lying}
-use Rattle.vr_lying.specs.Told.{slots}
+use Rattle.vr_host_disk.specs.Told.{slots}
 use Rattle.vr_world.specs.World.{Acted, Host}
 use Rattle.vr_msg.specs.declared.output.Output.{Output}
 use Rattle.vr_replica.specs.Running.{Running}

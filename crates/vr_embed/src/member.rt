@@ -2,7 +2,7 @@
 ghost use Rattle.std.specs.Prelude.{◌≡◌, ◌<◌, ◌∷◌, [], None, IfOk, OnOk};
 ghost use Rattle.vr_world.specs.Lying.{hazards};
 ghost use Rattle.vr_world.specs.World.{fresh_host, fused, handles, starts};
-ghost use Rattle.vr_lying.specs.Laws.{revived};
+ghost use Rattle.vr_host_disk.specs.Laws.{revived};
 ghost use Rattle.vr_msg.specs.declared.output.Output.TheVariants as output;
 ghost use Rattle.vr_embed.specs.Members.{Acts, Shows, kind};
 ghost use Rattle.vr_embed.specs.Told.{told_by};

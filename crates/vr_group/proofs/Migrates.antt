@@ -23,14 +23,14 @@ use Rattle.vr_super.specs.Copies.{SuperValue}
 use Rattle.vr_super.specs.declared.recovering.CopyVerdict.{CopyVerdict}
 use Rattle.vr_super.specs.Opens.{found_of, good_copies, opens}
 use Rattle.vr_lie.specs.Told.{version_by}
-use Rattle.vr_lying.specs.Disks.{lying_of, told_by}
-use Rattle.vr_lying.specs.Laws.{WasCut, Went, revived}
+use Rattle.vr_host_disk.specs.Disks.{lying_of, told_by}
+use Rattle.vr_host_disk.specs.Laws.{WasCut, Went, revived}
 use Rattle.vr_world.specs.Lying.{Lying, after_calls, cut_calls, hazards, in_edition, settled}
-use Rattle.vr_lying.specs.Told.{IsTold, burnt, host_on, lying_in}
+use Rattle.vr_host_disk.specs.Told.{IsTold, burnt, host_on, lying_in}
 use Rattle.vr_world.specs.World.{Acted, Host, if_first, migrated_or_halted, migrated_with, migrates, migration_halted, movable, stays}
-use Rattle.vr_lying.specs.declared.disk.HostDisk.{HostDisk}
-use Rattle.vr_lying.proofs.Runs.{runs_cut, runs_went}
-use Rattle.vr_lying.proofs.Versions.{opens_by, version_told}
+use Rattle.vr_host_disk.specs.declared.disk.HostDisk.{HostDisk}
+use Rattle.vr_host_disk.proofs.Runs.{runs_cut, runs_went}
+use Rattle.vr_host_disk.proofs.Versions.{opens_by, version_told}
 use Rattle.vr_group.specs.Hosts.{HasActed, host_by, host_of}
 use Rattle.vr_group.proofs.Steps.{opens_so}
 

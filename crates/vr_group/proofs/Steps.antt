@@ -32,15 +32,15 @@ use Rattle.vr_rules.specs.Rules.{react}
 use Rattle.vr_rules.specs.Sectors.{sectors_by}
 use Rattle.vr_rules.specs.Steps.{Step, Word}
 use Rattle.vr_world.specs.World.{Acted, Host, acts, asks, fresh_host, fresh_world, handles, in_version, starts, stays}
-use Rattle.vr_lying.specs.Told.{IsTold, burnt, host_on, lying_in, next_held}
-use Rattle.vr_lying.specs.Disks.{calm, told_by}
-use Rattle.vr_lying.specs.declared.disk.HostDisk.{HostDisk}
-use Rattle.vr_lying.specs.Laws.{Went, revived}
-use Rattle.vr_lying.proofs.Acting.{acts_go, acts_halt}
-use Rattle.vr_lying.proofs.Rules.{a_react}
-use Rattle.vr_lying.proofs.Runs.{runs_went}
-use Rattle.vr_lying.proofs.Versions.{blank_by, one_version, opens_by, version_told}
-use Rattle.vr_lying.proofs.Words.{a_opening}
+use Rattle.vr_host_disk.specs.Told.{IsTold, burnt, host_on, lying_in, next_held}
+use Rattle.vr_host_disk.specs.Disks.{calm, told_by}
+use Rattle.vr_host_disk.specs.declared.disk.HostDisk.{HostDisk}
+use Rattle.vr_host_disk.specs.Laws.{Went, revived}
+use Rattle.vr_host_disk.proofs.Acting.{acts_go, acts_halt}
+use Rattle.vr_host_disk.proofs.Rules.{a_react}
+use Rattle.vr_host_disk.proofs.Runs.{runs_went}
+use Rattle.vr_host_disk.proofs.Versions.{blank_by, one_version, opens_by, version_told}
+use Rattle.vr_host_disk.proofs.Words.{a_opening}
 use Rattle.vr_replica.specs.Running.{Running}
 use Rattle.vr_group.specs.Hosts.{HasActed, IsHost, IsHostBy, host_by, host_of}
 

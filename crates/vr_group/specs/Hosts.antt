@@ -8,9 +8,9 @@ use Rattle.vr_replica.specs.Running.{Running}
 use Rattle.vr_world.specs.Lying.{Lying}
 use Rattle.vr_world.specs.World.{Acted, Happened, Host, at_member}
 use Rattle.vr_lie.specs.Told.{version_by}
-use Rattle.vr_lying.specs.Disks.{told_by}
-use Rattle.vr_lying.specs.Told.{IsTold, host_on}
-use Rattle.vr_lying.specs.declared.disk.HostDisk.{HostDisk}
+use Rattle.vr_host_disk.specs.Disks.{told_by}
+use Rattle.vr_host_disk.specs.Told.{IsTold, host_on}
+use Rattle.vr_host_disk.specs.declared.disk.HostDisk.{HostDisk}
 
 -- on a disk for a file of a version
 abbrev pub host_by : ℕ → Option Running → Disk → Host Lying

@@ -7,7 +7,7 @@ use vr_base::Sum;
 
 /// Whether each header's parent is the name of the one before, and the first one's is `anchor`. An
 /// error is the first place where it isn't. It is for programs that get a list of headers from
-/// elsewhere; a replica walks its window in place (`vr_memory`).
+/// elsewhere; a replica walks its window in place (`vr_volatile`).
 #[tactic(auto, using(std::proofs::lemmas::Grind::common_steps, crate::proofs::ChainLaws::whole))]
 pub fn verify(anchor: &Sum, headers: &[Header]) -> Result<(), usize>
     ensures { MatchResult result (λ _. IsChain anchor.now headers.now) (BreaksAt anchor.now headers.now) }

@@ -20,7 +20,7 @@ use Rattle.vr_rules.proofs.Ruling.{by_rows}
 use Rattle.vr_rules.proofs.SavesWell.{savable_alike}
 use Rattle.vr_rules.specs.Does.{Does}
 use Rattle.vr_rules.proofs.Stepping.{does_by, does_naming, does_quiet}
-use Rattle.vr_memory.specs.Ready.{IsReady}
+use Rattle.vr_volatile.specs.Ready.{IsReady}
 use Rattle.vr_normal.specs.declared.counting.CountRule.{CountRule}
 use Rattle.vr_normal.specs.declared.counting.CountRule.TheVariants as rule
 use Rattle.vr_normal.specs.Named.{count_rule}

@@ -19,7 +19,7 @@ use Rattle.vr_rules.specs.Words.{rested}
 use Rattle.vr_rules.proofs.Ruling.{by_rows, group_of_primary, IsFor}
 use Rattle.vr_rules.specs.Does.{Does}
 use Rattle.vr_rules.proofs.Stepping.{does_by, does_naming, does_quiet, says_by, change_by}
-use Rattle.vr_memory.specs.Ready.{MayStore}
+use Rattle.vr_volatile.specs.Ready.{MayStore}
 use Rattle.vr_normal.specs.declared.storing.PrepareRule.{PrepareRule}
 use Rattle.vr_normal.specs.declared.storing.PrepareRule.TheVariants as rule
 use Rattle.vr_normal.specs.Messages.{IsPreparing}

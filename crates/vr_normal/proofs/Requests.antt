@@ -30,7 +30,7 @@ use Rattle.vr_state.specs.declared.session.SessionAnswer.TheVariants as answer
 use Rattle.vr_disk.specs.declared.fault.Halt.{Halt}
 use Rattle.vr_rules.specs.Does.{Does}
 use Rattle.vr_rules.proofs.Stepping.{does_by, does_naming, does_quiet, says_by}
-use Rattle.vr_memory.specs.Ready.{IsReady, MayStore}
+use Rattle.vr_volatile.specs.Ready.{IsReady, MayStore}
 use Rattle.vr_normal.specs.declared.requesting.RequestRule.{RequestRule}
 use Rattle.vr_normal.specs.declared.requesting.RequestRule.TheVariants as rule
 use Rattle.vr_normal.specs.Named.{request_rule}

@@ -1,8 +1,8 @@
 //! Acknowledgements are counted: prepare_oks.
 ghost use Rattle.std.specs.Prelude.{◌≡◌, true};
 ghost use Rattle.vr_base.specs.Bytes.{name_of};
-ghost use Rattle.vr_memory.specs.Ready.{IsReady};
-ghost use Rattle.vr_journal.specs.Waits.{EndsAtOnce, Waits, passes};
+ghost use Rattle.vr_volatile.specs.Ready.{IsReady};
+ghost use Rattle.vr_actions.specs.Waits.{EndsAtOnce, Waits, passes};
 ghost use Rattle.vr_rules.specs.Deciding.{first_of, prepare_ok_table};
 ghost use Rattle.vr_rules.specs.declared.rule.Rule.TheVariants.{Counted};
 ghost use Rattle.vr_rules.specs.Rules.{acknowledged, on_prepare_ok};
@@ -11,11 +11,11 @@ ghost use Rattle.vr_rules.specs.Words.{advance};
 ghost use Rattle.vr_normal.specs.Named.{count_rule};
 ghost use Rattle.vr_normal.specs.Words.{is_open};
 ghost use Rattle.vr_normal.specs.declared.counting.CountRule.TheVariants as CountRule;
-ghost use Rattle.vr_journal.specs.Acts.{Acts, MayAct};
+ghost use Rattle.vr_actions.specs.Acts.{Acts, MayAct};
 
 use std::alloc::Global;
+use vr_actions::{Halt, Replica, advance};
 use vr_disk::SectorDisk;
-use vr_journal::{Halt, Replica, advance};
 use vr_msg::{Outbox, PrepareOk};
 
 /// What a prepare_ok leads to.
@@ -29,7 +29,7 @@ pub enum CountRule {
 
 // Whether the replica leads, the message is of its view, and its op is above the commit number, at most the head, and has a known header of
 // this name.
-#[tactic(auto, using(vr_memory::proofs::Memory::window_of, vr_memory::proofs::Memory::some_member))]
+#[tactic(auto, using(vr_volatile::proofs::Memory::window_of, vr_volatile::proofs::Memory::some_member))]
 fn is_open(replica: &Replica, ack: &PrepareOk) -> bool
     requires { IsReady replica.now }
     ensures { result ≡ is_open ack.now replica.now }

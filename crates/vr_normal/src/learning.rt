@@ -1,6 +1,6 @@
 //! How far the log is committed is learned: commits.
 ghost use Rattle.std.specs.Prelude.{◌≡◌, ◌≤◌, ◌++◌, nat_lt, OnOk};
-ghost use Rattle.vr_memory.specs.Ready.{IsReady};
+ghost use Rattle.vr_volatile.specs.Ready.{IsReady};
 ghost use Rattle.vr_rules.specs.Deciding.{commit_table, first_of};
 ghost use Rattle.vr_rules.specs.Outputs.{get_view, send_to};
 ghost use Rattle.vr_rules.specs.Replica.{head, last_view};
@@ -10,11 +10,11 @@ ghost use Rattle.vr_rules.specs.Words.{learn, rested};
 ghost use Rattle.vr_normal.specs.Messages.{IsCommitting};
 ghost use Rattle.vr_normal.specs.Named.{commit_rule};
 ghost use Rattle.vr_normal.specs.Words.{asks_behind};
-ghost use Rattle.vr_journal.specs.Acts.{Acts, MayAct};
+ghost use Rattle.vr_actions.specs.Acts.{Acts, MayAct};
 
 use std::alloc::{AllocError, Global};
+use vr_actions::{Halt, Replica, learn};
 use vr_disk::SectorDisk;
-use vr_journal::{Halt, Replica, learn};
 use vr_msg::{Commit, GetView, Message, Outbox};
 
 /// What a commit leads to.
@@ -46,7 +46,7 @@ pub fn ask_view(replica: &Replica, view: u32, to: u8, out: &mut Outbox) -> Resul
 
 /// The first that holds: `Ignored` unless it is of this version and group and from its view's primary, another replica; `CommitBefore`
 /// below the view. Then `CommitLater` above the log view; else `CommitHeard`.
-#[tactic(auto, using(vr_memory::proofs::Memory::some_member), unfolding(vr_rules::specs::Deciding::first_of))]
+#[tactic(auto, using(vr_volatile::proofs::Memory::some_member), unfolding(vr_rules::specs::Deciding::first_of))]
 pub fn decide_commit(replica: &Replica, commit: &Commit) -> CommitRule
     requires { IsReady replica.now }
     ensures { first_of (commit_table commit.now replica.now) ≡ commit_rule result }
@@ -63,7 +63,7 @@ pub fn decide_commit(replica: &Replica, commit: &Commit) -> CommitRule
 }
 
 // Whether the head that the commit tells of is above the replica's.
-#[tactic(auto, using(vr_memory::proofs::Memory::window_of))]
+#[tactic(auto, using(vr_volatile::proofs::Memory::window_of))]
 fn is_behind(replica: &Replica, commit: &Commit) -> bool
     requires { IsReady replica.now }
     ensures { result ≡ nat_lt (head replica.now) commit.now.head }
@@ -93,7 +93,7 @@ fn ask_behind<D: SectorDisk>(
 // In this order: idle is 0; where the commit's head is above the replica's, a get_view of its view goes to its sender. Then its commit
 // number is learned, at most up to the head, and what is committed is applied. After an `Err` the disk has had its calls up to the stop; of
 // replica and outputs nothing is said.
-#[tactic(auto, using(vr_rules::proofs::Stepping::steps, vr_memory::proofs::Memory::readies))]
+#[tactic(auto, using(vr_rules::proofs::Stepping::steps, vr_volatile::proofs::Memory::readies))]
 fn hear<D: SectorDisk>(
     replica: &mut Replica,
     alloc: Global,

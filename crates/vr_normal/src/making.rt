@@ -2,25 +2,25 @@
 ghost use Rattle.std.specs.Prelude.{◌≡◌, ◌<◌, ◌≤◌, ◌+◌, ◌^◌, IfOk};
 ghost use Rattle.vr_base.specs.Bytes.{name_of};
 ghost use Rattle.vr_header.specs.Names.{name_by};
-ghost use Rattle.vr_memory.specs.Ready.{IsReady, MayStore};
+ghost use Rattle.vr_volatile.specs.Ready.{IsReady, MayStore};
 ghost use Rattle.vr_msg.specs.Asking.{IsRequest};
 ghost use Rattle.vr_rules.specs.Deciding.{first_of, request_table};
 ghost use Rattle.vr_rules.specs.declared.rule.Rule.TheVariants.{Made};
 ghost use Rattle.vr_rules.specs.Replica.{head, head_header, last_view, version};
 ghost use Rattle.vr_rules.specs.Rules.{make, next_entry};
 ghost use Rattle.vr_rules.specs.Steps.{by};
-ghost use Rattle.vr_journal.specs.Acts.{Acts, MaySend};
+ghost use Rattle.vr_actions.specs.Acts.{Acts, MaySend};
 
 use crate::entries::header_of;
 use std::alloc::{AllocError, Global};
+use vr_actions::{Halt, Replica, advance, write};
 use vr_base::Sum;
 use vr_disk::SectorDisk;
 use vr_header::{Entry, Header};
-use vr_journal::{Halt, Replica, advance, write};
 use vr_msg::{Outbox, Request};
 
 /// The name of the header that is known at the head; where none is, that of the group's root.
-#[tactic(auto, using(vr_memory::proofs::Memory::window_of))]
+#[tactic(auto, using(vr_volatile::proofs::Memory::window_of))]
 pub fn head_name(replica: &Replica) -> Sum
     requires { IsReady replica.now }
     ensures { result ≡ name_by name_of (head_header name_of replica.now) }
@@ -32,7 +32,7 @@ pub fn head_name(replica: &Replica) -> Sum
 }
 
 // The op after the head, at most 2^62.
-#[tactic(auto, using(vr_memory::proofs::Memory::window_of))]
+#[tactic(auto, using(vr_volatile::proofs::Memory::window_of))]
 fn next_op(replica: &Replica) -> u64
     requires ready { IsReady replica.now }
     requires room { head replica.now < 2 ^ 62 }
@@ -66,7 +66,7 @@ fn next_entry(replica: &Replica, alloc: Global, request: &Request) -> Result<Ent
 // In this order: the entry is written into its slot, and `Here`; a prepare of it goes to each other replica, ascending. Then the commit
 // number rises as long as the next op has its quorum, and what is committed is applied. After an `Err` the disk has had its calls up to the
 // stop; of replica and outputs nothing is said.
-#[tactic(auto, using(vr_rules::proofs::Stepping::steps, vr_memory::proofs::Memory::readies), unfolding(vr_rules::specs::Rules::make))]
+#[tactic(auto, using(vr_rules::proofs::Stepping::steps, vr_volatile::proofs::Memory::readies), unfolding(vr_rules::specs::Rules::make))]
 fn make<D: SectorDisk>(
     replica: &mut Replica,
     alloc: Global,

@@ -2,7 +2,7 @@
 ghost use Rattle.std.specs.Prelude.{◌≡◌, ◌≤◌, ◌-◌, ◌++◌, ◌||◌, not, nat_le, nat_lt, slice_index_or, IfOk, OnOk};
 ghost use Rattle.vr_base.specs.Bytes.{name_of};
 ghost use Rattle.vr_header.specs.declared.part.Part.TheVariants.{Nothing};
-ghost use Rattle.vr_memory.specs.Ready.{IsReady};
+ghost use Rattle.vr_volatile.specs.Ready.{IsReady};
 ghost use Rattle.vr_msg.specs.Asking.{IsKindValue, IsReplyKind, IsRequest};
 ghost use Rattle.vr_msg.specs.Normal.{last_op, pipeline};
 ghost use Rattle.vr_rules.specs.Deciding.{first_of, is_in_flight, request_table};
@@ -15,15 +15,15 @@ ghost use Rattle.vr_state.specs.Fitting.{AnswerFits};
 ghost use Rattle.vr_normal.specs.Named.{request_rule};
 ghost use Rattle.vr_normal.specs.Requests.{Answers, HasNumber, open_rows, stored_replies};
 ghost use Rattle.vr_normal.specs.Words.{any_of, is_of};
-ghost use Rattle.vr_journal.specs.Acts.{Acts, MaySend};
+ghost use Rattle.vr_actions.specs.Acts.{Acts, MaySend};
 
 use crate::making::make_next;
 use std::alloc::{AllocError, Global};
+use vr_actions::{Halt, Replica, Window};
 use vr_base::{NoMemory, Sum};
 use vr_ckpt::SessionAnswer;
 use vr_disk::SectorDisk;
 use vr_header::{Header, LAST_OP, Part};
-use vr_journal::{Halt, Replica, Window};
 use vr_msg::{Answered, Outbox, ReplyKind, Request, RequestFields};
 
 // The most entries that stand above the commit number.
@@ -78,7 +78,7 @@ fn any_of(parts: &Window<Part>, client: u64, from: usize, end: usize) -> bool
 }
 
 // Whether an op above the commit number, at most the head, has a known header of this client.
-#[tactic(auto, using(vr_memory::proofs::Memory::window_of, vr_memory::proofs::Memory::commit_fits, crate::proofs::Requests::flight_is))]
+#[tactic(auto, using(vr_volatile::proofs::Memory::window_of, vr_volatile::proofs::Memory::commit_fits, crate::proofs::Requests::flight_is))]
 fn is_in_flight(replica: &Replica, client: u64) -> bool
     requires { IsReady replica.now }
     ensures { result ≡ is_in_flight client replica.now }
@@ -97,7 +97,7 @@ fn is_late(replica: &Replica) -> bool
 }
 
 // Whether the head is at least 8 above the commit number, or at least 2^62.
-#[tactic(auto, using(vr_memory::proofs::Memory::window_of))]
+#[tactic(auto, using(vr_volatile::proofs::Memory::window_of))]
 fn is_full(replica: &Replica) -> bool
     requires { IsReady replica.now }
     ensures { result ≡ (nat_le pipeline (head replica.now - replica.now.commit) || nat_le last_op (head replica.now)) }
@@ -138,7 +138,7 @@ fn decide_open(replica: &Replica, request: &RequestFields) -> Result<RequestRule
 /// missing or applied is below the commit number. `InFlight` where an op above the commit number, up to the head, is of the client;
 /// `Answered`, with what the sessions answer, where that isn't `Fresh`. `Full` where the head is at least 8 above the commit number, or at
 /// least 2^62; else `Made`. An `Err` is want of memory.
-#[tactic(auto, using(vr_memory::proofs::Memory::some_member), unfolding(vr_rules::specs::Deciding::first_of, crate::specs::Requests::Answers))]
+#[tactic(auto, using(vr_volatile::proofs::Memory::some_member), unfolding(vr_rules::specs::Deciding::first_of, crate::specs::Requests::Answers))]
 pub fn decide_request(replica: &Replica, request: &RequestFields) -> Result<RequestRule, NoMemory>
     requires { IsReady replica.now }
     ensures rule { IfOk result (λ x. first_of (request_table request.now replica.now) ≡ request_rule x) }

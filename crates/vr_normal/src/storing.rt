@@ -1,8 +1,8 @@
 //! Entries of the primary are stored, and acknowledged: prepares.
 ghost use Rattle.std.specs.Prelude.{◌≡◌, ◌≤◌, ◌+◌, ◌&&◌, nat_lt, true};
 ghost use Rattle.vr_base.specs.Bytes.{name_of};
-ghost use Rattle.vr_memory.specs.Ready.{IsReady, MayStore};
-ghost use Rattle.vr_journal.specs.Waits.{EndsAtOnce, passes};
+ghost use Rattle.vr_volatile.specs.Ready.{IsReady, MayStore};
+ghost use Rattle.vr_actions.specs.Waits.{EndsAtOnce, passes};
 ghost use Rattle.vr_rules.specs.Deciding.{first_of, is_unknown, prepare_table};
 ghost use Rattle.vr_rules.specs.Replica.{head, last_view, window_end};
 ghost use Rattle.vr_rules.specs.declared.rule.Rule.TheVariants.{Ahead, Known, Next};
@@ -12,15 +12,15 @@ ghost use Rattle.vr_rules.specs.Words.{learn, rested};
 ghost use Rattle.vr_normal.specs.Messages.{IsPreparing};
 ghost use Rattle.vr_normal.specs.Named.{prepare_rule};
 ghost use Rattle.vr_normal.specs.Words.{is_next};
-ghost use Rattle.vr_journal.specs.Acts.{Acts, MayAct, MaySend};
+ghost use Rattle.vr_actions.specs.Acts.{Acts, MayAct, MaySend};
 
 use crate::entries::header_of;
 use crate::learning::ask_view;
 use crate::making::head_name;
 use std::alloc::Global;
+use vr_actions::{Halt, Replica, accept, learn, write};
 use vr_disk::{SLOTS, SectorDisk};
 use vr_header::Header;
-use vr_journal::{Halt, Replica, accept, learn, write};
 use vr_msg::{Outbox, Prepare};
 
 /// What a prepare leads to.
@@ -47,7 +47,7 @@ pub enum PrepareRule {
 }
 
 // Whether no header of its op is known, its op is the one after the head, and its parent is the head's name.
-#[tactic(auto, using(vr_memory::proofs::Memory::window_of, vr_memory::proofs::Memory::head_fits))]
+#[tactic(auto, using(vr_volatile::proofs::Memory::window_of, vr_volatile::proofs::Memory::head_fits))]
 fn is_next(replica: &Replica, header: &Header) -> bool
     requires { IsReady replica.now }
     ensures { result ≡ is_next header.now replica.now }
@@ -58,7 +58,7 @@ fn is_next(replica: &Replica, header: &Header) -> bool
 }
 
 // Whether no header of its op is known, and its op is above the one after the head.
-#[tactic(auto, using(vr_memory::proofs::Memory::window_of, vr_memory::proofs::Memory::head_fits))]
+#[tactic(auto, using(vr_volatile::proofs::Memory::window_of, vr_volatile::proofs::Memory::head_fits))]
 fn is_ahead(replica: &Replica, header: &Header) -> bool
     requires { IsReady replica.now }
     ensures { result ≡ (is_unknown header.now.op replica.now && nat_lt (head replica.now + 1) header.now.op) }
@@ -67,7 +67,7 @@ fn is_ahead(replica: &Replica, header: &Header) -> bool
 }
 
 // Whether the op is more than 64 above the checkpoint.
-#[tactic(auto, using(vr_memory::proofs::Memory::window_of))]
+#[tactic(auto, using(vr_volatile::proofs::Memory::window_of))]
 fn is_beyond(replica: &Replica, op: u64) -> bool
     requires { IsReady replica.now }
     ensures { result ≡ nat_lt (window_end replica.now) op }
@@ -79,7 +79,7 @@ fn is_beyond(replica: &Replica, op: u64) -> bool
 /// below the view; `PreparedLater` above the log view. By its op: `Past` up to the checkpoint; `Beyond` past the window; `Known` where the
 /// op's known header is its own, in all 128 bytes. Where no header of the op is known: `Next` for the op after the head with the head's
 /// name as parent; `Ahead` for a later op. Else `Other`.
-#[tactic(auto, using(vr_memory::proofs::Memory::some_member), unfolding(vr_rules::specs::Deciding::first_of))]
+#[tactic(auto, using(vr_volatile::proofs::Memory::some_member), unfolding(vr_rules::specs::Deciding::first_of))]
 pub fn decide_prepare(replica: &Replica, prepare: &Prepare) -> PrepareRule
     requires { IsReady replica.now }
     ensures { first_of (prepare_table name_of prepare.now replica.now) ≡ prepare_rule result }
@@ -113,7 +113,7 @@ pub fn decide_prepare(replica: &Replica, prepare: &Prepare) -> PrepareRule
 
 // In this order: idle is 0; this commit number is learned, at most up to the head; what is committed is applied. After an `Err` the disk
 // has had its calls up to the stop; of replica and outputs nothing is said.
-#[tactic(auto, using(vr_rules::proofs::Stepping::steps, vr_memory::proofs::Memory::readies))]
+#[tactic(auto, using(vr_rules::proofs::Stepping::steps, vr_volatile::proofs::Memory::readies))]
 fn hear<D: SectorDisk>(
     replica: &mut Replica,
     alloc: Global,
@@ -131,7 +131,7 @@ fn hear<D: SectorDisk>(
 // Rule 11, in this order: idle is 0; the entry is written, unless the Part of its op is `Here`; a prepare_ok of it goes to the view's
 // primary. Then the prepare's commit number is learned, at most up to the head, and what is committed is applied. After an `Err` the disk
 // has had its calls up to the stop; of replica and outputs nothing is said.
-#[tactic(auto, using(vr_rules::proofs::Stepping::steps, vr_memory::proofs::Memory::readies))]
+#[tactic(auto, using(vr_rules::proofs::Stepping::steps, vr_volatile::proofs::Memory::readies))]
 fn store_known<D: SectorDisk>(
     replica: &mut Replica,
     alloc: Global,
@@ -152,7 +152,7 @@ fn store_known<D: SectorDisk>(
 // Rule 12, in this order: idle is 0; the entry is written, and `Here`; a prepare_ok of it goes to the view's primary. Then the prepare's
 // commit number is learned, at most up to the head, and what is committed is applied. After an `Err` the disk has had its calls up to the
 // stop; of replica and outputs nothing is said.
-#[tactic(auto, using(vr_rules::proofs::Stepping::steps, vr_memory::proofs::Memory::readies))]
+#[tactic(auto, using(vr_rules::proofs::Stepping::steps, vr_volatile::proofs::Memory::readies))]
 fn store_next<D: SectorDisk>(
     replica: &mut Replica,
     alloc: Global,
@@ -172,7 +172,7 @@ fn store_next<D: SectorDisk>(
 
 // Rule 13, in this order: idle is 0; a get_view of the prepare's view goes to its sender; the commit number is learned; what is committed
 // is applied. The entry isn't written. After an `Err` the disk has had its calls up to the stop; of replica and outputs nothing is said.
-#[tactic(auto, using(vr_rules::proofs::Stepping::steps, vr_memory::proofs::Memory::readies))]
+#[tactic(auto, using(vr_rules::proofs::Stepping::steps, vr_volatile::proofs::Memory::readies))]
 fn ask_ahead<D: SectorDisk>(
     replica: &mut Replica,
     alloc: Global,
@@ -195,7 +195,7 @@ fn ask_ahead<D: SectorDisk>(
 /// a place (`Other`), its commit number is learned, and what is committed applied. Where it is ignored, before the view or `Other`
 /// (`passes`), it answers `Ok` and leaves the very same disk. After an `Err` the disk has had its calls up to the stop; of replica and
 /// outputs nothing is said.
-#[tactic(auto, using(crate::proofs::Prepares::rules, crate::proofs::Prepares::may_store, crate::proofs::Prepares::view_fits, vr_memory::proofs::Memory::readies, vr_rules::proofs::Stepping::wants))]
+#[tactic(auto, using(crate::proofs::Prepares::rules, crate::proofs::Prepares::may_store, crate::proofs::Prepares::view_fits, vr_volatile::proofs::Memory::readies, vr_rules::proofs::Stepping::wants))]
 pub fn handle_prepare<D: SectorDisk>(
     replica: &mut Replica,
     alloc: Global,

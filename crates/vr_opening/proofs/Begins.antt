@@ -19,7 +19,7 @@ use Rattle.vr_rules.proofs.SavesWell.{savable_alike}
 use Rattle.vr_rules.proofs.Keeping.{sound_alike}
 use Rattle.vr_disk.specs.declared.fault.Halt.{Halt}
 use Rattle.vr_rules.specs.Does.{Does}
-use Rattle.vr_memory.specs.Ready.{IsReady, MayLoad}
+use Rattle.vr_volatile.specs.Ready.{IsReady, MayLoad}
 use Rattle.vr_opening.specs.Finding.{IsOpeningOld}
 use Rattle.vr_rules.proofs.Stepping.{does_by, does_quiet, change_by_then, says_by}
 

@@ -23,7 +23,7 @@ use Rattle.vr_rules.proofs.SavesFound.{clouded_known, found_topped, savable_foun
 use Rattle.vr_rules.proofs.SavesParts.{Topped, topped_forgetting}
 use Rattle.vr_disk.specs.declared.fault.Halt.{Halt}
 use Rattle.vr_rules.specs.Does.{Does}
-use Rattle.vr_memory.specs.Ready.{IsReady, HasWindow, MayLoad}
+use Rattle.vr_volatile.specs.Ready.{IsReady, HasWindow, MayLoad}
 use Rattle.vr_opening.specs.Finding.{IsOpening, cloud_by, cloud_to, window_end, window_of}
 use Rattle.vr_rules.proofs.Versions.{clouded_stays, forgetting_stays}
 use Rattle.vr_rules.proofs.Stepping.{does_then, does_stopped, change_by_then, change_by}

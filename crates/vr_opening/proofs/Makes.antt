@@ -17,7 +17,7 @@ use Rattle.vr_rules.proofs.Slots.{value_is}
 use Rattle.vr_rules.proofs.Openings.{partly_blank, opened_forgetting}
 use Rattle.vr_rules.proofs.SavesFound.{found_topped, savable_found}
 use Rattle.vr_opening.proofs.First.{first_good}
-use Rattle.vr_memory.specs.Ready.{IsReady}
+use Rattle.vr_volatile.specs.Ready.{IsReady}
 use Rattle.vr_opening.specs.declared.new_member.FreshFault.TheVariants.{Occupied, DiskFault, NoMemory}
 use Rattle.vr_opening.specs.Making.{Agrees, Formats, Made}
 

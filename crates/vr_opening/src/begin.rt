@@ -7,20 +7,20 @@ ghost use Rattle.vr_rules.specs.Words.{apply, load, save};
 ghost use Rattle.vr_rules.specs.Steps.{◌⨾◌};
 ghost use Rattle.vr_rules.specs.Does.{Does};
 ghost use Rattle.vr_disk.specs.Counts.{Caused};
-ghost use Rattle.vr_memory.specs.Ready.{IsReady, MayLoad};
+ghost use Rattle.vr_volatile.specs.Ready.{IsReady, MayLoad};
 ghost use Rattle.vr_opening.specs.Finding.{IsOpeningOld};
-ghost use Rattle.vr_journal.specs.Acts.{Acts};
+ghost use Rattle.vr_actions.specs.Acts.{Acts};
 
 use crate::opening::recover_parts;
 use std::alloc::{AllocError, Global};
+use vr_actions::{Halt, LAST_VIEW, Replica, apply, load, save};
 use vr_disk::SectorDisk;
-use vr_journal::{Halt, LAST_VIEW, Replica, apply, load, save};
 use vr_msg::Outbox;
 
 // Saves what the replica now is: the old value is mended on the disk, the new one written, with the next sequence number, and kept as its saved one.
 // Nothing is put out. After `Ok` it is ready, with nothing applied above its checkpoint, and its sequence number is one more at most. After an `Err`
 // the disk got these calls up to the one that failed, or a front of them; of the replica nothing is said.
-#[tactic(auto, using(crate::proofs::Begins::opened_saved, vr_journal::proofs::Loads::ready_opened))]
+#[tactic(auto, using(crate::proofs::Begins::opened_saved, vr_actions::proofs::Loads::ready_opened))]
 fn save_opened<D: SectorDisk>(
     replica: &mut Replica,
     alloc: Global,
@@ -103,7 +103,7 @@ fn announce<D: SectorDisk>(
 // In this order: the checkpoint, where there is one, is loaded; committed entries are applied and put out, with a checkpoint where one is due. Of a
 // view that isn't started the others are told at last. While blocks of the checkpoint can't be read, they count as missing, and nothing is applied.
 // After `Ok` it is ready.
-#[tactic(auto, using(vr_rules::proofs::Stepping::steps, vr_journal::proofs::Loads::ready_opened))]
+#[tactic(auto, using(vr_rules::proofs::Stepping::steps, vr_actions::proofs::Loads::ready_opened))]
 fn load_on<D: SectorDisk>(
     replica: &mut Replica,
     alloc: Global,
@@ -121,7 +121,7 @@ fn load_on<D: SectorDisk>(
 
 // In this order: a replica that leads goes to the next view and saves that; the start line is put out. Then its checkpoint is loaded, committed
 // entries are applied, and of a view that isn't started the others are told. After `Ok` it is ready.
-#[tactic(auto, using(vr_rules::proofs::Stepping::steps, vr_journal::proofs::Loads::ready_opened))]
+#[tactic(auto, using(vr_rules::proofs::Stepping::steps, vr_actions::proofs::Loads::ready_opened))]
 fn go_on<D: SectorDisk>(
     replica: &mut Replica,
     alloc: Global,
@@ -140,7 +140,7 @@ fn go_on<D: SectorDisk>(
 // Where sequence numbers are at their end, above 2^64 - 256, the start line is put out, and nothing is written or sent. Else a replica that leads
 // goes to the next view and saves that; the start line comes next. Then its checkpoint is loaded, committed entries are applied, and of a view that
 // isn't started the others are told. After `Ok` it is ready.
-#[tactic(auto, using(crate::proofs::Begins::resumed, crate::proofs::Begins::spent, crate::proofs::Begins::unspent_room, vr_journal::proofs::Loads::ready_opened, vr_rules::proofs::Stepping::wants))]
+#[tactic(auto, using(crate::proofs::Begins::resumed, crate::proofs::Begins::spent, crate::proofs::Begins::unspent_room, vr_actions::proofs::Loads::ready_opened, vr_rules::proofs::Stepping::wants))]
 fn resume<D: SectorDisk>(
     replica: &mut Replica,
     alloc: Global,

@@ -10,9 +10,9 @@ ghost use Rattle.vr_opening.specs.declared.reopen.Refusal.TheVariants as Refusal
 
 use crate::reopen::{Refusal, config_of, find_value, is_same, refusal_of};
 use std::alloc::Global;
+use vr_actions::Halt;
 use vr_base::{Config, NoMemory, Seq, Version};
 use vr_disk::{DiskFault, SectorDisk};
-use vr_journal::Halt;
 use vr_rings::move_slots;
 use vr_super::{Fields, Super};
 

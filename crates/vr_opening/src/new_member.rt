@@ -4,20 +4,20 @@ ghost use Rattle.vr_base.specs.Groups.{is_size};
 ghost use Rattle.vr_base.specs.Causes.{HasCause};
 ghost use Rattle.vr_disk.specs.Counts.{CountsFault};
 ghost use Rattle.vr_disk.specs.DiskState.{Runs};
-ghost use Rattle.vr_memory.specs.Ready.{IsReady};
+ghost use Rattle.vr_volatile.specs.Ready.{IsReady};
 ghost use Rattle.vr_rules.specs.Formatting.{format_calls};
 ghost use Rattle.vr_rules.specs.Opening.{fresh};
 ghost use Rattle.vr_super.specs.Opens.{file_kind, good_copies, opened};
 ghost use Rattle.vr_opening.specs.Making.{Made};
 ghost use Rattle.vr_opening.specs.declared.new_member.FreshFault.TheVariants as FreshFault;
-ghost use Rattle.vr_journal.specs.Acts.{Untouched};
+ghost use Rattle.vr_actions.specs.Acts.{Untouched};
 
 use crate::formatting::format;
 use crate::new_value::first_value;
 use std::alloc::Global;
+use vr_actions::Replica;
 use vr_base::{Config, Kind, NoMemory};
 use vr_disk::{DiskFault, SectorDisk};
-use vr_journal::Replica;
 use vr_super::opens;
 
 /// Why a disk gives no new member.

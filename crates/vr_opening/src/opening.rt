@@ -6,14 +6,14 @@ ghost use Rattle.vr_header.specs.declared.part.Part.TheVariants.{Nothing};
 ghost use Rattle.vr_rules.specs.Steps.{each};
 ghost use Rattle.vr_rules.specs.Does.{Does};
 ghost use Rattle.vr_disk.specs.Counts.{Caused};
-ghost use Rattle.vr_memory.specs.Ready.{HasWindow, MayLoad};
+ghost use Rattle.vr_volatile.specs.Ready.{HasWindow, MayLoad};
 ghost use Rattle.vr_opening.specs.Finding.{IsOpening, IsOpeningOld, recover_listed, DoesAt, cloud_by, window_end, window_of};
 
 use crate::finding::{is_listed, recover_op};
 use std::alloc::Global;
+use vr_actions::{Halt, Replica, find_entry};
 use vr_disk::{Buffer, SLOTS, SectorDisk};
 use vr_header::{Entry, Header, Part};
-use vr_journal::{Halt, Replica, find_entry};
 use vr_msg::Outbox;
 
 // The Part of an op of the checkpoint with this header: `Here` where its entry was found, and else `Lost`.

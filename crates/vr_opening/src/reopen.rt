@@ -3,7 +3,7 @@ ghost use Rattle.std.specs.Prelude.{◌≡◌, ◌≢◌, true, false, IfOk, IfE
 ghost use Rattle.vr_disk.specs.Counts.{CountsFault, Caused};
 ghost use Rattle.vr_opening.specs.declared.reopen.NoValue.TheVariants as NoValue;
 ghost use Rattle.vr_opening.specs.declared.reopen.Refusal.TheVariants as Refusal;
-ghost use Rattle.vr_memory.specs.Ready.{IsReady};
+ghost use Rattle.vr_volatile.specs.Ready.{IsReady};
 ghost use Rattle.vr_opening.specs.Finding.{IsOpeningOld};
 ghost use Rattle.vr_rules.specs.Opening.{blank};
 ghost use Rattle.vr_opening.specs.Recovering.{after_mend, DoesTo, config_of, FindsValue, not_found, refusal_of, Recovered, RecoveredAny};
@@ -13,9 +13,9 @@ ghost use Rattle.vr_super.specs.Recovers.{IsFound};
 use crate::begin::open_mended;
 use crate::wanted::{is_left, is_other};
 use std::alloc::Global;
+use vr_actions::{Halt, Replica};
 use vr_base::{Config, Version};
 use vr_disk::SectorDisk;
-use vr_journal::{Halt, Replica};
 use vr_msg::Outbox;
 use vr_super::{CopyVerdict, FindFault, FoundValue, Super, find, mend_found};
 

@@ -14,7 +14,7 @@ use std::time::{Clock, Duration};
 use std::{io, thread};
 use vr_base::{Sum, checksum};
 use vr_disk::{DiskFailed, Memo, Room, SECTOR_SIZE, SECTORS, Sector, SectorDisk};
-use vr_policy::Again;
+use vr_io_policy::Again;
 
 /// The bytes of the file.
 const FILE_SIZE: u64 = SECTORS as u64 * SECTOR_SIZE as u64;

@@ -1,4 +1,4 @@
-//! The streams at their ports: which of them may have something. Which gives its place up to another one `vr_policy` decides.
+//! The streams at their ports: which of them may have something. Which gives its place up to another one `vr_io_policy` decides.
 ghost use Rattle.std.specs.Prelude.{◌≡◌, ◌≤◌, ◌+◌, ℕ, IfOk, IfSome, length, vec_len};
 ghost use Rattle.vr_edge.specs.Streaming.{IsPolled, IsPort};
 
@@ -10,7 +10,7 @@ use std::io;
 use std::io::{ErrorKind, Read, Write};
 use std::net::{IpAddr, SocketAddr};
 use vr_edge::{Polled, STREAM_ROOM};
-use vr_policy::{Places, number};
+use vr_io_policy::{Places, number};
 
 /// How many streams are taken in at once: no more than are read until the next ones are.
 const TAKEN: usize = 4;

@@ -19,7 +19,7 @@ use std::io::ErrorKind;
 use std::net::{Net, SocketAddr};
 use std::time::{Clock, Duration};
 use vr_edge::{Polled, STREAM_ROOM, StreamFailed, Streams};
-use vr_policy::{PLACES, Places, descriptors_wanted};
+use vr_io_policy::{PLACES, Places, descriptors_wanted};
 
 /// How long a poll waits where nothing is there. The system may round it up to one of its own ticks, and one more.
 const WAIT_MILLIS: u64 = 4;
@@ -33,7 +33,7 @@ pub const PREFIX: &str = "tcp:";
 /// Streams over TCP. They tell nothing. A poll waits at most ten milliseconds. The stream to a peer is begun at an attach with an address
 /// of one's own, and at each write to its port while it doesn't stand, but at most once a second as long as no stream comes from the peer's
 /// machine; what is written before it stands is lost. One of which bytes aren't acknowledged for two seconds ends. Where 64 others are
-/// there and one more comes, it takes the place that `vr_policy` gives it, or none. No stream is read for ever while others wait. An
+/// there and one more comes, it takes the place that `vr_io_policy` gives it, or none. No stream is read for ever while others wait. An
 /// attach with an address of one's own fails where the descriptors for all of them can't be had.
 pub struct TcpStreams<R> {
     alloc: Global,

@@ -15,7 +15,7 @@ use Rattle.vr_super.specs.Calls.{mend_calls, write_calls}
 use Rattle.vr_ckpt.specs.Saves.{blocks_calls, save_calls, written}
 use Rattle.vr_rings.specs.Slots.{whole_in}
 use Rattle.vr_msg.specs.declared.output.Output.{Output}
-use Rattle.vr_memory.specs.Ready.{MayStore}
+use Rattle.vr_volatile.specs.Ready.{MayStore}
 use Rattle.vr_rules.specs.Deciding.{first_of}
 use Rattle.vr_rules.specs.declared.rule.Rule.TheVariants.{EntryTaken, Ignored}
 use Rattle.vr_rules.specs.Replica.{Replica, part_at, version}

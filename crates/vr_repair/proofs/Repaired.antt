@@ -11,7 +11,7 @@ use Rattle.vr_ckpt.specs.declared.name.Name.{Name}
 use Rattle.vr_ckpt.proofs.Puts.{name_fits, put_law}
 use Rattle.vr_header.specs.declared.part.Part.TheVariants.{Here}
 use Rattle.vr_header.specs.Made.{Whole}
-use Rattle.vr_memory.specs.Ready.{IsReady, MayStore}
+use Rattle.vr_volatile.specs.Ready.{IsReady, MayStore}
 use Rattle.vr_rings.specs.Calls.{again_calls, new_calls}
 use Rattle.vr_rings.specs.Slots.{IsWhole, Takes, slot_of, whole_in}
 use Rattle.vr_rings.proofs.Leaving.{again_leaves, new_leaves}
@@ -19,7 +19,7 @@ use Rattle.vr_rules.specs.Replica.{Replica, head, part_at, version, with_part}
 use Rattle.vr_rules.specs.Sectors.{block_in}
 use Rattle.vr_rules.specs.Steps.{◌⨾◌, after_all, change, does}
 use Rattle.vr_rules.specs.Words.{may_be_stored, stored, write}
-use Rattle.vr_memory.proofs.Memory.{entry_taken}
+use Rattle.vr_volatile.proofs.Memory.{entry_taken}
 use Rattle.vr_rules.proofs.Heads.{Spans, forgetting_at, head_within, with_part_at, with_part_spans}
 use Rattle.vr_rules.proofs.Keeping.{spans_of}
 use Rattle.vr_repair.specs.Laws.{BlocksAreRepaired, EntriesAreRepaired}

@@ -9,7 +9,7 @@ use Rattle.vr_disk.specs.DiskState.{Disk, Face}
 use Rattle.vr_ckpt.specs.Blocks.{named}
 use Rattle.vr_ckpt.specs.declared.name.Name.{Name}
 use Rattle.vr_header.specs.Made.{Whole}
-use Rattle.vr_memory.specs.Ready.{IsReady, MayLoad, MayStore}
+use Rattle.vr_volatile.specs.Ready.{IsReady, MayLoad, MayStore}
 use Rattle.vr_msg.specs.declared.frame.GetBlock.{GetBlock}
 use Rattle.vr_msg.specs.declared.frame.GetPrepare.{GetPrepare}
 use Rattle.vr_msg.specs.declared.frame.GiveBlock.{GiveBlock}
@@ -17,7 +17,7 @@ use Rattle.vr_msg.specs.declared.frame.GivePrepare.{GivePrepare}
 use Rattle.vr_msg.specs.declared.output.Output.{Output}
 use Rattle.vr_repair.specs.declared.deciding.Repair.{Repair}
 use Rattle.vr_repair.specs.declared.deciding.Repair.TheVariants as repair
-use Rattle.vr_journal.specs.Reads.{Reads}
+use Rattle.vr_actions.specs.Reads.{Reads}
 use Rattle.vr_repair.specs.Repairs.{found_at, gives, is_block, rule_of}
 use Rattle.vr_rules.specs.Deciding.{first_of, get_block_table, get_prepare_table, give_block_table, give_prepare_table, is_known, is_wanted}
 use Rattle.vr_rules.specs.declared.rule.Rule.TheVariants.{Ignored, BlockMended, BlockTaken}

@@ -27,10 +27,10 @@ use Rattle.vr_ckpt.specs.Grid.{block_reading, named_at}
 use Rattle.vr_ckpt.specs.declared.name.Name.{Name}
 use Rattle.vr_rules.proofs.Keeping.{sound_alike}
 use Rattle.vr_rules.proofs.SavesWell.{savable_alike}
-use Rattle.vr_journal.specs.Effects.{rewrites}
+use Rattle.vr_actions.specs.Effects.{rewrites}
 use Rattle.vr_super.specs.Calls.{mend_calls}
 use Rattle.vr_super.specs.Copies.{SuperValue}
-use Rattle.vr_memory.specs.Ready.{IsReady}
+use Rattle.vr_volatile.specs.Ready.{IsReady}
 use Rattle.vr_repair.specs.Visits.{mends, found_at, good_or_mended, reads_as, stored_as}
 use Rattle.vr_repair.specs.declared.found.Visit.{Visit}
 use Rattle.vr_repair.specs.declared.found.Visit.TheVariants as seen

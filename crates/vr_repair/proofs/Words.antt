@@ -6,10 +6,10 @@ use Rattle.vr_disk.specs.DiskState.{Disk, Face}
 use Rattle.vr_ckpt.specs.declared.name.Name.{Name}
 use Rattle.vr_header.specs.declared.header.Header.{Header}
 use Rattle.vr_header.specs.Made.{Whole}
-use Rattle.vr_journal.specs.Effects.{puts}
-use Rattle.vr_memory.specs.Ready.{IsReady, MayLoad}
-use Rattle.vr_memory.proofs.Memory.{window_of}
-use Rattle.vr_memory.proofs.Repairs.{ready_dropped}
+use Rattle.vr_actions.specs.Effects.{puts}
+use Rattle.vr_volatile.specs.Ready.{IsReady, MayLoad}
+use Rattle.vr_volatile.proofs.Memory.{window_of}
+use Rattle.vr_volatile.proofs.Repairs.{ready_dropped}
 use Rattle.vr_msg.specs.declared.output.Output.{Output}
 use Rattle.vr_repair.specs.Repairs.{loads_whole}
 use Rattle.vr_rules.specs.Outputs.{get_block, get_prepare, prepare, prepare_ok, send_to_all, to_primary}

@@ -10,7 +10,7 @@ use Rattle.vr_ckpt.specs.Blocks.{named}
 use Rattle.vr_ckpt.specs.declared.name.Name.{Name}
 use Rattle.vr_header.specs.declared.part.Part.TheVariants.{Here}
 use Rattle.vr_header.specs.Made.{Whole}
-use Rattle.vr_memory.specs.Ready.{IsReady, MayStore}
+use Rattle.vr_volatile.specs.Ready.{IsReady, MayStore}
 use Rattle.vr_rings.specs.Slots.{IsWhole}
 use Rattle.vr_rules.specs.Replica.{Replica, part_at, version}
 use Rattle.vr_rules.specs.Rules.{on_give_block, on_give_prepare, without}

@@ -1,22 +1,22 @@
 //! Repair of blocks.
 ghost use Rattle.std.specs.Prelude.{◌≡◌, Some, find};
-ghost use Rattle.vr_memory.specs.Ready.{IsReady};
+ghost use Rattle.vr_volatile.specs.Ready.{IsReady};
 ghost use Rattle.vr_repair.specs.Repairs.{is_block};
 ghost use Rattle.vr_rules.specs.Deciding.{is_wanted};
 ghost use Rattle.vr_rules.specs.Rules.{asked_block, block_at, give_read, mend_found, on_get_block, on_give_block, put_found};
 ghost use Rattle.vr_rules.specs.Steps.{reading};
 ghost use Rattle.vr_disk.specs.Counts.{Caused};
 ghost use Rattle.vr_rules.specs.Does.{Does};
-ghost use Rattle.vr_journal.specs.Acts.{Acts, MayAct};
+ghost use Rattle.vr_actions.specs.Acts.{Acts, MayAct};
 
 use crate::deciding::{Repair, decide_get_block};
 use crate::finding::find_block;
 use crate::missing::put_block;
 use crate::wanting::decide_give_block;
 use std::alloc::Global;
+use vr_actions::{Halt, Replica, apply};
 use vr_ckpt::Name;
 use vr_disk::SectorDisk;
-use vr_journal::{Halt, Replica, apply};
 use vr_msg::{GetBlock, GiveBlock, Outbox};
 
 // The name of the block that is asked for: its address and its sum.
@@ -91,7 +91,7 @@ fn take_block<D: SectorDisk>(
 // The name is the first worn one whose block the bytes are. They are written at its address, and then no block of that address is worn.
 // Nothing else of the replica changes, and nothing is put out. After an `Err` the disk has had its calls up to the stop; of replica and
 // outputs nothing is said.
-#[tactic(auto, using(crate::proofs::Words::mended_then, crate::proofs::Words::mended_stopped, crate::proofs::Rules::is_put, vr_memory::proofs::Repairs::ready_unworn))]
+#[tactic(auto, using(crate::proofs::Words::mended_then, crate::proofs::Words::mended_stopped, crate::proofs::Rules::is_put, vr_volatile::proofs::Repairs::ready_unworn))]
 fn mend_block<D: SectorDisk>(
     replica: &mut Replica,
     disk: &mut D,
@@ -103,7 +103,7 @@ fn mend_block<D: SectorDisk>(
     requires found { find (is_wanted is_block give.now) replica.old.worn ≡ Some name }
     ensures { Acts D.SectorDisk (mend_found give.now.block (Some name)) replica.old replica.new disk.old disk.new _out.old _out.new result }
 {
-    vr_journal::put_block(replica, disk, &name, give.block.as_slice())?;
+    vr_actions::put_block(replica, disk, &name, give.block.as_slice())?;
     replica.drop_worn(&name);
     Ok(())
 }

@@ -1,15 +1,15 @@
 //! Which rule a message of repair leads to.
 ghost use Rattle.std.specs.Prelude.{◌≡◌, Bool, if◌then◌else◌};
 ghost use Rattle.vr_base.specs.Bytes.{name_of};
-ghost use Rattle.vr_memory.specs.Ready.{IsReady, MayStore};
+ghost use Rattle.vr_volatile.specs.Ready.{IsReady, MayStore};
 ghost use Rattle.vr_repair.specs.Repairs.{rule_of};
 ghost use Rattle.vr_rules.specs.Deciding.{first_of, get_block_table, get_prepare_table, give_prepare_table};
 ghost use Rattle.vr_rules.specs.declared.rule.Rule.TheVariants.{Ignored};
 ghost use Rattle.vr_rules.specs.Replica.{is_absent};
 
+use vr_actions::{Replica, is_here};
 use vr_ckpt::Name;
 use vr_header::Part;
-use vr_journal::{Replica, is_here};
 use vr_msg::{GetBlock, GetPrepare, GivePrepare};
 
 /// What a message of repair leads to, by the name of its rule.

@@ -1,17 +1,17 @@
 //! Repair of entries.
-ghost use Rattle.vr_memory.specs.Ready.{IsReady, MayStore};
+ghost use Rattle.vr_volatile.specs.Ready.{IsReady, MayStore};
 ghost use Rattle.vr_repair.specs.Repairs.{gives};
 ghost use Rattle.vr_rules.specs.Rules.{on_get_prepare, on_give_prepare};
 ghost use Rattle.vr_rules.specs.Steps.{◌⨾◌};
 ghost use Rattle.vr_rules.specs.Words.{apply, resend, with_entry_at, write};
-ghost use Rattle.vr_journal.specs.Acts.{Acts, MaySend};
+ghost use Rattle.vr_actions.specs.Acts.{Acts, MaySend};
 
 use crate::deciding::{Repair, decide_get_prepare, decide_give_prepare};
 use crate::retelling::resend;
 use std::alloc::Global;
+use vr_actions::{Halt, Replica, apply, read_entry, write};
 use vr_disk::SectorDisk;
 use vr_header::Entry;
-use vr_journal::{Halt, Replica, apply, read_entry, write};
 use vr_msg::{GetPrepare, GivePrepare, Outbox};
 
 // Where the asked op is `Here` and its entry reads, one give_prepare of it goes to the sender. Where it is `Here` and doesn't read, its

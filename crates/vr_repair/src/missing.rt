@@ -3,23 +3,23 @@ ghost use Rattle.std.specs.Prelude.{◌≡◌, ◌≤◌, None, [], is_some, tru
 ghost use Rattle.vr_base.specs.Bytes.{name_of};
 ghost use Rattle.vr_ckpt.specs.Blocks.{named};
 ghost use Rattle.vr_header.specs.Made.{IsEntryHeader};
-ghost use Rattle.vr_memory.specs.Ready.{IsReady, MayLoad};
+ghost use Rattle.vr_volatile.specs.Ready.{IsReady, MayLoad};
 ghost use Rattle.vr_repair.specs.Repairs.{loads_whole};
 ghost use Rattle.vr_rules.specs.Outputs.{get_block, get_prepare};
 ghost use Rattle.vr_rules.specs.Rules.{put_block};
 ghost use Rattle.vr_rules.specs.Words.{ask, ask_for, ask_peer, least_absent};
-ghost use Rattle.vr_journal.specs.Acts.{Acts, Keeps};
+ghost use Rattle.vr_actions.specs.Acts.{Acts, Keeps};
 
 use std::alloc::Global;
+use vr_actions::{Halt, Replica, load};
 use vr_ckpt::Name;
 use vr_disk::SectorDisk;
 use vr_header::Header;
-use vr_journal::{Halt, Replica, load};
 use vr_msg::Outbox;
 
 // One get_block of this name goes to the peer whose turn it is, (index + 1 + turn) modulo n. Then the turn moves on by one, modulo n - 1;
 // nothing else of the replica changes. The disk is left as it is; after an `Err` nothing is said of replica and outputs.
-#[tactic(auto, using(vr_rules::proofs::Stepping::steps, vr_memory::proofs::Repairs::ready_turned), unfolding(vr_rules::specs::Words::ask_peer))]
+#[tactic(auto, using(vr_rules::proofs::Stepping::steps, vr_volatile::proofs::Repairs::ready_turned), unfolding(vr_rules::specs::Words::ask_peer))]
 fn ask_block<D: SectorDisk>(
     replica: &mut Replica,
     _disk: &mut D,
@@ -37,7 +37,7 @@ fn ask_block<D: SectorDisk>(
 
 // One get_prepare of this header's op and name goes to the peer whose turn it is, (index + 1 + turn) modulo n. Then the turn moves on by
 // one, modulo n - 1; nothing else of the replica changes. The disk is left as it is; after an `Err` nothing is said of replica and outputs.
-#[tactic(auto, using(vr_rules::proofs::Stepping::steps, vr_memory::proofs::Repairs::ready_turned), unfolding(vr_rules::specs::Words::ask_peer))]
+#[tactic(auto, using(vr_rules::proofs::Stepping::steps, vr_volatile::proofs::Repairs::ready_turned), unfolding(vr_rules::specs::Words::ask_peer))]
 fn ask_entry<D: SectorDisk>(
     replica: &mut Replica,
     _disk: &mut D,
@@ -75,7 +75,7 @@ fn ask_worn<D: SectorDisk>(
 // A get_prepare of the least op above applied that is `Lost` or `Wanted`, or where there is none of the least such op above the checkpoint.
 // Where there is none either, a get_block of the first worn block. It goes to the peer whose turn it is, and the turn moves on; where
 // nothing is to be had, nothing is done. The disk is left as it is; after an `Err` nothing is said of replica and outputs.
-#[tactic(auto, using(crate::proofs::Words::asked_entry, crate::proofs::Words::asked_none, crate::proofs::Words::checkpoint_fits, vr_memory::proofs::Memory::next_fits, vr_memory::proofs::Repairs::ready_absent))]
+#[tactic(auto, using(crate::proofs::Words::asked_entry, crate::proofs::Words::asked_none, crate::proofs::Words::checkpoint_fits, vr_volatile::proofs::Memory::next_fits, vr_volatile::proofs::Repairs::ready_absent))]
 fn ask_absent<D: SectorDisk>(
     replica: &mut Replica,
     disk: &mut D,
@@ -95,7 +95,7 @@ fn ask_absent<D: SectorDisk>(
 /// else the first worn block. The get_block or get_prepare goes to the peer whose turn it is, (index + 1 + turn) modulo n, and the turn
 /// moves on, modulo n - 1. In a group of one, and where there is nothing to ask for, nothing is done. The disk is left as it is; after an
 /// `Err` nothing is said of replica and outputs.
-#[tactic(auto, using(crate::proofs::Words::asked_block, crate::proofs::Words::asked_absent, crate::proofs::Words::none_asked, vr_memory::proofs::Repairs::ready_size))]
+#[tactic(auto, using(crate::proofs::Words::asked_block, crate::proofs::Words::asked_absent, crate::proofs::Words::none_asked, vr_volatile::proofs::Repairs::ready_size))]
 pub fn ask<D: SectorDisk>(replica: &mut Replica, disk: &mut D, out: &mut Outbox) -> Result<(), Halt>
     requires ready { IsReady replica.old }
     ensures { Acts D.SectorDisk ask replica.old replica.new disk.old disk.new out.old out.new result }
@@ -148,7 +148,7 @@ pub fn put_block<D: SectorDisk>(
     ensures keeps { Keeps replica.old replica.new result }
     ensures acts { Acts D.SectorDisk (put_block name.now block.now) replica.old replica.new disk.old disk.new out.old out.new result }
 {
-    vr_journal::put_block(replica, disk, name, block)?;
+    vr_actions::put_block(replica, disk, name, block)?;
     replica.drop_missing(name);
     load_whole(replica, alloc, disk, out)
 }

@@ -4,13 +4,13 @@ ghost use Rattle.vr_base.specs.Bytes.{name_of};
 ghost use Rattle.vr_rules.specs.Outputs.{prepare, prepare_ok, send_to_all, to_primary};
 ghost use Rattle.vr_rules.specs.Replica.{is_primary, is_started, last_view, version};
 ghost use Rattle.vr_rules.specs.Words.{resend};
-ghost use Rattle.vr_memory.specs.Ready.{IsReady};
-ghost use Rattle.vr_journal.specs.Acts.{Acts};
+ghost use Rattle.vr_volatile.specs.Ready.{IsReady};
+ghost use Rattle.vr_actions.specs.Acts.{Acts};
 
 use std::alloc::{AllocError, Global};
+use vr_actions::{Halt, Replica};
 use vr_disk::SectorDisk;
 use vr_header::Entry;
-use vr_journal::{Halt, Replica};
 use vr_msg::Outbox;
 
 // Whether the view is started, and the entry's op is above the commit number.
@@ -22,7 +22,7 @@ fn is_open(replica: &Replica, entry: &Entry) -> bool
 
 // The view's primary sends a prepare of the entry to each other replica, ascending; another replica sends one prepare_ok of it to the
 // primary. After an `Err`, want of memory, nothing is said of outputs.
-#[tactic(auto, using(vr_memory::proofs::Memory::some_member))]
+#[tactic(auto, using(vr_volatile::proofs::Memory::some_member))]
 fn tell(replica: &Replica, alloc: Global, entry: &Entry, out: &mut Outbox) -> Result<(), AllocError>
     requires ready { IsReady replica.now }
     requires view { replica.now.view ≤ last_view }

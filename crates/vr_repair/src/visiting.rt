@@ -2,7 +2,7 @@
 ghost use Rattle.std.specs.Prelude.{◌≡◌, ◌%◌, IfErr, IfOk, IfSome, Some, is_ok};
 ghost use Rattle.vr_base.specs.Causes.{HasCause};
 ghost use Rattle.vr_header.specs.declared.part.Part.TheVariants.{Here};
-ghost use Rattle.vr_memory.specs.Ready.{IsReady};
+ghost use Rattle.vr_volatile.specs.Ready.{IsReady};
 ghost use Rattle.vr_repair.specs.Visits.{found_at, good_or_mended, mends, reads_as, stored_as};
 ghost use Rattle.vr_rings.specs.Slots.{header_in};
 ghost use Rattle.vr_rules.specs.Replica.{part_at, version};
@@ -11,13 +11,13 @@ ghost use Rattle.vr_rules.specs.Steps.{reading};
 ghost use Rattle.vr_rules.specs.Words.{entry_of, header_read, mend_header, op_of_slot, place_now, visit, visit_block, visit_place, visit_slot};
 ghost use Rattle.vr_rules.specs.Does.{Performs, done};
 ghost use Rattle.vr_disk.specs.declared.fault.Halt.TheVariants as halt;
-ghost use Rattle.vr_journal.specs.Acts.{Acts, Untouched};
+ghost use Rattle.vr_actions.specs.Acts.{Acts, Untouched};
 
 use crate::found::Visit;
+use vr_actions::{Halt, Replica, rewrite_header};
 use vr_ckpt::Name;
 use vr_disk::{DiskFault, SLOTS, SectorDisk};
 use vr_header::{Header, Part};
-use vr_journal::{Halt, Replica, rewrite_header};
 use vr_msg::Outbox;
 use vr_rings::read_header;
 
@@ -63,7 +63,7 @@ fn mend_header<D: SectorDisk>(
 // The op of this header is `Here`. Where its slot doesn't read as the whole entry, the Part becomes `Lost`, and nothing is written: `Lost`.
 // Where it does, its header sector is written anew if it reads as anything else: `Mended`, else `Good`. An `Err` is `DiskFault`, where that
 // write failed; nothing is said of the replica then. Nothing is put out.
-#[tactic(auto, using(crate::proofs::Visits::slot_lost, crate::proofs::Visits::found_stored, crate::proofs::Visits::found_lost, vr_memory::proofs::Memory::readies))]
+#[tactic(auto, using(crate::proofs::Visits::slot_lost, crate::proofs::Visits::found_stored, crate::proofs::Visits::found_lost, vr_volatile::proofs::Memory::readies))]
 fn visit_stored<D: SectorDisk>(
     replica: &mut Replica,
     disk: &mut D,
@@ -87,7 +87,7 @@ fn visit_stored<D: SectorDisk>(
 /// Where the Part of this op is `Here` and its slot doesn't read as the whole entry, it becomes `Lost`, and nothing is written: `Lost`.
 /// Where it does read, its header sector is written anew if it reads as anything else: `Mended`, else `Good`. Where the Part isn't `Here`,
 /// nothing is done: `Nothing`. An `Err` is `DiskFault`, where that write failed; nothing is said of the replica then.
-#[tactic(auto, using(crate::proofs::Visits::slot_nothing, crate::proofs::Visits::found_here, crate::proofs::Visits::found_nothing, vr_memory::proofs::Memory::here_op))]
+#[tactic(auto, using(crate::proofs::Visits::slot_nothing, crate::proofs::Visits::found_here, crate::proofs::Visits::found_nothing, vr_volatile::proofs::Memory::here_op))]
 pub fn visit_slot<D: SectorDisk>(
     replica: &mut Replica,
     disk: &mut D,

@@ -6,8 +6,8 @@ ghost use Rattle.vr_repair.specs.Repairs.{found_at, is_block, rule_of};
 ghost use Rattle.vr_rules.specs.Deciding.{first_of, give_block_table, is_wanted};
 
 use crate::deciding::Repair;
+use vr_actions::Replica;
 use vr_ckpt::{Name, NameList, is_block_of};
-use vr_journal::Replica;
 use vr_msg::GiveBlock;
 
 // Whether the name has the address of the message, and the message's bytes are the whole block of this name. Only where the address is

@@ -18,7 +18,7 @@ use Rattle.vr_rules.proofs.SavesWell.{savable_alike}
 use Rattle.vr_rules.proofs.Storing.{head_number}
 use Rattle.vr_rules.specs.Does.{Does, LeftBy}
 use Rattle.vr_rules.proofs.Stepping.{does_by, does_quiet, does_change_then}
-use Rattle.vr_memory.specs.Ready.{IsReady}
+use Rattle.vr_volatile.specs.Ready.{IsReady}
 use Rattle.vr_replica.specs.Ticks.{tells_first, tells_all}
 
 -- ---- bounds

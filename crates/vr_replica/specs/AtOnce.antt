@@ -8,7 +8,7 @@ use Rattle.vr_msg.specs.declared.frame.Frame.TheVariants as frame
 use Rattle.vr_rules.specs.Deciding.{first_of, prepare_ok_table, prepare_table, start_view_change_table}
 use Rattle.vr_rules.specs.Replica.{Replica}
 use Rattle.vr_rules.specs.Rules.{acknowledged}
-use Rattle.vr_journal.specs.Waits.{Waits, passes}
+use Rattle.vr_actions.specs.Waits.{Waits, passes}
 
 -- a prepare or a start_view_change that is left be, and an acknowledgement that is left be or counted without a quorum, where all that can
 -- be is applied

@@ -1,20 +1,20 @@
 //! Entries are read.
 ghost use Rattle.std.specs.Prelude.{◌≡◌, IfOk, IfSome, OnErr};
 ghost use Rattle.vr_header.specs.declared.part.Part.TheVariants.{Here};
-ghost use Rattle.vr_memory.specs.Ready.{IsReady};
+ghost use Rattle.vr_volatile.specs.Ready.{IsReady};
 ghost use Rattle.vr_rules.specs.Replica.{part_at, version};
 ghost use Rattle.vr_replica.specs.Entries.{after_reading, entry_by};
-ghost use Rattle.vr_journal.specs.Acts.{Untouched};
+ghost use Rattle.vr_actions.specs.Acts.{Untouched};
 
 use std::alloc::Global;
+use vr_actions::{Replica, find_entry};
 use vr_base::NoMemory;
 use vr_disk::SectorDisk;
 use vr_header::{Entry, Header, Part};
-use vr_journal::{Replica, find_entry};
 
 // The op of this header is `Here`. The entry, where its slot reads as the whole one of just this header; else `None`, and the Part becomes
 // `Lost`. Nothing else of the replica changes, and the disk is only read. An `Err` is want of memory, and leaves the replica as it was.
-#[tactic(auto, using(crate::proofs::EntryReadings::found, vr_memory::proofs::Memory::readies))]
+#[tactic(auto, using(crate::proofs::EntryReadings::found, vr_volatile::proofs::Memory::readies))]
 fn look_up_stored<D: SectorDisk>(
     replica: &mut Replica,
     alloc: Global,
@@ -42,7 +42,7 @@ fn look_up_stored<D: SectorDisk>(
 /// The entry of an op that is `Here`, where its slot reads as the whole one of the known header. Else `None`: a Part that is `Here` and
 /// doesn't read becomes `Lost`, and nothing else changes. The disk is only read. An `Err` is want of memory, and leaves the replica as it
 /// was.
-#[tactic(auto, using(vr_memory::proofs::Memory::here_op))]
+#[tactic(auto, using(vr_volatile::proofs::Memory::here_op))]
 pub fn look_up<D: SectorDisk>(
     replica: &mut Replica,
     alloc: Global,

@@ -26,7 +26,7 @@ pub use vr_base::{Sum, checksum};
 pub use vr_header::{Key, Operation, Value};
 
 /// Why a step stopped. The replica that took it takes no other.
-pub use vr_journal::Halt;
+pub use vr_actions::Halt;
 
 /// What happens to a replica: a client asks, a message arrives, or time goes by.
 pub use vr_msg::{Event, Message, Request, RequestFields};

@@ -8,20 +8,20 @@ ghost use Rattle.vr_opening.specs.Recovering.{Recovered, RecoveredAny};
 ghost use Rattle.vr_rules.specs.Replica.{header_at, part_at, version};
 ghost use Rattle.vr_rules.specs.Rules.{react};
 ghost use Rattle.vr_rules.specs.Does.{Does};
-ghost use Rattle.vr_journal.specs.Waits.{EndsAtOnce};
+ghost use Rattle.vr_actions.specs.Waits.{EndsAtOnce};
 ghost use Rattle.vr_replica.specs.AtOnce.{IsAtOnce};
 ghost use Rattle.vr_replica.specs.Entries.{after_reading, entry_by};
 ghost use Rattle.vr_replica.specs.Running.{memory_of};
-ghost use Rattle.vr_journal.specs.Acts.{Untouched};
+ghost use Rattle.vr_actions.specs.Acts.{Untouched};
 
 use crate::entries::look_up;
 use crate::reacting::react;
 use std::alloc::Global;
 use std::marker::Model;
+use vr_actions::{Halt, Replica as Memory};
 use vr_base::{Config, Kind, NoMemory, Version};
 use vr_disk::SectorDisk;
 use vr_header::Entry;
-use vr_journal::{Halt, Replica as Memory};
 use vr_msg::{Event, Outbox};
 use vr_opening::{FreshFault, Refusal};
 
@@ -34,7 +34,7 @@ pub struct Replica {
 
 impl Model for Replica {
     ghost use Rattle.std.specs.Prelude.{◌≡◌, true};
-    ghost use Rattle.vr_memory.specs.Ready.{IsReady};
+    ghost use Rattle.vr_volatile.specs.Ready.{IsReady};
     ghost use Rattle.vr_replica.specs.Running.{Running};
 
     ghost Value = { Running };
@@ -162,7 +162,7 @@ impl Replica {
     /// On these it answers `Ok` and leaves the very same disk: a prepare of rule `Ignored`, `PreparedBefore` or `Other`; a
     /// start_view_change of `Ignored` or `ChangeBefore`. So on a prepare_ok that isn't counted, or after which the next op has no quorum
     /// and nothing can be applied.
-    #[tactic(auto, using(crate::proofs::Stopped::halted, vr_memory::proofs::Memory::file_version))]
+    #[tactic(auto, using(crate::proofs::Stopped::halted, vr_volatile::proofs::Memory::file_version))]
     pub fn step<D: SectorDisk>(
         &mut self,
         alloc: Global,

@@ -1,16 +1,16 @@
 //! The step of a replica: the rule of each event.
 ghost use Rattle.std.specs.Prelude.{◌≡◌};
-ghost use Rattle.vr_memory.specs.Ready.{IsReady};
-ghost use Rattle.vr_journal.specs.Waits.{EndsAtOnce};
+ghost use Rattle.vr_volatile.specs.Ready.{IsReady};
+ghost use Rattle.vr_actions.specs.Waits.{EndsAtOnce};
 ghost use Rattle.vr_replica.specs.AtOnce.{IsAtOnce, IsLeft};
 ghost use Rattle.vr_rules.specs.Replica.{is_frozen};
 ghost use Rattle.vr_rules.specs.Rules.{on_event, on_message, react};
-ghost use Rattle.vr_journal.specs.Acts.{Acts, MaySend};
+ghost use Rattle.vr_actions.specs.Acts.{Acts, MaySend};
 
 use crate::ticking::handle_tick;
 use std::alloc::Global;
+use vr_actions::{Halt, LAST_VIEW, Replica};
 use vr_disk::SectorDisk;
-use vr_journal::{Halt, LAST_VIEW, Replica};
 use vr_msg::{Event, Frame, Message, Outbox};
 use vr_normal::{handle_commit, handle_prepare, handle_prepare_ok, handle_request};
 use vr_repair::{handle_get_block, handle_get_prepare, handle_give_block, handle_give_prepare};

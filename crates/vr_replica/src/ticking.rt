@@ -1,6 +1,6 @@
 //! Time goes by.
 ghost use Rattle.std.specs.Prelude.{◌≡◌, ◌<◌, ◌≤◌, ◌+◌, nat_le, nat_lt};
-ghost use Rattle.vr_memory.specs.Ready.{IsReady};
+ghost use Rattle.vr_volatile.specs.Ready.{IsReady};
 ghost use Rattle.vr_rules.specs.Deciding.{first_of, tick_table};
 ghost use Rattle.vr_rules.specs.Replica.{head, last_view};
 ghost use Rattle.vr_rules.specs.Rules.{backup_ticks, changing_ticks, on_tick, primary_ticks};
@@ -8,11 +8,11 @@ ghost use Rattle.vr_rules.specs.Steps.{◌⨾◌};
 ghost use Rattle.vr_rules.specs.Words.{ask, enter, visit};
 ghost use Rattle.vr_replica.specs.Ticks.{tells_all, tells_first, tick_rule};
 ghost use Rattle.vr_replica.specs.declared.ticking.TickRule.TheVariants as TickRule;
-ghost use Rattle.vr_journal.specs.Acts.{Acts, MaySend};
+ghost use Rattle.vr_actions.specs.Acts.{Acts, MaySend};
 
 use std::alloc::Global;
+use vr_actions::{Halt, Replica, enter, prepare_again};
 use vr_disk::SectorDisk;
-use vr_journal::{Halt, Replica, enter, prepare_again};
 use vr_msg::Outbox;
 use vr_repair::{ask, visit};
 use vr_view::speak;
@@ -30,7 +30,7 @@ pub enum TickRule {
 
 /// `TickedPrimary` where the replica leads; else `TickedBackup` where its view is started; else `TickedChanging`, and then its log view is
 /// below its view.
-#[tactic(auto, using(vr_memory::proofs::Memory::some_member, crate::proofs::Ticks::unstarted), unfolding(vr_rules::specs::Deciding::first_of))]
+#[tactic(auto, using(vr_volatile::proofs::Memory::some_member, crate::proofs::Ticks::unstarted), unfolding(vr_rules::specs::Deciding::first_of))]
 pub fn decide_tick(replica: &Replica) -> TickRule
     requires { IsReady replica.now }
     ensures rule { first_of (tick_table replica.now) ≡ tick_rule result }
@@ -64,7 +64,7 @@ fn look_and_ask<D: SectorDisk>(
 // ---- at the primary
 
 // Whether the head is above the commit number.
-#[tactic(auto, using(vr_memory::proofs::Memory::window_of))]
+#[tactic(auto, using(vr_volatile::proofs::Memory::window_of))]
 fn has_open(replica: &Replica) -> bool
     requires { IsReady replica.now }
     ensures { result ≡ nat_lt replica.now.commit (head replica.now) }

@@ -1,7 +1,7 @@
 -- What each command may answer.
 use Rattle.std.proofs.Common.{◌≡◌, ◌⊎◌, ◌∙◌, ◌+◌, ℕ, List, [], ◌∷◌, length, Bool, true, false, Option, Some, None, inl, inr, refl, sym, ap, subst}
-use Rattle.vr_ask.specs.Asking as ask
-use Rattle.vr_ask.specs.Run as client
+use Rattle.cmd_client.specs.Asking as ask
+use Rattle.cmd_client.specs.Run as client
 use Rattle.vr_base.specs.Causes.{Rose}
 use Rattle.vr_base.specs.declared.kind.Kind.{Kind}
 use Rattle.vr_base.specs.declared.table.Config.{Config}
@@ -13,18 +13,18 @@ use Rattle.vr_node.specs.Moving.{MigrationEnds, MovesFile}
 use Rattle.vr_node.specs.Opening.{FindsNone, MakesNone}
 use Rattle.vr_node.specs.Running as node
 use Rattle.vr_node.specs.declared.node.Node.{Node as Member}
-use Rattle.vr_replay.specs.Run.{Ends}
+use Rattle.cmd_replay.specs.Run.{Ends}
 use Rattle.vr_serve.specs.Causes as serve
-use Rattle.vr_soak.specs.Ends.{SoakEnds}
+use Rattle.cmd_soak.specs.Ends.{SoakEnds}
 use Rattle.vr_spawn.specs.declared.spawner.SpawnCall.{SpawnCall}
 use Rattle.vr_base.specs.declared.status.Status.{Status}
 use Rattle.vr_base.specs.declared.status.Status.TheVariants as status
 use Rattle.vr_top.specs.Answers.{client_gives, migrate_gives, node_gives, replay_gives, soak_gives, trial_gives}
-use Rattle.vr_trial.specs.Run as trial
-use Rattle.vr_trial.specs.Script.{number_of, script}
-use Rattle.vr_trial.specs.Told as told
-use Rattle.vr_trial.specs.declared.step.Step.{Step}
-use Rattle.vr_trial.specs.declared.step.Step.TheVariants.{Start, Restart, Attach, Ask, Stop}
+use Rattle.cmd_trial.specs.Run as trial
+use Rattle.cmd_trial.specs.Script.{number_of, script}
+use Rattle.cmd_trial.specs.Told as told
+use Rattle.cmd_trial.specs.declared.step.Step.{Step}
+use Rattle.cmd_trial.specs.declared.step.Step.TheVariants.{Start, Restart, Attach, Ask, Stop}
 
 -- it is this one, which may be given
 it_may : (may : Status → Bool) (s s' : Status) → s ≡ s' → may s' ≡ true → may s ≡ true

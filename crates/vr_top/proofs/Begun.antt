@@ -19,7 +19,7 @@ use Rattle.vr_top.specs.Making.{Clock, Disk, Ground, Link, Making, Path, Sink, S
 use Rattle.vr_top.specs.Outside.{outside, trial_outside}
 use Rattle.vr_top.specs.declared.program.Untold.{Untold}
 use Rattle.vr_top.specs.declared.program.Untold.TheVariants as untold
-use Rattle.vr_words.specs.Asked.{asked}
+use Rattle.vr_args.specs.Asked.{asked}
 
 -- one call, and then others
 call_and : {X : Type 0} (a b c : Option (List X)) (x : X) (ys : List X) → Grows a b (x ∷ []) → Grows b c ys → Grows a c (x ∷ ys)

@@ -1,8 +1,8 @@
 -- Commands, each against its run.
 use Rattle.std.proofs.Common.{◌≡◌, ◌≤◌, ◌<◌, ◌⊎◌, ◌∙◌, suc, ℕ, List, [], ◌∷◌, Bool, true, false, Option, Some, None, length, map, refl, ap, subst, sym, inl, inr, arith}
 use Rattle.std.specs.Prelude.{◌≢◌, IfSome, string_bytes, vec_len}
-use Rattle.vr_ask.specs.Asking as ask
-use Rattle.vr_ask.specs.Run as run
+use Rattle.cmd_client.specs.Asking as ask
+use Rattle.cmd_client.specs.Run as run
 use Rattle.vr_base.specs.Causes.{Rose}
 use Rattle.vr_base.specs.Groups.{is_size}
 use Rattle.vr_base.proofs.Members.{sized}
@@ -17,10 +17,10 @@ use Rattle.vr_edge.specs.declared.source.Source as sources
 use Rattle.vr_node.specs.Moving.{MigrationEnds}
 use Rattle.vr_node.specs.Running as node
 use Rattle.vr_node.specs.Stops.{disk_after}
-use Rattle.vr_replay.specs.Run as replay
+use Rattle.cmd_replay.specs.Run as replay
 use Rattle.vr_serve.specs.Causes as serve
-use Rattle.vr_soak.specs.Ends.{SoakEnds}
-use Rattle.vr_soak.specs.Summing.{soak_text}
+use Rattle.cmd_soak.specs.Ends.{SoakEnds}
+use Rattle.cmd_soak.specs.Summing.{soak_text}
 use Rattle.vr_spawn.specs.declared.spawner.Spawner as spawners
 use Rattle.vr_base.proofs.Counting.{links_kept}
 use Rattle.vr_base.specs.Counts.{links_after, reads_after, writes_after}
@@ -34,13 +34,13 @@ use Rattle.vr_top.specs.Outside.{Outside, TrialOutside, outside, trial_outside}
 use Rattle.vr_top.specs.Roles.{IsGood, client_of, config_of, trial_of}
 use Rattle.vr_top.specs.Run.{Obeys, SameObjects}
 use Rattle.vr_top.specs.declared.outside.Outside.{Outside as Handed}
-use Rattle.vr_trial.specs.Run as trial
-use Rattle.vr_trial.specs.Told as plan
-use Rattle.vr_words.specs.Asked.{Asked, Client, ClientAsked, Migrate, MigrateAsked, Node, NodeAsked, Replay, Soak, Trial, TrialAsked, client_says, least_by, node_says, trial_says}
-use Rattle.vr_words.specs.declared.command.ClientWords.{ClientWords}
-use Rattle.vr_words.specs.declared.command.NodeWords.{NodeWords}
-use Rattle.vr_words.specs.declared.command.SoakWords.{SoakWords}
-use Rattle.vr_words.specs.declared.command.TrialWords.{TrialWords}
+use Rattle.cmd_trial.specs.Run as trial
+use Rattle.cmd_trial.specs.Told as plan
+use Rattle.vr_args.specs.Asked.{Asked, Client, ClientAsked, Migrate, MigrateAsked, Node, NodeAsked, Replay, Soak, Trial, TrialAsked, client_says, least_by, node_says, trial_says}
+use Rattle.vr_args.specs.declared.command.ClientWords.{ClientWords}
+use Rattle.vr_args.specs.declared.command.NodeWords.{NodeWords}
+use Rattle.vr_args.specs.declared.command.SoakWords.{SoakWords}
+use Rattle.vr_args.specs.declared.command.TrialWords.{TrialWords}
 
 map_length : {X Y : Type 0} (f : X → Y) (xs : List X) → length (map f xs) ≡ length xs
 map_length f [] = refl

@@ -9,8 +9,8 @@ use Rattle.vr_base.specs.Groups.{is_size}
 use Rattle.vr_base.specs.declared.kind.Kind.{Kind}
 use Rattle.vr_top.specs.Roles.{IsGood}
 use Rattle.vr_lines.specs.Numbers.{number_below, number_of}
-use Rattle.vr_words.specs.Asked.{Asked, Client, ClientAsked, Migrate, MigrateAsked, Node, NodeAsked, Replay, Soak, asked, asked_at, asker_at, below_at, client_at, entered_by, fresh_at, id_at, is_taken, least_by, member_at, migrate_at, mover_at, n_at, node_at, number_at, peers_at, soak_at, Trial, TrialAsked, trial_at, trier_at, version_at}
-use Rattle.vr_words.specs.declared.command.SoakWords.{SoakWords}
+use Rattle.vr_args.specs.Asked.{Asked, Client, ClientAsked, Migrate, MigrateAsked, Node, NodeAsked, Replay, Soak, asked, asked_at, asker_at, below_at, client_at, entered_by, fresh_at, id_at, is_taken, least_by, member_at, migrate_at, mover_at, n_at, node_at, number_at, peers_at, soak_at, Trial, TrialAsked, trial_at, trier_at, version_at}
+use Rattle.vr_args.specs.declared.command.SoakWords.{SoakWords}
 
 -- ---- tests
 

@@ -1,12 +1,12 @@
 -- The outputs of the schedule that words ask for have one log.
 use Rattle.std.proofs.Common.{◌≡◌, ◌<◌, List, Option, Some, None, refl, arith}
 use Rattle.clap.specs.Words.{Text}
-use Rattle.vr_replay.proofs.Headline.{schedule_has_one_log as of_replay}
-use Rattle.vr_soak.proofs.Headline.{headline as of_soak}
+use Rattle.cmd_replay.proofs.Headline.{schedule_has_one_log as of_replay}
+use Rattle.cmd_soak.proofs.Headline.{headline as of_soak}
 use Rattle.vr_top.specs.Ends.{HasOneLog}
 use Rattle.vr_top.specs.Roles.{IsGood}
 use Rattle.vr_top.proofs.Good.{asked_good}
-use Rattle.vr_words.specs.Asked.{Asked, Client, Migrate, Node, Replay, Soak, Trial, asked}
+use Rattle.vr_args.specs.Asked.{Asked, Client, Migrate, Node, Replay, Soak, Trial, asked}
 
 one_log : (o : Option Asked) → ((a : Asked) → o ≡ Some a → IsGood a) → HasOneLog o
 one_log None good = tt

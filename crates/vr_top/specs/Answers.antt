@@ -2,7 +2,7 @@
 use Rattle.std.specs.Prelude.{Bool, true, false, Option, Some, None}
 use Rattle.vr_base.specs.declared.status.Status.{Status}
 use Rattle.vr_base.specs.declared.status.Status.TheVariants.{Done, Usage, Refused, SessionLost, ReadFault, WriteFault, DiskFault, LinkFault, SuperLost, OtherMember, NoMemory, Occupied, NoAnswer, SpawnFault}
-use Rattle.vr_words.specs.Asked.{Asked, Client, Migrate, Node, Replay, Soak, Trial}
+use Rattle.vr_args.specs.Asked.{Asked, Client, Migrate, Node, Replay, Soak, Trial}
 
 abbrev pub replay_gives : Status → Bool
 replay_gives Done = true

@@ -19,7 +19,7 @@ use Rattle.vr_top.specs.Outside.{Outside, Spawner as SpawnerOutside, outside, tr
 use Rattle.vr_top.specs.Telling.{Tells}
 use Rattle.vr_top.specs.declared.program.Untold.{Untold}
 use Rattle.vr_top.specs.declared.program.Untold.TheVariants as untold
-use Rattle.vr_words.specs.Asked.{asked}
+use Rattle.vr_args.specs.Asked.{asked}
 
 -- the words after the program's name; none where one of them is no text
 abbrev pub words_after : Result (List (List ℕ)) Untold → List (List ℕ)

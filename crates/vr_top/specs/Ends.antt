@@ -1,26 +1,26 @@
 -- What a run of the program comes to, by its words.
 use Rattle.std.specs.Prelude.{ℕ, ◌≡◌, ◌⊎◌, ⊤, true, List, Option, Some, None, IfSome}
-use Rattle.vr_ask.specs.Asking as ask
-use Rattle.vr_ask.specs.Run as client
+use Rattle.cmd_client.specs.Asking as ask
+use Rattle.cmd_client.specs.Run as client
 use Rattle.vr_base.specs.Causes.{Rose}
 use Rattle.vr_node.specs.Moving.{MigrationEnds}
 use Rattle.vr_node.specs.Running as node
-use Rattle.vr_replay.specs.Headline.{ScheduleHasOneLog}
-use Rattle.vr_replay.specs.Run as replay
-use Rattle.vr_replay.specs.Schedule.{schedule_of}
+use Rattle.cmd_replay.specs.Headline.{ScheduleHasOneLog}
+use Rattle.cmd_replay.specs.Run as replay
+use Rattle.cmd_replay.specs.Schedule.{schedule_of}
 use Rattle.vr_serve.specs.Causes as serve
-use Rattle.vr_soak.specs.Ends.{SoakEnds}
-use Rattle.vr_soak.specs.Headline.{SoakHasOneLog}
-use Rattle.vr_soak.specs.Summing.{soak_text}
+use Rattle.cmd_soak.specs.Ends.{SoakEnds}
+use Rattle.cmd_soak.specs.Headline.{SoakHasOneLog}
+use Rattle.cmd_soak.specs.Summing.{soak_text}
 use Rattle.vr_base.specs.declared.status.Status.{Status}
 use Rattle.vr_base.specs.declared.status.Status.TheVariants.{NoMemory, SpawnFault, Usage}
 use Rattle.vr_top.specs.Answers.{gives}
 use Rattle.vr_top.specs.Causes.{HasCauses}
 use Rattle.vr_top.specs.Outside.{Outside, TrialOutside}
 use Rattle.vr_top.specs.Roles.{client_of, config_of, trial_of}
-use Rattle.vr_trial.specs.Run as trial
-use Rattle.vr_words.specs.Asked.{Asked, Client, ClientAsked, Migrate, MigrateAsked, Node, NodeAsked, Replay, Soak, Trial}
-use Rattle.vr_words.specs.declared.command.SoakWords.{SoakWords}
+use Rattle.cmd_trial.specs.Run as trial
+use Rattle.vr_args.specs.Asked.{Asked, Client, ClientAsked, Migrate, MigrateAsked, Node, NodeAsked, Replay, Soak, Trial}
+use Rattle.vr_args.specs.declared.command.SoakWords.{SoakWords}
 
 -- ---- what of the outside a member, a client and a trial have
 

@@ -1,15 +1,15 @@
 -- What the words of a command ask for, as a member's, a client's and a trial's run take it.
 use Rattle.std.specs.Prelude.{◌≡◌, ◌≢◌, ◌<◌, ⊤, true, length}
-use Rattle.vr_ask.specs.Asking.{Client as Asker}
-use Rattle.vr_ask.specs.Run.{client_with}
+use Rattle.cmd_client.specs.Asking.{Client as Asker}
+use Rattle.cmd_client.specs.Run.{client_with}
 use Rattle.vr_base.specs.Groups.{is_size}
 use Rattle.vr_base.specs.declared.table.Config.{Config}
 use Rattle.vr_node.specs.declared.role.Role.{Role}
-use Rattle.vr_trial.specs.Told.{Trial as Tried, trial_of as plan_says}
-use Rattle.vr_trial.specs.declared.plan.Plan.{Plan}
-use Rattle.vr_words.specs.Asked.{Asked, Client, ClientAsked, Migrate, Node, NodeAsked, Replay, Soak, Trial, TrialAsked, least_by, node_says, trial_says}
-use Rattle.vr_words.specs.declared.command.NodeWords.{NodeWords}
-use Rattle.vr_words.specs.declared.command.TrialWords.{TrialWords}
+use Rattle.cmd_trial.specs.Told.{Trial as Tried, trial_of as plan_says}
+use Rattle.cmd_trial.specs.declared.plan.Plan.{Plan}
+use Rattle.vr_args.specs.Asked.{Asked, Client, ClientAsked, Migrate, Node, NodeAsked, Replay, Soak, Trial, TrialAsked, least_by, node_says, trial_says}
+use Rattle.vr_args.specs.declared.command.NodeWords.{NodeWords}
+use Rattle.vr_args.specs.declared.command.TrialWords.{TrialWords}
 
 abbrev pub config_of : NodeAsked → Config
 config_of a = record { cluster = a.cluster; replica = a.replica; n = length a.peers }

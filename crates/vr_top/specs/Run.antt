@@ -12,7 +12,7 @@ use Rattle.vr_base.specs.declared.status.Status.{Status}
 use Rattle.vr_top.specs.Ends.{Ends, Tries}
 use Rattle.vr_top.specs.Outside.{outside, trial_outside}
 use Rattle.vr_top.specs.declared.outside.Outside.{Outside as Handed}
-use Rattle.vr_words.specs.Asked.{Asked, asked}
+use Rattle.vr_args.specs.Asked.{Asked, asked}
 
 -- a run with these words ends, as to all but its spawner
 abbrev pub RunEnds : {S K D L C : Type 0} → of_source.Ghosts S → of_sink.Ghosts K → of_disk.Ghosts D → of_link.Ghosts L → of_clock.Ghosts C → Vec (String Global) Global

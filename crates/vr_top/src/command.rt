@@ -3,21 +3,21 @@ ghost use Rattle.std.specs.Prelude.{map, string_bytes};
 ghost use Rattle.vr_top.specs.Ends.{HasOneLog};
 ghost use Rattle.vr_top.specs.Roles.{IsGood};
 ghost use Rattle.vr_top.specs.Run.{Obeys, RunEnds, RunTries};
-ghost use Rattle.vr_words.specs.Asked.{asked, says};
+ghost use Rattle.vr_args.specs.Asked.{asked, says};
 
 use crate::outside::Outside;
 use crate::roles::{plan_of, role_of};
+use cmd_client::run_client;
+use cmd_replay::replay;
+use cmd_soak::soak;
+use cmd_trial::run_trial;
 use std::alloc::Global;
-use vr_ask::run_client;
+use vr_args::{Command, WordsFault, parse};
 use vr_base::Status;
 use vr_disk::SectorDisk;
 use vr_edge::{Clock, Link, Sink, Source};
 use vr_node::{run_migration, run_node};
-use vr_replay::replay;
-use vr_soak::soak;
 use vr_spawn::Spawner;
-use vr_trial::run_trial;
-use vr_words::{Command, WordsFault, parse};
 
 /// Does what a command asks for, over the objects that it has a use for. A replay has one for source and sink, a soak for the sink, a member for
 /// sink, disk, link and clock, a client for source, sink and link. A trial has one for sink, link and spawner, a migration for the disk; all others

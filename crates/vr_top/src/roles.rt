@@ -1,11 +1,11 @@
 //! What the words of a member and of a trial ask for, as their runs take it.
 ghost use Rattle.vr_top.specs.Roles.{IsGood, IsPlanOf, IsRoleOf};
-ghost use Rattle.vr_words.specs.Asked.{Node, node_says};
+ghost use Rattle.vr_args.specs.Asked.{Node, node_says};
 
+use cmd_trial::Plan;
+use vr_args::{NodeWords, TrialWords};
 use vr_base::Config;
 use vr_node::Role;
-use vr_trial::Plan;
-use vr_words::{NodeWords, TrialWords};
 
 /// The role of a member with these words: their group, number, file, turns and addresses, and the kind that its file is made as, if any. The group
 /// has as many members as there are addresses.

@@ -18,7 +18,7 @@ use Rattle.vr_rules.proofs.Ruling.{by_rows}
 use Rattle.vr_rules.proofs.SavesWell.{savable_alike}
 use Rattle.vr_rules.specs.Does.{Does}
 use Rattle.vr_rules.proofs.Stepping.{does_by, does_quiet, says_by}
-use Rattle.vr_memory.specs.Ready.{IsReady}
+use Rattle.vr_volatile.specs.Ready.{IsReady}
 use Rattle.vr_view.specs.declared.changing.ChangeRule.{ChangeRule}
 use Rattle.vr_view.specs.declared.changing.ChangeRule.TheVariants as rule
 use Rattle.vr_view.specs.Named.{change_rule}

@@ -27,10 +27,10 @@ use Rattle.vr_base.specs.Bytes.{name_of}
 use Rattle.vr_disk.specs.declared.fault.Halt.{Halt}
 use Rattle.vr_rules.specs.Does.{Does}
 use Rattle.vr_rules.proofs.Stepping.{does_by, does_quiet, says_by}
-use Rattle.vr_memory.specs.Choosing.{chosen_line}
-use Rattle.vr_memory.specs.Ready.{IsReady}
+use Rattle.vr_volatile.specs.Choosing.{chosen_line}
+use Rattle.vr_volatile.specs.Ready.{IsReady}
 use Rattle.vr_view.specs.Logs.{IsTaught, MayTake}
-use Rattle.vr_journal.specs.Telling.{each_to}
+use Rattle.vr_actions.specs.Telling.{each_to}
 
 pub some_stated : (r : Replica) (ss : List Statement) → IsReady r → ss ≡ stated r → All IsSomeStatement ss
 unfolding IsReady

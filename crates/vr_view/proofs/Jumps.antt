@@ -25,13 +25,13 @@ use Rattle.vr_rules.proofs.Trying.{from_at}
 use Rattle.vr_disk.specs.declared.fault.Halt.{Halt}
 use Rattle.vr_rules.specs.Does.{Does}
 use Rattle.vr_rules.proofs.Stepping.{does_by, does_naming, does_quiet}
-use Rattle.vr_memory.specs.Jumps as moving
-use Rattle.vr_memory.specs.Ready.{IsReady}
+use Rattle.vr_volatile.specs.Jumps as moving
+use Rattle.vr_volatile.specs.Ready.{IsReady}
 use Rattle.vr_view.specs.declared.jumping.JumpRule.{JumpRule}
 use Rattle.vr_view.specs.declared.jumping.JumpRule.TheVariants as decided
 use Rattle.vr_view.specs.Jumps.{IsSyncing, MayJump}
 use Rattle.vr_view.specs.NamedSyncs.{jump_rule}
-use Rattle.vr_journal.specs.Telling.{each_to}
+use Rattle.vr_actions.specs.Telling.{each_to}
 
 -- ---- the log that a sync_view tells of
 

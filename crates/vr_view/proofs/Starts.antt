@@ -31,7 +31,7 @@ use Rattle.vr_view.specs.declared.starting.ViewRule.TheVariants as asked
 use Rattle.vr_view.specs.Logs.{MayTake}
 use Rattle.vr_view.specs.Messages.{IsStarting}
 use Rattle.vr_view.specs.Named.{start_rule, view_rule}
-use Rattle.vr_journal.specs.Telling.{each_to}
+use Rattle.vr_actions.specs.Telling.{each_to}
 
 -- ---- the log that a start_view tells of
 

@@ -21,7 +21,7 @@ use Rattle.vr_rules.proofs.Ruling.{IsFor, by_rows, group_of, kept_statement}
 use Rattle.vr_rules.proofs.SavesWell.{savable_alike}
 use Rattle.vr_rules.specs.Does.{Does}
 use Rattle.vr_rules.proofs.Stepping.{does_by, does_quiet, says_by}
-use Rattle.vr_memory.specs.Ready.{IsReady}
+use Rattle.vr_volatile.specs.Ready.{IsReady}
 use Rattle.vr_view.specs.declared.stating.StateRule.{StateRule}
 use Rattle.vr_view.specs.declared.stating.StateRule.TheVariants as rule
 use Rattle.vr_view.specs.Messages.{IsStating}

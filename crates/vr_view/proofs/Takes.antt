@@ -6,7 +6,7 @@ use Rattle.vr_rules.specs.Replica.{Replica, forgetting, last_view, version}
 use Rattle.vr_rules.specs.Words.{Log, may_take, taken}
 use Rattle.vr_rules.proofs.SavesParts.{savable_taken}
 use Rattle.vr_rules.proofs.Taking.{may_take_is, kept_taken}
-use Rattle.vr_memory.specs.Ready.{IsReady}
+use Rattle.vr_volatile.specs.Ready.{IsReady}
 use Rattle.vr_view.specs.Logs.{IsTaught, MayTake}
 
 idle_taken : (l : Log) (r : Replica) → (taken l r).idle ≤ 9

@@ -1,18 +1,18 @@
 //! A replica has entered a view: start_view_changes.
 ghost use Rattle.std.specs.Prelude.{◌≡◌, ◌<◌, ◌≤◌, true};
-ghost use Rattle.vr_journal.specs.Waits.{EndsAtOnce, passes};
+ghost use Rattle.vr_actions.specs.Waits.{EndsAtOnce, passes};
 ghost use Rattle.vr_rules.specs.Deciding.{first_of, start_view_change_table};
 ghost use Rattle.vr_rules.specs.Replica.{last_view};
 ghost use Rattle.vr_rules.specs.Rules.{heard_of, on_start_view_change};
 ghost use Rattle.vr_rules.specs.Steps.{◌⨾◌, change};
 ghost use Rattle.vr_rules.specs.Words.{enter, speak};
 ghost use Rattle.vr_view.specs.Named.{change_rule};
-ghost use Rattle.vr_journal.specs.Acts.{Acts, MayAct, MaySend};
+ghost use Rattle.vr_actions.specs.Acts.{Acts, MayAct, MaySend};
 
 use crate::trying::speak;
 use std::alloc::Global;
+use vr_actions::{Halt, Replica, enter};
 use vr_disk::SectorDisk;
-use vr_journal::{Halt, Replica, enter};
 use vr_msg::{Outbox, StartViewChange};
 
 /// What a start_view_change leads to.
@@ -103,7 +103,7 @@ fn hear_one<D: SectorDisk>(
 /// sends its statement to the primary. Where it is `Ignored` or below the view (`passes`), it answers
 /// `Ok` and leaves the very same disk. After an `Err` the disk has had its calls up to the stop; of
 /// replica and outputs nothing is said.
-#[tactic(auto, using(crate::proofs::Changes::changes, crate::proofs::Changes::means, vr_memory::proofs::Memory::some_member, vr_rules::proofs::Stepping::wants))]
+#[tactic(auto, using(crate::proofs::Changes::changes, crate::proofs::Changes::means, vr_volatile::proofs::Memory::some_member, vr_rules::proofs::Stepping::wants))]
 pub fn handle_start_view_change<D: SectorDisk>(
     replica: &mut Replica,
     alloc: Global,

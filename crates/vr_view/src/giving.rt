@@ -3,14 +3,14 @@ ghost use Rattle.std.specs.Prelude.{◌≡◌, ◌≤◌, true};
 ghost use Rattle.vr_rules.specs.Deciding.{first_of, get_sync_table, reaches_down};
 ghost use Rattle.vr_rules.specs.Replica.{last_view};
 ghost use Rattle.vr_rules.specs.Rules.{on_get_sync};
-ghost use Rattle.vr_memory.specs.Ready.{IsReady};
-ghost use Rattle.vr_journal.specs.Acts.{Acts};
+ghost use Rattle.vr_volatile.specs.Ready.{IsReady};
+ghost use Rattle.vr_actions.specs.Acts.{Acts};
 ghost use Rattle.vr_view.specs.NamedSyncs.{sync_rule};
 ghost use Rattle.vr_view.specs.declared.giving.SyncRule.{SyncRule};
 
 use std::alloc::Global;
+use vr_actions::{Halt, Replica};
 use vr_disk::SectorDisk;
-use vr_journal::{Halt, Replica};
 use vr_msg::{GetSync, Outbox};
 
 /// What a get_sync leads to.
@@ -26,7 +26,7 @@ pub enum SyncRule {
 /// `SyncGiven` where the message is of this version and group and from another replica, the replica leads, in the asked view or a later
 /// one, and its log reaches down. Else `Ignored`. `reaches_down`: it has a checkpoint, and its known headers reach from the head without a
 /// hole down to the checkpoint's.
-#[tactic(auto, using(vr_memory::proofs::Memory::some_member), unfolding(vr_rules::specs::Deciding::first_of))]
+#[tactic(auto, using(vr_volatile::proofs::Memory::some_member), unfolding(vr_rules::specs::Deciding::first_of))]
 pub fn decide_get_sync(replica: &Replica, get: &GetSync) -> SyncRule
     requires { IsReady replica.now }
     ensures rule { first_of (get_sync_table get.now replica.now) ≡ sync_rule result }

@@ -1,7 +1,7 @@
 //! Checkpoints taken over: sync_views.
 ghost use Rattle.std.specs.Prelude.{◌≡◌, ◌≤◌, ◌+◌, OnOk};
 ghost use Rattle.vr_base.specs.Bytes.{name_of};
-ghost use Rattle.vr_memory.specs.Ready.{IsReady};
+ghost use Rattle.vr_volatile.specs.Ready.{IsReady};
 ghost use Rattle.vr_msg.specs.Spelling.{AreHeaders};
 ghost use Rattle.vr_rules.specs.Deciding.{first_of, sync_view_table};
 ghost use Rattle.vr_rules.specs.Rules.{acknowledge_stored, on_sync_view};
@@ -10,12 +10,12 @@ ghost use Rattle.vr_rules.specs.Words.{apply, jump};
 ghost use Rattle.vr_view.specs.Jumps.{IsSyncing, MayJump};
 ghost use Rattle.vr_view.specs.NamedSyncs.{jump_rule};
 ghost use Rattle.vr_view.specs.declared.jumping.JumpRule.{JumpRule};
-ghost use Rattle.vr_journal.specs.Telling.{each_to};
-ghost use Rattle.vr_journal.specs.Acts.{Acts, MayAct};
+ghost use Rattle.vr_actions.specs.Telling.{each_to};
+ghost use Rattle.vr_actions.specs.Acts.{Acts, MayAct};
 
 use std::alloc::Global;
+use vr_actions::{Halt, Replica, acknowledge_all, apply, primary, save};
 use vr_disk::SectorDisk;
-use vr_journal::{Halt, Replica, acknowledge_all, apply, primary, save};
 use vr_msg::{Outbox, SyncView};
 
 /// What a sync_view leads to.
@@ -30,7 +30,7 @@ pub enum JumpRule {
 /// `Jumped` where it is of this version and group and from its view's primary, another replica, may be jumped to, and this replica isn't
 /// that primary. Else `Ignored`. It may be: the log is newer and a chain, its head at least the commit number, its checkpoint above the
 /// replica's. Headers that are taken over have the values of the program.
-#[tactic(auto, using(vr_memory::proofs::Memory::window_of, vr_memory::proofs::Memory::some_member), unfolding(vr_rules::specs::Deciding::first_of))]
+#[tactic(auto, using(vr_volatile::proofs::Memory::window_of, vr_volatile::proofs::Memory::some_member), unfolding(vr_rules::specs::Deciding::first_of))]
 pub fn decide_sync_view(replica: &Replica, sync: &SyncView) -> JumpRule
     requires { IsReady replica.now }
     ensures rule { first_of (sync_view_table name_of sync.now replica.now) ≡ jump_rule result }
@@ -50,7 +50,7 @@ pub fn decide_sync_view(replica: &Replica, sync: &SyncView) -> JumpRule
 // Parts stay up to the commit number, and are `Nothing` above. Above it Parts are as after `take`; view and log view are the message's, and
 // the commit number is the greater. `MayJump`: the message may be jumped to, and its root is in the grid. After an `Err` the disk has had
 // its calls up to the stop; of replica and outputs nothing is said.
-#[tactic(auto, using(vr_rules::proofs::Stepping::steps, vr_rules::proofs::Versions::jumped_stays, crate::proofs::Jumps::ready_jumped, crate::proofs::Jumps::view_jumped, crate::proofs::Jumps::may_move, vr_memory::proofs::Memory::window_of), unfolding(vr_rules::specs::Words::jump))]
+#[tactic(auto, using(vr_rules::proofs::Stepping::steps, vr_rules::proofs::Versions::jumped_stays, crate::proofs::Jumps::ready_jumped, crate::proofs::Jumps::view_jumped, crate::proofs::Jumps::may_move, vr_volatile::proofs::Memory::window_of), unfolding(vr_rules::specs::Words::jump))]
 fn jump<D: SectorDisk>(
     replica: &mut Replica,
     alloc: Global,

@@ -1,7 +1,7 @@
 //! The log of a view that is started: start_views, and get_views that ask for one.
 ghost use Rattle.std.specs.Prelude.{◌≡◌, ◌<◌, ◌≤◌, ◌||◌, nat_lt};
 ghost use Rattle.vr_base.specs.Bytes.{name_of};
-ghost use Rattle.vr_memory.specs.Ready.{HasWindow, IsReady};
+ghost use Rattle.vr_volatile.specs.Ready.{HasWindow, IsReady};
 ghost use Rattle.vr_msg.specs.Spelling.{AreHeaders};
 ghost use Rattle.vr_rules.specs.Deciding.{first_of, get_view_table, log_of, start_view_table};
 ghost use Rattle.vr_rules.specs.Replica.{last_view, window_end};
@@ -11,14 +11,14 @@ ghost use Rattle.vr_rules.specs.Words.{apply, take};
 ghost use Rattle.vr_view.specs.Logs.{MayTake};
 ghost use Rattle.vr_view.specs.Messages.{IsStarting};
 ghost use Rattle.vr_view.specs.Named.{start_rule, view_rule};
-ghost use Rattle.vr_journal.specs.Telling.{each_to};
+ghost use Rattle.vr_actions.specs.Telling.{each_to};
 ghost use Rattle.vr_view.specs.declared.starting.StartRule.{StartRule};
-ghost use Rattle.vr_journal.specs.Acts.{Acts, MayAct};
+ghost use Rattle.vr_actions.specs.Acts.{Acts, MayAct};
 
 use crate::taking::{head_of, take};
 use std::alloc::Global;
+use vr_actions::{Halt, Log, Replica, acknowledge_all, apply, primary};
 use vr_disk::SectorDisk;
-use vr_journal::{Halt, Log, Replica, acknowledge_all, apply, primary};
 use vr_msg::{GetView, Outbox, StartView};
 
 /// What a start_view leads to.
@@ -66,7 +66,7 @@ fn is_out_of_reach(replica: &Replica, log: &Log) -> bool
 /// another replica; `Taken` where its log may be taken (`may_take`). Then `SyncAsked` where its log is
 /// newer, and ends past the window or begins above the commit number. Both ask, too, that the replica
 /// isn't that primary; else `Ignored`. Headers that are taken have the values of the program.
-#[tactic(auto, using(vr_memory::proofs::Memory::window_of, vr_memory::proofs::Memory::some_member), unfolding(vr_rules::specs::Deciding::first_of))]
+#[tactic(auto, using(vr_volatile::proofs::Memory::window_of, vr_volatile::proofs::Memory::some_member), unfolding(vr_rules::specs::Deciding::first_of))]
 pub fn decide_start_view(replica: &Replica, start: &StartView) -> StartRule
     requires { IsReady replica.now }
     ensures rule { first_of (start_view_table name_of start.now replica.now) ≡ start_rule result }
@@ -107,7 +107,7 @@ pub fn decide_get_view(replica: &Replica, get: &GetView) -> ViewRule
 // ascending, if `Here`, a prepare_ok goes to the primary. Then what is committed is applied. `MayTake`:
 // the log is newer, fits and is a chain. After an `Err` the disk has had its calls up to the stop; of
 // replica and outputs nothing is said.
-#[tactic(auto, using(vr_rules::proofs::Stepping::steps, crate::proofs::Takes::taken_low, crate::proofs::Choices::head_small, vr_journal::proofs::Acks::told_to))]
+#[tactic(auto, using(vr_rules::proofs::Stepping::steps, crate::proofs::Takes::taken_low, crate::proofs::Choices::head_small, vr_actions::proofs::Acks::told_to))]
 fn follow<D: SectorDisk>(
     replica: &mut Replica,
     alloc: Global,
@@ -157,7 +157,7 @@ pub fn handle_start_view<D: SectorDisk>(
 /// sender. Else, and where the message isn't of this version and group and from another replica,
 /// nothing is put out. Replica and disk are left as they are; after an `Err` nothing is said of
 /// outputs.
-#[tactic(auto, using(crate::proofs::Starts::gives, vr_memory::proofs::Memory::some_member, vr_rules::proofs::Stepping::wants))]
+#[tactic(auto, using(crate::proofs::Starts::gives, vr_volatile::proofs::Memory::some_member, vr_rules::proofs::Stepping::wants))]
 pub fn handle_get_view<D: SectorDisk>(
     replica: &Replica,
     alloc: Global,

@@ -10,14 +10,14 @@ ghost use Rattle.vr_rules.specs.Words.{try};
 ghost use Rattle.vr_view.specs.Messages.{IsStating};
 ghost use Rattle.vr_view.specs.Named.{state_rule};
 ghost use Rattle.vr_view.specs.Entering.{entering};
-ghost use Rattle.vr_journal.specs.Acts.{Acts, MayAct, MaySend};
+ghost use Rattle.vr_actions.specs.Acts.{Acts, MayAct, MaySend};
 
 use crate::trying::try_view;
 use std::alloc::{AllocError, Global};
+use vr_actions::{Halt, Replica, enter, primary, valued};
 use vr_base::Seq;
 use vr_disk::SectorDisk;
 use vr_header::Part;
-use vr_journal::{Halt, Replica, enter, primary, valued};
 use vr_msg::{DoViewChange, DvcBody, Outbox, Statement};
 
 /// What a do_view_change leads to.
@@ -184,7 +184,7 @@ fn keep<D: SectorDisk>(
 /// It tries: where the statements decide on a log that may be taken, the view begins with it; else
 /// nothing or one `wait` line is put out. After an `Err` the disk has had its calls up to the stop; of
 /// replica and outputs nothing is said.
-#[tactic(auto, using(crate::proofs::States::rules, vr_memory::proofs::Memory::some_member, vr_rules::proofs::Stepping::wants))]
+#[tactic(auto, using(crate::proofs::States::rules, vr_volatile::proofs::Memory::some_member, vr_rules::proofs::Stepping::wants))]
 pub fn handle_do_view_change<D: SectorDisk>(
     replica: &mut Replica,
     alloc: Global,

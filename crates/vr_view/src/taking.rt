@@ -2,11 +2,11 @@
 ghost use Rattle.std.specs.Prelude.{◌≡◌, ◌≤◌, ◌+◌, OnOk};
 ghost use Rattle.vr_rules.specs.Words.{take};
 ghost use Rattle.vr_view.specs.Logs.{MayTake};
-ghost use Rattle.vr_journal.specs.Acts.{Acts, MayAct};
+ghost use Rattle.vr_actions.specs.Acts.{Acts, MayAct};
 
 use std::alloc::Global;
+use vr_actions::{Halt, Log, Replica, save};
 use vr_disk::SectorDisk;
-use vr_journal::{Halt, Log, Replica, save};
 use vr_msg::Outbox;
 
 /// Where a log ends.
@@ -30,7 +30,7 @@ pub fn commit_of(log: &Log) -> u64
 /// acknowledgements, heard and statements dropped, idle 0; the commit number is the greater. `MayTake`:
 /// it is newer, fits and is a chain. After an `Err` the disk has had its calls up to the stop; of
 /// replica and outputs nothing is said.
-#[tactic(auto, using(vr_rules::proofs::Stepping::steps, vr_rules::proofs::Versions::taken_stays, crate::proofs::Takes::takes, vr_memory::proofs::Memory::window_of), unfolding(vr_rules::specs::Words::take))]
+#[tactic(auto, using(vr_rules::proofs::Stepping::steps, vr_rules::proofs::Versions::taken_stays, crate::proofs::Takes::takes, vr_volatile::proofs::Memory::window_of), unfolding(vr_rules::specs::Words::take))]
 pub fn take<D: SectorDisk>(
     replica: &mut Replica,
     alloc: Global,

@@ -1,20 +1,20 @@
 //! Try: the primary of a view that isn't started chooses the log with which it begins.
 ghost use Rattle.std.specs.Prelude.{◌≡◌, ◌<◌, ◌≤◌, ◌+◌, ◌^◌, ◌++◌, IfOk, OnOk, ◌&&◌, if◌then◌else◌, length, nat_le, nat_lt, not};
 ghost use Rattle.vr_base.specs.Replicas.{size};
-ghost use Rattle.vr_memory.specs.Ready.{IsReady};
+ghost use Rattle.vr_volatile.specs.Ready.{IsReady};
 ghost use Rattle.vr_rules.specs.Replica.{is_alone, is_primary, is_started, last_view, view_change};
 ghost use Rattle.vr_rules.specs.Words.{advance, apply, begin_view, choose_line, chosen_log, decided, log_end, obey_choice, prepare_again, speak, stated, try, try_log};
 ghost use Rattle.vr_view.specs.Logs.{IsTaught, MayTake};
-ghost use Rattle.vr_journal.specs.Telling.{each_to};
-ghost use Rattle.vr_journal.specs.Acts.{Acts, MayAct, MaySend};
+ghost use Rattle.vr_actions.specs.Telling.{each_to};
+ghost use Rattle.vr_actions.specs.Acts.{Acts, MayAct, MaySend};
 
 use crate::taking::{commit_of, head_of, take};
 use std::alloc::{AllocError, Global};
+use vr_actions::{Halt, Log, Replica, advance, apply, prepare_again};
 use vr_base::{Seq, quorums};
 use vr_choose::{choose, top_commit, top_view};
 use vr_disk::SectorDisk;
 use vr_header::HeaderList;
-use vr_journal::{Halt, Log, Replica, advance, apply, prepare_again};
 use vr_msg::{Choice, Outbox, Statement};
 
 // The op of the last header, or the commit number where there is none.
@@ -70,7 +70,7 @@ fn decide(
 // reads, a prepare of it goes to each other replica. One that is `Here` and doesn't read becomes
 // `Lost`. The saved value stays. The disk is left as it is; after an `Err` nothing is said of replica
 // and outputs.
-#[tactic(auto, using(vr_journal::proofs::Goes::goes))]
+#[tactic(auto, using(vr_actions::proofs::Goes::goes))]
 fn prepare_all<D: SectorDisk>(
     replica: &mut Replica,
     alloc: Global,
@@ -163,7 +163,7 @@ fn begin_view<D: SectorDisk>(
 // with the log's head is put out, and nothing else is done. `IsTaught`: the headers are those of
 // entries of the group, of a view that may be entered. After an `Err` the disk has had its calls up to
 // the stop; of replica and outputs nothing is said.
-#[tactic(auto, using(vr_rules::proofs::Stepping::steps, crate::proofs::Takes::may_take_now, vr_memory::proofs::Memory::window_of), unfolding(vr_rules::specs::Words::try_log))]
+#[tactic(auto, using(vr_rules::proofs::Stepping::steps, crate::proofs::Takes::may_take_now, vr_volatile::proofs::Memory::window_of), unfolding(vr_rules::specs::Words::try_log))]
 fn try_log<D: SectorDisk>(
     replica: &mut Replica,
     alloc: Global,
@@ -199,7 +199,7 @@ fn are_too_few(replica: &Replica) -> bool
 // `wait` line with its op. An end: where the chosen log may be taken, the view begins with it
 // (`begin_view`); else one `wait` line with the log's head. After an `Err` the disk has had its calls
 // up to the stop; of replica and outputs nothing is said.
-#[tactic(auto, using(crate::proofs::Choices::choices, crate::proofs::Choices::chosen_taught, vr_memory::proofs::Memory::window_of, vr_rules::proofs::Stepping::wants))]
+#[tactic(auto, using(crate::proofs::Choices::choices, crate::proofs::Choices::chosen_taught, vr_volatile::proofs::Memory::window_of, vr_rules::proofs::Stepping::wants))]
 fn choose_log<D: SectorDisk>(
     replica: &mut Replica,
     alloc: Global,
@@ -239,7 +239,7 @@ fn may_try(replica: &Replica) -> bool
 /// decide on a log that may be taken, the view begins with it: `choose` line, take and save,
 /// start_views, prepares, apply. Where that may not be taken, one `wait` line with its head is put out.
 /// After an `Err` the disk has had its calls up to the stop; of replica and outputs nothing is said.
-#[tactic(auto, using(crate::proofs::Choices::tries, vr_memory::proofs::Memory::some_member))]
+#[tactic(auto, using(crate::proofs::Choices::tries, vr_volatile::proofs::Memory::some_member))]
 pub fn try_view<D: SectorDisk>(
     replica: &mut Replica,
     alloc: Global,
@@ -271,7 +271,7 @@ fn is_heard(replica: &Replica) -> bool
 /// (`try`), with the log that the statements decide on, and another replica sends one do_view_change
 /// with its statement to the primary. After an `Err` the disk has had its calls up to the stop; of
 /// replica and outputs nothing is said.
-#[tactic(auto, using(vr_rules::proofs::Stepping::steps, vr_memory::proofs::Memory::some_member), unfolding(vr_rules::specs::Words::speak))]
+#[tactic(auto, using(vr_rules::proofs::Stepping::steps, vr_volatile::proofs::Memory::some_member), unfolding(vr_rules::specs::Words::speak))]
 pub fn speak<D: SectorDisk>(
     replica: &mut Replica,
     alloc: Global,

@@ -1,6 +1,6 @@
 use Rattle.std.proofs.Common.{[], ◌∷◌, Some, None, Ok, Err, subst}
 use Rattle.vr_msg.specs.declared.output.Output.TheVariants as output
-use Rattle.vr_lying.specs.Laws.{revived}
+use Rattle.vr_host_disk.specs.Laws.{revived}
 use Rattle.vr_world.specs.Lying.{hazards}
 use Rattle.vr_world.specs.World.{starts}
 use Rattle.vr_opening.specs.Recovering.{RecoveredAny}

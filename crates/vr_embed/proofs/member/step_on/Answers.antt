@@ -2,7 +2,7 @@ use Rattle.std.proofs.Common.{[], ◌∷◌, Some, None}
 use Rattle.vr_msg.specs.declared.output.Output.TheVariants as output
 use Rattle.vr_world.specs.Lying.{hazards}
 use Rattle.vr_world.specs.World.{handles}
-use Rattle.vr_lying.specs.Laws.{revived}
+use Rattle.vr_host_disk.specs.Laws.{revived}
 use Rattle.vr_embed.specs.Told.{told_by}
 use Rattle.vr_embed.proofs.Acting.{acts_from, acts_gone, step_acts, step_halts}
 use Rattle.vr_embed.proofs.member.step_on.Goals as goal

@@ -2,7 +2,7 @@ use Rattle.std.proofs.Common.{◌∙◌, ap, List, [], ◌∷◌, ◌++◌}
 use Rattle.vr_msg.specs.declared.output.Output.{Output}
 use Rattle.vr_msg.specs.declared.output.Output.TheVariants as output
 use Rattle.vr_lie.specs.Told.{version_by}
-use Rattle.vr_lying.specs.Disks.{told_by}
+use Rattle.vr_host_disk.specs.Disks.{told_by}
 use Rattle.vr_group.proofs.Migrates.{ended_acted, halted_acted, halted_told, lost_acted, lost_told, migrated_acted, migrated_told, stopped_host, wanting_told}
 use Rattle.vr_group.proofs.Steps.{none_runs}
 use Rattle.vr_group.proofs.host.migrate_on.Goals as goal

@@ -1,7 +1,7 @@
 use Rattle.std.proofs.Common.{[], Some, Ok, Err, subst}
 use Rattle.vr_opening.specs.Recovering.{RecoveredAny}
 use Rattle.vr_lie.specs.Told.{version_by}
-use Rattle.vr_lying.specs.Disks.{told_by}
+use Rattle.vr_host_disk.specs.Disks.{told_by}
 use Rattle.vr_group.proofs.Steps.{gone_acted, gone_told, halted_acted, host_recovered, lost_acted, lost_told, never_other, none_runs, recovery_halted, recovery_wanting, settled, settled_acted}
 use Rattle.vr_group.proofs.host.recover_on.Goals as goal
 

@@ -2,7 +2,7 @@ use Rattle.std.proofs.Common.{Some}
 use Rattle.vr_lie.specs.Told.{version_by}
 use Rattle.vr_world.specs.Lying.{hazards}
 use Rattle.vr_world.specs.World.{handles}
-use Rattle.vr_lying.specs.Disks.{told_by}
+use Rattle.vr_host_disk.specs.Disks.{told_by}
 use Rattle.vr_group.proofs.Steps.{acted_on, gone_acted, gone_told, halted_acted, host_halted, host_runs, host_wanting, host_went, settled, settled_acted, some_runs}
 use Rattle.vr_group.proofs.host.step_on.Goals as goal
 

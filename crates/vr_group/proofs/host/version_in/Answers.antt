@@ -1,5 +1,5 @@
 use Rattle.std.proofs.Common.{◌∙◌}
-use Rattle.vr_lying.specs.Disks.{told_by}
+use Rattle.vr_host_disk.specs.Disks.{told_by}
 use Rattle.vr_lie.specs.Told.{version_by}
 use Rattle.vr_group.proofs.Migrates.{version_none}
 use Rattle.vr_group.proofs.Steps.{version_same}

@@ -1,6 +1,6 @@
 use Rattle.std.proofs.Common.{rules, ◌∙◌, ap}
 use Rattle.vr_rules.specs.Words.{lost}
-use Rattle.vr_memory.proofs.Memory.{readies}
+use Rattle.vr_volatile.proofs.Memory.{readies}
 use Rattle.vr_repair.proofs.Visits.{found_stored, slot_lost, slot_read_from}
 use Rattle.vr_repair.proofs.visiting.visit_stored.Goals as goal
 

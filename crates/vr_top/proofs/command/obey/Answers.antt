@@ -3,7 +3,7 @@ use Rattle.std.specs.Global.{Global}
 use Rattle.std.specs.Prelude.{String, Vec, string_bytes}
 use Rattle.vr_edge.specs.Attaching.{texts_of}
 use Rattle.vr_top.proofs.Coming.{asks, by_client, by_plan, by_role, obeys, serves, tries}
-use Rattle.vr_words.specs.Asked.{client_says, node_says, trial_says}
+use Rattle.vr_args.specs.Asked.{client_says, node_says, trial_says}
 use Rattle.vr_top.proofs.command.obey.Goals as goal
 
 pub returns-in-Node : goal.returns-in-Node

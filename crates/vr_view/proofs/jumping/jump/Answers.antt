@@ -1,4 +1,4 @@
-use Rattle.vr_memory.proofs.Memory.{stays_ok}
+use Rattle.vr_volatile.proofs.Memory.{stays_ok}
 use Rattle.vr_view.proofs.Jumps.{view_jumped}
 use Rattle.vr_view.proofs.jumping.jump.Goals as goal
 

@@ -3,8 +3,8 @@ use Rattle.vr_base.specs.Bytes.{name_of}
 use Rattle.vr_rules.specs.Rules.{acknowledge_stored}
 use Rattle.vr_rules.specs.Words.{take}
 use Rattle.vr_rules.proofs.Stepping.{does_then}
-use Rattle.vr_journal.specs.Telling.{each_to}
-use Rattle.vr_journal.proofs.Acks.{told_to}
+use Rattle.vr_actions.specs.Telling.{each_to}
+use Rattle.vr_actions.proofs.Acks.{told_to}
 use Rattle.vr_view.proofs.starting.follow.Goals as goal
 
 pub returns : goal.returns

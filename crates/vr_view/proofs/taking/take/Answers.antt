@@ -1,6 +1,6 @@
 use Rattle.std.proofs.lemmas.Bool.{and_parts}
 use Rattle.vr_rules.specs.Words.{may_take}
-use Rattle.vr_memory.proofs.Memory.{stays_ok}
+use Rattle.vr_volatile.proofs.Memory.{stays_ok}
 use Rattle.vr_view.specs.Logs.{MayTake}
 use Rattle.vr_view.proofs.Takes.{view_taken}
 use Rattle.vr_view.proofs.taking.take.Goals as goal

@@ -1,6 +1,6 @@
 use Rattle.std.proofs.Common.{arith, refl, rules}
 use Rattle.vr_rules.specs.Words.{prepare_again}
-use Rattle.vr_journal.proofs.Goes.{over_ends, over_stops}
+use Rattle.vr_actions.proofs.Goes.{over_ends, over_stops}
 use Rattle.vr_view.proofs.trying.prepare_all.Goals as goal
 
 pub returns-in-Err-clause-acts : goal.returns-in-Err-clause-acts

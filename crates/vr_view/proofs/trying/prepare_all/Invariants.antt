@@ -1,7 +1,7 @@
 use Rattle.std.proofs.Common.{◌≡◌}
 use Rattle.vr_rules.specs.Words.{prepare_again}
-use Rattle.vr_memory.specs.Ready.{IsReady}
-use Rattle.vr_journal.proofs.Goes.{GoesOver}
+use Rattle.vr_volatile.specs.Ready.{IsReady}
+use Rattle.vr_actions.proofs.Goes.{GoesOver}
 use Rattle.vr_view.proofs.trying.prepare_all.Given as goal
 
 abbrev pub invariant-loop-i : goal.invariant-loop-i

@@ -1,7 +1,7 @@
 use Rattle.std.proofs.Common.{◌≡◌, ◌≤◌, refl, ap, subst}
 use Rattle.vr_world.specs.Lying.{Lying, blank_lying}
-use Rattle.vr_lying.specs.Disks.{told_by}
-use Rattle.vr_lying.specs.Told.{lying_in}
+use Rattle.vr_host_disk.specs.Disks.{told_by}
+use Rattle.vr_host_disk.specs.Told.{lying_in}
 use Rattle.vr_group.proofs.Steps.{fresh_host_made}
 use Rattle.vr_group.proofs.host.Host.new.Goals as goal
 

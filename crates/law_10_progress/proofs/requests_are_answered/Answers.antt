@@ -1,5 +1,0 @@
-use Rattle.law_10_progress.proofs.Answering.{requests_are_answered}
-use Rattle.law_10_progress.proofs.requests_are_answered.Goals as goal
-
-pub returns : goal.returns
-returns c = requests_are_answered

@@ -1,5 +1,0 @@
-use Rattle.law_10_progress.proofs.Trying.{whole_quorums_decide}
-use Rattle.law_10_progress.proofs.whole_quorums_decide.Goals as goal
-
-pub returns : goal.returns
-returns g c = whole_quorums_decide

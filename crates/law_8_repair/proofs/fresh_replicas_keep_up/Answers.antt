@@ -1,5 +1,0 @@
-use Rattle.law_8_repair.proofs.KeepingUp.{fresh_keep_up}
-use Rattle.law_8_repair.proofs.fresh_replicas_keep_up.Goals as goal
-
-pub returns : goal.returns
-returns c = fresh_keep_up

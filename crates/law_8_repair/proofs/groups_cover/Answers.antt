@@ -1,5 +1,0 @@
-use Rattle.law_8_repair.proofs.GroupPlaces.{groups_cover}
-use Rattle.law_8_repair.proofs.groups_cover.Goals as goal
-
-pub returns : goal.returns
-returns c = groups_cover

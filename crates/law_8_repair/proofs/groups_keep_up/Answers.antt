@@ -1,5 +1,0 @@
-use Rattle.law_8_repair.proofs.GroupMoves.{groups_keep_up}
-use Rattle.law_8_repair.proofs.groups_keep_up.Goals as goal
-
-pub returns : goal.returns
-returns c = groups_keep_up

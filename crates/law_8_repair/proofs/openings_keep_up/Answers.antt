@@ -1,5 +1,0 @@
-use Rattle.law_8_repair.proofs.KeepingUp.{openings_keep_up}
-use Rattle.law_8_repair.proofs.openings_keep_up.Goals as goal
-
-pub returns : goal.returns
-returns g c = openings_keep_up

@@ -1,0 +1,5 @@
+use Rattle.law_progress.proofs.Trying.{whole_quorums_begin}
+use Rattle.law_progress.proofs.whole_quorums_begin.Goals as goal
+
+pub returns : goal.returns
+returns g c = whole_quorums_begin

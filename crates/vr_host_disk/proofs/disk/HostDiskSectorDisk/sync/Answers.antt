@@ -1,0 +1,16 @@
+use Rattle.std.proofs.Common.{rules}
+use Rattle.vr_disk.specs.DiskState.{Sync}
+use Rattle.vr_lie.specs.Told.{held_by, told_by, version_by}
+use Rattle.vr_host_disk.proofs.Telling.{told_one}
+use Rattle.vr_host_disk.proofs.disk.HostDiskSectorDisk.sync.Goals as goal
+
+pub returns : goal.returns
+returns c =
+    let old = c.args.self.now.lie in
+    let new = c.sync.new.self in
+    record {
+      told = told_one (version_by old) (version_by new) (told_by old) (told_by new) Sync _ (held_by old) (held_by new) c.sync.ensures.version old.table.count new.table.count c.sync.ensures.told c.sync.ensures.held;
+      cause = search rules;
+      others = search rules;
+      version = search rules;
+    }

@@ -1,5 +1,0 @@
-use Rattle.vr_journal.proofs.Acks.{Acking}
-use Rattle.vr_journal.proofs.acknowledging.acknowledge_all.Given as goal
-
-abbrev pub invariant-loop-i : goal.invariant-loop-i
-invariant-loop-i l = Acking l.commit l.head l.i l.replica l.initial.out l.out

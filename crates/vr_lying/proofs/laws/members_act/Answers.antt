@@ -1,5 +1,0 @@
-use Rattle.vr_lying.proofs.Acting.{acts_go, acts_halt}
-use Rattle.vr_lying.proofs.laws.members_act.Goals as goal
-
-pub returns : goal.returns
-returns c = record { go = acts_go; halt = acts_halt }

@@ -1,5 +1,0 @@
-use Rattle.vr_lying.proofs.Runs.{runs_cut, runs_went}
-use Rattle.vr_lying.proofs.laws.runs_tell.Goals as goal
-
-pub returns : goal.returns
-returns c = record { well = runs_went; cut = runs_cut }

@@ -1,6 +1,0 @@
-use Rattle.std.proofs.Common.{◌≡◌, drop}
-use Rattle.vr_memory.specs.Absent.{first_absent}
-use Rattle.vr_memory.proofs.repairing.first_absent.Given as goal
-
-abbrev pub invariant-loop-i : goal.invariant-loop-i
-invariant-loop-i l = first_absent (drop l.from l.parts) ≡ first_absent (drop l.i l.parts)

@@ -1,7 +1,0 @@
-use Rattle.std.proofs.Common.{◌≡◌, ◌++◌}
-use Rattle.vr_rules.specs.Outputs.{prepare}
-use Rattle.vr_memory.specs.Sends.{sends}
-use Rattle.vr_memory.proofs.replica.Replica.send_prepare.Given as goal
-
-abbrev pub invariant-loop-to : goal.invariant-loop-to
-invariant-loop-to l = l.out ≡ l.initial.out ++ sends l.self.index l.to (prepare l.entry l.self)

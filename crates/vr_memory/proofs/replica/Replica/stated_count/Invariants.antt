@@ -1,9 +1,0 @@
-use Rattle.std.proofs.Common.{◌≡◌, ◌≤◌, length}
-use Rattle.vr_memory.specs.States.{stated_to}
-use Rattle.vr_memory.proofs.replica.Replica.stated_count.Given as goal
-
-abbrev pub invariant-loop-i : goal.invariant-loop-i
-invariant-loop-i l = record {
-  count : l.count ≡ length (stated_to l.self l.i);
-  within : l.count ≤ l.i;
-}

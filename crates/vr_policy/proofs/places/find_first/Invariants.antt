@@ -1,5 +1,0 @@
-use Rattle.vr_policy.specs.Places.{IsFirst}
-use Rattle.vr_policy.proofs.places.find_first.Given as goal
-
-abbrev pub invariant-loop-at : goal.invariant-loop-at
-invariant-loop-at l = IsFirst l.newcomer l.guests l.at l.found

@@ -1,5 +1,0 @@
-use Rattle.vr_policy.specs.Senders.{IsOldest}
-use Rattle.vr_policy.proofs.ports.oldest.Given as goal
-
-abbrev pub invariant-loop-at : goal.invariant-loop-at
-invariant-loop-at g l = IsOldest l.others l.at l.oldest

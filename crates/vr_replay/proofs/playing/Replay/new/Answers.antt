@@ -1,6 +1,0 @@
-use Rattle.std.proofs.Common.{refl}
-use Rattle.vr_replay.proofs.Streams.{sound_at_first}
-use Rattle.vr_replay.proofs.playing.Replay.new.Goals as goal
-
-pub returns-clause-sound : goal.returns-clause-sound
-returns-clause-sound c = sound_at_first _ c.empty.ensures.live refl c.new.ensures

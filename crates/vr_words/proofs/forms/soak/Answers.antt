@@ -1,7 +1,0 @@
-use Rattle.vr_words.proofs.Forming.{wanting_same}
-use Rattle.vr_words.specs.Forms.{soak}
-use Rattle.vr_words.proofs.forms.soak.Goals as goal
-
-pub returns-clause-form : goal.returns-clause-form
-unfolding soak
-returns-clause-form c = wanting_same c.with_wanted.result _ _ _ c.plain.ensures.form c.with_wanted.ensures.form
