@@ -15,7 +15,9 @@ FORWARDED = (signal.SIGTERM, signal.SIGINT, signal.SIGHUP, signal.SIGQUIT, signa
 
 
 def end_with_parent() -> None:
-    """In the child: it is killed where its parent is, since nothing can be passed on then; and it hears signals again."""
+    """In the child: it is killed where its parent is, since nothing can be passed on then; and it hears signals again. A data file that it makes holds all
+    keys and values, and is for its owner alone."""
+    os.umask(0o077)
     try:
         ctypes.CDLL(None).prctl(DEATH_SIGNAL, signal.SIGKILL)
     except (OSError, AttributeError):

@@ -55,6 +55,12 @@ class Same(unittest.TestCase):
                 self.assertEqual(child.wait(30), -number)
                 self.assertEqual(call(["flock", "-n", f"{folder}/0", "true"]).returncode, 0)  # and the member is gone
 
+    def test_a_data_file_is_for_its_owner_alone(self):
+        with tempfile.TemporaryDirectory() as folder:
+            self.addCleanup(os.umask, os.umask(0))
+            self.assertEqual(call([NOZHGIVA, "node", "5", "0", f"{folder}/0", "1", A, B, "--fresh"]).returncode, 0)
+            self.assertEqual(oct(os.stat(f"{folder}/0").st_mode & 0o777), "0o600")
+
     def test_a_killed_one_leaves_no_member(self):
         with tempfile.TemporaryDirectory() as folder:
             child = subprocess.Popen([NOZHGIVA, "node", "5", "0", f"{folder}/0", "1000000", A, B, "--fresh"], stdout=subprocess.PIPE)

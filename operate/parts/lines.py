@@ -1,6 +1,6 @@
 """The lines that a member writes (docs/SCHEDULE.md, "Lines of the output"), as far as an operator's scripts look at them."""
 
-from typing import Iterable, List, NamedTuple, Optional, Tuple
+from typing import Callable, Iterable, List, NamedTuple, Optional, Tuple
 
 LONGEST = 4096  # bytes; the longest line that a member writes has some 1,300
 
@@ -97,6 +97,11 @@ def without_value(text: bytes) -> bytes:
     if len(words) <= place or words[at] != says:
         return text
     return b" ".join(words[:place] + [b"*"])
+
+
+def spelling(no_values: bool) -> Callable[[bytes], bytes]:
+    """What gives the text that is written of a line."""
+    return without_value if no_values else bytes
 
 
 class Splitter:

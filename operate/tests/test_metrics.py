@@ -85,6 +85,15 @@ class Metrics(Keeping):
         os.unlink(kept.file)
         self.assertTrue(is_told(member_has_state="0", member_trouble_no_file="1"))
 
+    def test_the_file_of_a_member_that_asks_for_blocks_is_looked_at_soon(self):
+        """Within some seconds, and not only within a minute, though nobody asks for its health; and though what it asks for is nothing that it lacks."""
+        port = free_ports(1)[0]
+        kept = self.keep("say start 0 view 0 log_view 0 commit 0\nwait 7\nbeat 90 send 1 0 1 get_block 4", "--metrics", port, "--patience", "0")
+        self.assertTrue(kept.until(lambda: bool(kept.ask("health"))))
+        self.assertTrue(kept.until(lambda: 'file_info version="1"' in read(self.get(port)) and int(read(self.get(port))["lines_total"]) > 3))
+        os.unlink(kept.file)
+        self.assertTrue(kept.until(lambda: read(self.get(port))['member_trouble trouble="no_file"'] == "1", 25))
+
     @unittest.skipUnless(shutil.which("promtool"), "no promtool (Debian's prometheus)")
     def test_the_format(self):
         port = free_ports(1)[0]
