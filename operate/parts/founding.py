@@ -72,7 +72,7 @@ class Ear:
 
     def hear(self, one: socket.socket) -> None:
         data = one.recv(LARGEST)
-        if not data:
+        if not data and self.is_stream:
             self.selector.unregister(one)
             one.close()
         for header in messages(data):
@@ -98,7 +98,8 @@ class Ear:
 
     def close(self) -> None:
         for key in list(self.selector.get_map().values()):
-            key.fileobj.close()
+            if isinstance(key.fileobj, socket.socket):
+                key.fileobj.close()
         self.selector.close()
 
 

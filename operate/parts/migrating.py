@@ -2,7 +2,7 @@
 
 What stops, starts, moves, looks and waits is handed in, so that this is a function of what the members and their files tell."""
 
-from typing import Callable, Dict, List, NamedTuple, Optional, Set
+from typing import Any, Callable, Dict, List, NamedTuple, Optional, Set, Tuple
 
 from . import rolling
 from .rolling import LOOK, SLACK, Bounds, Health, Stopped
@@ -36,7 +36,7 @@ class Hands(NamedTuple):
     release: None = None
 
 
-def file_of(told: Dict) -> File:
+def file_of(told: Dict[str, Any]) -> File:
     """The file that `inspect FILE json` tells of; ValueError where it is no member's."""
     try:
         places = {kind: {f"{what} {number}" for what, number in found if what != "copy"} for kind, found in told["places"].items()}
@@ -92,7 +92,7 @@ class Walk:
             return [left] if left else []
         return [[member] for member in left]
 
-    def comes_last(self, member: int) -> tuple:
+    def comes_last(self, member: int) -> Tuple[bool, int]:
         return (self.hands.health(member) or {}).get("state") == "leads", member
 
     # The walk.
