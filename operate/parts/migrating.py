@@ -32,8 +32,10 @@ class Hands(NamedTuple):
     sleep: Callable[[float], None]
     clock: Callable[[], float]
     say: Callable[[str], None]
-    hold: None = None  # clients aren't held here
-    release: None = None
+
+    def as_rolling(self) -> rolling.Hands:
+        """Those of a roll that only waits: clients aren't held here."""
+        return rolling.Hands(self.health, self.start, None, None, self.sleep, self.clock, self.say)
 
 
 def file_of(told: Dict[str, Any]) -> File:
@@ -136,7 +138,7 @@ class Walk:
         if not self.has_handed_over() and (len(self.moved) >= HANDOVER[self.size] or (self.size == 2 and self.moved)):
             return  # neither version has a quorum
         answering = self.moved if self.has_handed_over() else [member for member in self.members if member not in self.moved]
-        rolling.wait_for_whole(self.hands, answering, batch, self.bounds.whole if self.revived else self.bounds.hold)
+        rolling.wait_for_whole(self.hands.as_rolling(), answering, batch, self.bounds.whole if self.revived else self.bounds.hold)
         self.commit = max([self.commit] + [rolling.number(self.hands.health(member), "commit") for member in answering])
 
     def move(self, batch: List[int]) -> None:
@@ -185,7 +187,7 @@ class Walk:
             return
         self.await_leader(began)
         for member in self.moved if len(self.moved) == HANDOVER[self.size] else batch:
-            spent = rolling.settle(self.hands, self.moved, member, self.bounds, ANY_AGE)
+            spent = rolling.settle(self.hands.as_rolling(), self.moved, member, self.bounds, ANY_AGE)
             self.hands.say(f"member {member} applies what the others commit, {spent:.1f} s later")
 
     def await_process(self, member: int, began: float, age: float = 0.0) -> None:
