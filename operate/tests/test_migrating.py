@@ -188,16 +188,20 @@ class Lock(unittest.TestCase):
         loader.exec_module(script)
         cluster = os.getpid() + 2 ** 40
         lock = script.take_lock(cluster)
-        path = os.readlink(f"/proc/self/fd/{lock}")
-        self.addCleanup(os.unlink, path)
         child = subprocess.Popen(["sleep", "1"], pass_fds=[lock])
         self.addCleanup(child.wait)
-        os.close(lock)
+        script.drop_lock(lock, cluster)
+        self.assertTrue(os.path.exists(script.lock_path(cluster)))
         with self.assertRaisesRegex(Stopped, f"another walk through group {cluster}, or a command of one that was killed, still runs"):
             script.take_lock(cluster, 0.1)
         self.assertIsNone(child.poll())
-        os.close(script.take_lock(cluster, 30.0))
+        lock = script.take_lock(cluster, 30.0)
         self.assertIsNotNone(child.wait())
+        other = os.open(script.lock_path(cluster), os.O_RDWR)
+        self.addCleanup(os.close, other)
+        script.drop_lock(lock, cluster)
+        self.assertFalse(script.is_taken(other, script.lock_path(cluster)))  # it was removed meanwhile: whoever waited for it takes the next one
+        self.assertFalse(os.path.exists(script.lock_path(cluster)))
 
 
 SLOT = 5 % datafile.SLOTS
