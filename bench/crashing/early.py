@@ -40,8 +40,10 @@ def hasty(recording: Recording) -> Recording:
 
 
 def swapped(calls: List[Call]) -> List[Call]:
-    found = list(calls)
-    for at, call in enumerate(calls[1:], 1):
-        if call.kind == "send" and calls[at - 1].kind == "sync":
-            found[at - 1], found[at] = call, calls[at - 1]
+    found, last = list(calls), 0
+    for at, call in enumerate(calls):
+        if call.kind == "send" and calls[last].kind == "sync":
+            found[last:at + 1] = [*calls[last + 1:at + 1], calls[last]]
+        if call.kind != "line":
+            last = at
     return found

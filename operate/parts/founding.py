@@ -12,7 +12,7 @@ from .probing import HEADER, LARGEST, TCP, Probe, where_of
 PREPARE, COMMIT, START_VIEW = 6, 8, 11
 TOLD = (PREPARE, COMMIT, 10, START_VIEW, 14, 19)  # messages of a member that hold the number of an operation of its log
 LEADING = (COMMIT, START_VIEW)  # those in which whoever leads tells of its whole log
-PATIENCE = 1.0  # seconds for the answers, and as many again for what a primary sends: it does each 100 ms
+PATIENCE, HEARING = 1.0, 3.0  # seconds for the answers, and for what a primary sends: it does each 100 ms, once it has a stream
 ADVICE = ("A member that lost its file can't be made again: it would have forgotten what it promised. A group that still answers is moved to a new one "
           "(docs/BACKUP.md); --anyway makes it all the same")
 
@@ -72,7 +72,7 @@ class Ear:
 
     def hear(self, one: socket.socket) -> None:
         data = one.recv(LARGEST)
-        if not data:
+        if not data and self.is_stream:
             self.selector.unregister(one)
             one.close()
         for header in messages(data):
@@ -98,7 +98,8 @@ class Ear:
 
     def close(self) -> None:
         for key in list(self.selector.get_map().values()):
-            key.fileobj.close()
+            if isinstance(key.fileobj, socket.socket):
+                key.fileobj.close()
         self.selector.close()
 
 
@@ -109,7 +110,7 @@ def refusal(cluster: int, member: int, addresses: List[str], patience: float = P
     if len(probe.refused) == len(addresses):
         return ""
     ear = Ear(cluster, len(addresses), addresses[member])
-    ear.listen(patience)
+    ear.listen(HEARING)
     ear.close()
     running: Dict[int, Optional[int]] = {**ear.members, **{number: place for place, number in probe.places.items()}}
     return judge(cluster, member, addresses, Heard(running, ear.head), ear.why)

@@ -2,7 +2,7 @@
 
 What stops, starts, moves, looks and waits is handed in, so that this is a function of what the members and their files tell."""
 
-from typing import Callable, Dict, List, NamedTuple, Optional, Set
+from typing import Any, Callable, Dict, List, NamedTuple, Optional, Set, Tuple
 
 from . import rolling
 from .rolling import LOOK, SLACK, Bounds, Health, Stopped
@@ -32,11 +32,13 @@ class Hands(NamedTuple):
     sleep: Callable[[float], None]
     clock: Callable[[], float]
     say: Callable[[str], None]
-    hold: None = None  # clients aren't held here
-    release: None = None
+
+    def as_rolling(self) -> rolling.Hands:
+        """Those of a roll that only waits: clients aren't held here."""
+        return rolling.Hands(self.health, self.start, None, None, self.sleep, self.clock, self.say)
 
 
-def file_of(told: Dict) -> File:
+def file_of(told: Dict[str, Any]) -> File:
     """The file that `inspect FILE json` tells of; ValueError where it is no member's."""
     try:
         places = {kind: {f"{what} {number}" for what, number in found if what != "copy"} for kind, found in told["places"].items()}
@@ -92,7 +94,7 @@ class Walk:
             return [left] if left else []
         return [[member] for member in left]
 
-    def comes_last(self, member: int) -> tuple:
+    def comes_last(self, member: int) -> Tuple[bool, int]:
         return (self.hands.health(member) or {}).get("state") == "leads", member
 
     # The walk.
@@ -136,7 +138,7 @@ class Walk:
         if not self.has_handed_over() and (len(self.moved) >= HANDOVER[self.size] or (self.size == 2 and self.moved)):
             return  # neither version has a quorum
         answering = self.moved if self.has_handed_over() else [member for member in self.members if member not in self.moved]
-        rolling.wait_for_whole(self.hands, answering, batch, self.bounds.whole if self.revived else self.bounds.hold)
+        rolling.wait_for_whole(self.hands.as_rolling(), answering, batch, self.bounds.whole if self.revived else self.bounds.hold)
         self.commit = max([self.commit] + [rolling.number(self.hands.health(member), "commit") for member in answering])
 
     def move(self, batch: List[int]) -> None:
@@ -185,7 +187,7 @@ class Walk:
             return
         self.await_leader(began)
         for member in self.moved if len(self.moved) == HANDOVER[self.size] else batch:
-            spent = rolling.settle(self.hands, self.moved, member, self.bounds, ANY_AGE)
+            spent = rolling.settle(self.hands.as_rolling(), self.moved, member, self.bounds, ANY_AGE)
             self.hands.say(f"member {member} applies what the others commit, {spent:.1f} s later")
 
     def await_process(self, member: int, began: float, age: float = 0.0) -> None:

@@ -1,5 +1,6 @@
 """A group is moved to version 2: by what played members and files tell, and with real ones. Without the built program the real ones are left out."""
 
+import argparse
 import os
 import subprocess
 import sys
@@ -186,18 +187,24 @@ class Lock(unittest.TestCase):
         loader = SourceFileLoader("migrate_group", os.path.join(HERE, "migrate-group"))
         script = module_from_spec(spec_from_loader(loader.name, loader))
         loader.exec_module(script)
-        cluster = os.getpid() + 2 ** 40
-        lock = script.take_lock(cluster)
-        path = os.readlink(f"/proc/self/fd/{lock}")
-        self.addCleanup(os.unlink, path)
-        child = subprocess.Popen(["sleep", "1"], pass_fds=[lock])
+        words = argparse.Namespace(cluster=CLUSTER, stop=f"stop {os.getpid()}", start="start", migrate="move")
+        path = script.lock_path(words)
+        self.assertNotEqual(path, script.lock_path(argparse.Namespace(**dict(vars(words), stop="stop"))))
+        lock = script.take_lock(path)
+        child = subprocess.Popen(["sleep", "3"], pass_fds=[lock])
         self.addCleanup(child.wait)
-        os.close(lock)
-        with self.assertRaisesRegex(Stopped, f"another walk through group {cluster}, or a command of one that was killed, still runs"):
-            script.take_lock(cluster, 0.1)
+        script.drop_lock(lock, path)
+        self.assertTrue(os.path.exists(path))
+        with self.assertRaisesRegex(Stopped, "another walk through this group, or a command of one that was killed, still runs"):
+            script.take_lock(path, 0.1)
         self.assertIsNone(child.poll())
-        os.close(script.take_lock(cluster, 30.0))
+        lock = script.take_lock(path, 30.0)
         self.assertIsNotNone(child.wait())
+        other = os.open(path, os.O_RDWR)
+        self.addCleanup(os.close, other)
+        script.drop_lock(lock, path)
+        self.assertFalse(script.is_taken(other, path))  # it was removed meanwhile: whoever waited for it takes the next one
+        self.assertFalse(os.path.exists(path))
 
 
 SLOT = 5 % datafile.SLOTS

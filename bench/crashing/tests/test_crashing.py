@@ -156,8 +156,12 @@ class Early(unittest.TestCase):
             with self.subTest(str([call.kind for call in calls])):
                 recording = scenarios.Recording(scenarios.SCENARIOS[0], [scenarios.part_of(calls, 0)], Log())
                 self.assertEqual([sent.at for sent in early.early([recording])], places)
-        recording = scenarios.Recording(scenarios.SCENARIOS[0], [scenarios.part_of([write(0, 7), sync(), send], 0)], Log())
-        self.assertEqual([str(sent) for sent in early.early([early.hasty(recording)])], ["fresh-strict 0 1: early: a message leaves while 1 sectors aren't synced"])
+        line = Call("line", 0, 0, 0, b"send 0 to 1 prepare\n")
+        for calls, at in (([write(0, 7), sync(), send], 1), ([write(0, 7), sync(), line, line, send, line, send], 3)):
+            recording = scenarios.Recording(scenarios.SCENARIOS[0], [scenarios.part_of(calls, 0)], Log())
+            planted = early.hasty(recording)
+            self.assertEqual(sorted(map(id, planted.parts[0].calls)), sorted(map(id, calls)))
+            self.assertEqual([str(sent) for sent in early.early([planted])], [f"fresh-strict 0 {at}: early: a message leaves while 1 sectors aren't synced"])
 
 
 class Groups(unittest.TestCase):
