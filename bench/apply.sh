@@ -3,6 +3,7 @@
 # 128 keys, and of the same in plain Rust with std's BTreeMap; instructions, bytes and allocations of one encoding of a
 # full state. Needs valgrind, and rustc for the second.
 . "$(dirname "$0")/../command/help.sh"
+no_words "$@"
 set -eu
 top=$(cd "$(dirname "$0")/.." && pwd)
 work=$(mktemp -d)

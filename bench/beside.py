@@ -15,6 +15,7 @@ import http.client
 import json
 import os
 import re
+import shutil
 import signal
 import statistics
 import subprocess
@@ -239,12 +240,28 @@ def report(make, puts):
         print(f"{members.name}: its primary {name}, the next put is answered after {statistics.median(times):.0f} ms ({min(times):.0f} to {max(times):.0f})", flush=True)
 
 
+def parse_words():
+    """The folder and how many puts; other words, or a missing tool, end the script with 2."""
+    words = sys.argv[1:]
+    missing = [tool for tool in ("unshare", "ip", "cc", "etcd", "strace") if shutil.which(tool) is None]
+    if len(words) > 2 or words and not os.path.isdir(words[0]) or words[1:] and not (words[1].isdecimal() and int(words[1])):
+        sys.exit(refuse("usage: bench/beside.py [FOLDER [PUTS]]: a folder that is there, and 1 or more"))
+    if missing:
+        sys.exit(refuse(f"beside.py: there is no {', '.join(missing)}"))
+    return words[0] if words else None, int(words[1]) if words[1:] else 300
+
+
+def refuse(text):
+    print(text, file=sys.stderr)
+    return 2
+
+
 def main():
+    parent, puts = parse_words()
     if "BESIDE_ALONE" not in os.environ:
         os.environ["BESIDE_ALONE"] = "1"
         os.execvp("unshare", ["unshare", "-n", "bash", "-c", 'ip link set lo up && exec "$@"', "bash", sys.executable, *sys.argv])
-    puts = int(sys.argv[2]) if len(sys.argv) > 2 else 300
-    with tempfile.TemporaryDirectory(dir=sys.argv[1] if len(sys.argv) > 1 else None) as folder:
+    with tempfile.TemporaryDirectory(dir=parent) as folder:
         client = f"{folder}/etcd-client"
         subprocess.run(["cc", "-O2", "-o", client, ROOT / "bench/node/etcd.c"], check=True)
         print(f"machine: {os.cpu_count()} processors, load {' '.join(Path('/proc/loadavg').read_text().split()[:3])}, kernel {os.uname().release}, {puts} puts a count")

@@ -10,6 +10,7 @@
 set -eu
 [ $# -le 1 ] || { echo "usage: bench/caches.sh [FOLDER]" >&2; exit 2; }
 command -v valgrind > /dev/null || { echo "bench/caches.sh: valgrind is missing" >&2; exit 2; }
+case ${1-} in -*) echo "usage: bench/caches.sh [FOLDER]" >&2; exit 2 ;; esac
 folder=${1:-$(mktemp -d)}
 mkdir -p "$folder"
 folder=$(realpath "$folder")

@@ -2,6 +2,7 @@
 # Instructions of one choice of a log: six replicas, statements of four, 64 open ops, the last statement
 # the only one of the greatest log view.
 . "$(dirname "$0")/../command/help.sh"
+no_words "$@"
 set -eu
 top=$(cd "$(dirname "$0")/.." && pwd)
 work=$(mktemp -d)

@@ -2,6 +2,7 @@
 # Instructions of encoding and of decoding a prepare with a put of a value of 1,024 bytes, and a start_view with 64 headers, beside
 # those of the digests alone: of SHA-256 over the texts whose names the message has. Needs valgrind.
 . "$(dirname "$0")/../command/help.sh"
+no_words "$@"
 set -eu
 top=$(cd "$(dirname "$0")/.." && pwd)
 work=$(mktemp -d)

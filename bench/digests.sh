@@ -9,6 +9,7 @@
 #   bench/digests.sh
 # Needs bash, awk and valgrind.
 . "$(dirname "$0")/../command/help.sh"
+no_words "$@"
 set -eu
 cd "$(dirname "$0")/.."
 program=$(command/program) || exit 2

@@ -4,6 +4,7 @@
 # program ends otherwise or writes anything.
 #   bench/limit.sh
 . "$(dirname "$0")/../command/help.sh"
+no_words "$@"
 set -eu
 cd "$(dirname "$0")/.."
 program=$(command/program) || exit 2

@@ -4,6 +4,7 @@
 # It ends with status 1 where a message of another group costs above 1.1 times one of another version, or where one is taken that isn't its
 # receiver's, or isn't taken that is.
 . "$(dirname "$0")/../command/help.sh"
+no_words "$@"
 set -eu
 top=$(cd "$(dirname "$0")/.." && pwd)
 command -v valgrind > /dev/null || { echo "bench/mail.sh: valgrind is missing" >&2; exit 2; }

@@ -10,6 +10,7 @@
 set -eu
 cd "$(dirname "$0")/.."
 program=$(command/program) || exit 2
+case ${1-} in -*) echo "usage: bench/replay.sh [FOLDER]" >&2; exit 2 ;; esac
 folder=${1:-$(mktemp -d)}
 mkdir -p "$folder"
 [ $# -gt 0 ] || trap 'rm -rf "$folder"' EXIT

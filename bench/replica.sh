@@ -4,6 +4,7 @@
 # digests and the calls of the disk that they make; and how many times that the steps take.
 # Needs bash, awk and valgrind.
 . "$(dirname "$0")/../command/help.sh"
+no_words "$@"
 set -eu
 cd "$(dirname "$0")/.."
 program=$(command/program) || exit 2

@@ -12,6 +12,7 @@ program=$(command/program) || exit 2
 folder=$(mktemp -d)
 trap 'rm -rf "$folder"' EXIT
 [ $# -gt 0 ] || set -- 0 3 7
+for seed; do [[ $seed =~ ^[0-9]+$ ]] || { echo "usage: bench/soak.sh [SEED..]: $seed is no number" >&2; exit 2; }; done
 
 # Microseconds and kilobytes of the best of three runs.
 measure() {

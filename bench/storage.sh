@@ -2,6 +2,7 @@
 # Instructions of a slot write, of a checkpoint of a full state of which one payload changed, and of a fault of a disk
 # that lies, beside the digests that they need. Needs valgrind.
 . "$(dirname "$0")/../command/help.sh"
+no_words "$@"
 set -eu
 top=$(cd "$(dirname "$0")/.." && pwd)
 work=$(mktemp -d)

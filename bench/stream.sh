@@ -4,6 +4,7 @@
 # the other. Then how often each run asked for memory, with the stream taken 10 times and not at all: the same. Needs valgrind.
 # It ends with status 1 where a deframer takes above 1.3 times the digests in pieces of 4,096 bytes, loses a message, or asks for memory.
 . "$(dirname "$0")/../command/help.sh"
+no_words "$@"
 set -eu
 top=$(cd "$(dirname "$0")/.." && pwd)
 work=$(mktemp -d)

@@ -3,6 +3,7 @@
 # headers and with 64, beside those of one SHA-256 of the bytes of a copy. A write on a disk in memory makes no digest of the value.
 # Needs valgrind.
 . "$(dirname "$0")/../command/help.sh"
+no_words "$@"
 set -eu
 top=$(cd "$(dirname "$0")/.." && pwd)
 work=$(mktemp -d)

@@ -11,6 +11,8 @@ import time
 from pathlib import Path
 from typing import Callable, FrozenSet, List, NamedTuple, Optional, Tuple
 
+from command import unittests
+
 TOP = Path(os.path.realpath(__file__)).parent.parent
 TABLE = TOP / "command" / "checks.txt"
 MARKS = frozenset(("quick", "time"))
@@ -18,6 +20,8 @@ MARKS = frozenset(("quick", "time"))
 LEAST, TIMES = 60, 10
 LEFT_OUT = re.compile(r""".*skipped (?P<quote>['"])(?P<skipped>.*)(?P=quote)|\s*left out: (?P<told>.*)""")
 LINES_OF_A_FAILURE = 60
+NONE_TRIED = 2  # of a check that could try nothing, which it says (command/unittests.py)
+LONG = 5  # seconds; of what takes longer it is said that it began
 
 
 class Check(NamedTuple):
@@ -111,12 +115,17 @@ class Run:
         """Runs a check, and once more where it rests on time and failed."""
         for is_last in (True,) if "time" not in check.marks else (False, True):
             begun = time.monotonic()
+            if check.seconds > LONG:
+                self.say(f"{check.name}: begins, some {check.seconds} s of a processor")
             status, text = self.ask(check)
             took = f"{time.monotonic() - begun:.0f} s"
             if status == 0:
                 self.passed += 1
                 self.left_out += [f"{check.name}: {why}" for why in parts_left_out(text)]
                 self.say(f"{check.name}: passed in {took}")
+                return
+            if status == NONE_TRIED and any(line.startswith(unittests.NONE_TRIED) for line in text.splitlines()):
+                self.leave_out(check, "; ".join(parts_left_out(text)) or "none of its tests was tried")
                 return
             if status is None and self.left() <= 0:
                 self.leave_out(check, f"no time (it was cut after {took})")

@@ -33,11 +33,18 @@ def spelled(command, body=b"", **fields):
 
 
 def write_rows(crate, given, told):
-    """Writes what a crate is run on and what it must write; with --check they are compared with what stands there."""
+    """Writes what a crate is run on and what it must write; with --check they are compared with what stands there. Other words are refused."""
+    words = sys.argv[1:]
+    if words in (["-h"], ["--help"]):
+        print(sys.modules["__main__"].__doc__)
+        return
+    if words not in ([], ["--check"]):
+        print(f"usage: {sys.argv[0]} [--check]", file=sys.stderr)
+        sys.exit(2)
     folder = os.path.join(os.path.dirname(os.path.abspath(__file__)), "../crates", crate)
     for file, text in [("stdin", given), ("stdout", told)]:
         path = os.path.join(folder, file)
-        if "--check" not in sys.argv[1:]:
+        if not words:
             with open(path, "w") as to:
                 to.write(text)
         elif open(path).read() != text:

@@ -18,6 +18,13 @@ if sys.argv[1:] in (["-h"], ["--help"]):
     sys.exit(0)
 
 
+def no_words() -> None:
+    """Ends a script that takes no words with 2, where it is given some."""
+    if len(sys.argv) > 1:
+        print(f"usage: {os.path.basename(sys.argv[0])}, without words: --help says what it does", file=sys.stderr)
+        sys.exit(2)
+
+
 def program() -> str:
     """The program; without it the script ends. What there is, or isn't, is said on standard error."""
     found = subprocess.run([f"{TOP}/command/program"], stdout=subprocess.PIPE, text=True)

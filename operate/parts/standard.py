@@ -1,5 +1,6 @@
-"""What all scripts share: which program they take where none is named, and how they end where whoever reads them has gone, or they are interrupted."""
+"""What all scripts share: which program they take where none is named, numbers among their words, and how they end where whoever reads them has gone, or they are interrupted."""
 
+import argparse
 import os
 import sys
 from typing import Callable, NoReturn
@@ -15,6 +16,24 @@ def program() -> str:
     if old and not named:
         print("PROGRAM is the old name of NOZHGIVA_PROGRAM, and still read", file=sys.stderr)
     return named or old or "vr_app"
+
+
+def above_0(text: str) -> float:
+    """A number above 0, as argparse takes it: with none of its seconds a trial would try nothing."""
+    try:
+        number = float(text)
+    except ValueError:
+        number = 0.0
+    if not 0 < number < 1e6:
+        raise argparse.ArgumentTypeError(f"it is a number above 0, and not {text}")
+    return number
+
+
+def counted(text: str) -> int:
+    """A number of times, 1 or more, as argparse takes it."""
+    if not text.isdecimal() or not int(text):
+        raise argparse.ArgumentTypeError(f"it is 1 or more, and not {text}")
+    return int(text)
 
 
 def end(main: Callable[[], int]) -> NoReturn:

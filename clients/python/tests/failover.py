@@ -64,6 +64,8 @@ def main():
     parser.add_argument("--tcp", action="store_true", help="over TCP")
     parser.add_argument("--version", type=int, choices=(1, 2), default=1, help="of the group's files (1)")
     words = parser.parse_args()
+    if words.seconds < 1:
+        parser.error("it takes at least a second")
     if words.every <= AWAY:
         parser.error(f"between two kills lies more than the {AWAY:g} s that a member is gone")
     if not is_there(PROGRAM):

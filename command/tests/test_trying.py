@@ -1,0 +1,86 @@
+"""No check passes without having tried something: unknown names are refused, and words where none are taken."""
+
+import os
+import subprocess
+import sys
+import tempfile
+import unittest
+from pathlib import Path
+
+from common import TOP, call
+
+from command import checking
+
+# Scripts, and words that name nothing that they could try.
+NOTHING = (
+    ("bench/slips", "nosuch"), ("bench/slips", "--nosuch"), ("bench/wrong-bodies", "nosuch"), ("bench/paths", "nosuch"), ("bench/pages", "nosuch"), ("bench/crashes", "nosuch"),
+    ("bench/faults", "--only", "nosuch"), ("bench/progress", "nosuch"), ("bench/beside.py", "--nosuch"), ("examples/check", "--nosuch"), ("examples/check", "nosuch"),
+    ("examples/check-all", "nosuch"), ("examples/check-commands", "nosuch"), ("examples/check-commands", "CONTRIBUTING.md", "nosuch"), ("examples/hunt", "nosuch"),
+    ("examples/outage", "nosuch"), ("examples/standstill", "nosuch"), ("examples/soak-check", "nosuch"), ("examples/soak-twice", "nosuch"), ("examples/soak-twice", "0"),
+    ("examples/message-rows", "nosuch"), ("examples/command-rows", "nosuch"), ("operate/check", "nosuch"), ("packaging/check", "nosuch"), ("packaging/check-network", "nosuch"),
+    ("operate/trials/counted", "--minutes", "0"), ("operate/trials/counted", "--seeds", ","), ("operate/trials/deaf", "--cut", "0"), ("operate/trials/faults", "--minutes", "0"),
+    ("operate/trials/restarts", "loop", "--keys", "0"), ("operate/trials/slow", "--seconds", "0"), ("operate/trials/stopped", "--tries", "0"), ("operate/trials/watched", "--minutes", "nan"),
+    ("examples/outage", "0"), ("examples/hunt", "--minutes", "0"), ("bench/progress", "--count", "0"), ("bench/faults", "--minutes", "0"), ("bench/crashes", "--minutes", "0"),
+    ("bench/soak.sh", "nosuch"), ("bench/caches.sh", "--nosuch"), ("bench/replay.sh", "--nosuch"), ("bench/builds.sh", "/bin/true", "/bin/true", "0"),
+    ("clients/python/tests/run", "failover", "--seconds", "0"), ("clients/go/check", "nosuch"), ("clients/vectors/make-messages", "nosuch"), ("command/test", "nosuch"), ("command/test", "--quick", "go", "nosuch"),
+)
+# Scripts that take no words.
+WORDLESS = tuple(f"examples/{name}" for name in (
+    "check-lines", "check-readme", "closed-streams", "crash", "endless", "full-disk", "inspect-check", "migrate", "no-memory", "not-a-file", "reads", "second-process", "silent",
+    "stops", "trial")) + tuple(f"bench/{name}.sh" for name in ("apply", "choice", "codec", "digests", "limit", "mail", "replica", "storage", "stream", "superblock"))
+RUNNERS = ("bench/crashing", "bench/paging", "clients/python", "command", "examples/commanding", "examples/explorer", "examples/hunting", "examples/playing")
+
+
+class Refusals(unittest.TestCase):
+    def refused(self, *words: str) -> None:
+        with self.subTest(words=words):
+            ran = call([str(TOP / words[0]), *words[1:]], where=self.folder.name)
+            self.assertEqual(ran.returncode, 2, ran.stderr)
+            self.assertTrue(ran.stderr.strip(), "it says nothing")
+            self.assertNotIn(b"Traceback", ran.stderr)
+
+    def setUp(self) -> None:
+        self.folder = tempfile.TemporaryDirectory()
+        self.addCleanup(self.folder.cleanup)
+
+    def test_what_names_nothing_is_refused(self) -> None:
+        for words in NOTHING:
+            self.refused(*words)
+
+    def test_words_are_refused_where_none_are_taken(self) -> None:
+        for name in WORDLESS:
+            self.refused(name, "nosuch")
+        self.assertEqual(os.listdir(self.folder.name), [])
+
+    def test_no_times_are_none(self) -> None:
+        for times in ("0", "many"):
+            ran = subprocess.run([TOP / "examples" / "trial"], env={**os.environ, "TIMES": times}, stdout=subprocess.PIPE, stderr=subprocess.PIPE, check=False)
+            self.assertEqual((ran.returncode, ran.stdout), (2, b""))
+
+    def test_help_is_help(self) -> None:
+        for words in sorted({one[0] for one in NOTHING} | set(WORDLESS) | {f"{name}/tests/run" for name in RUNNERS}):
+            for flag in ("-h", "--help"):
+                with self.subTest(script=words, flag=flag):
+                    ran = call([str(TOP / words), flag], where=self.folder.name)
+                    self.assertEqual((ran.returncode, ran.stderr), (0, b""))
+                    self.assertGreater(len(ran.stdout), 50)
+
+    def test_runs_of_no_tests_fail(self) -> None:
+        runner = [sys.executable, str(TOP / "command" / "unittests.py")]
+        Path(self.folder.name, "empty").mkdir()
+        Path(self.folder.name, "test_some.py").write_text(
+            "import unittest\nclass A(unittest.TestCase):\n    @unittest.skip('no browser')\n    def test_a(self): pass\n    def test_b(self): pass\n", encoding="ascii")
+        for words, status in ((["empty"], 2), (["test_some.A.test_a"], 2), (["test_some.A.test_b"], 0), (["discover"], 0), (["test_none"], 1)):
+            with self.subTest(words=words):
+                self.assertEqual(call([*runner, *words], where=self.folder.name).returncode, status)
+        for name in RUNNERS:
+            self.assertIn("unittests.py", (TOP / name / "tests" / "run").read_text(encoding="utf-8"))
+            self.assertIn(call([str(TOP / name / "tests" / "run"), "nosuch"]).returncode, (1, 2))
+
+    def test_each_check_of_the_table_refuses_a_word_of_no_meaning(self) -> None:
+        for one in checking.read_table():
+            self.refused(*one.command, "--nosuch")
+
+
+if __name__ == "__main__":
+    unittest.main()
