@@ -3,7 +3,7 @@
 # In memory, where there is room: what is tried here is no disk. A base system takes more.
 room=$(df -k --output=avail /dev/shm 2> /dev/null | tail -n 1)
 [ -n "${TMPDIR-}$whole" ] || [ "${room:-0}" -lt 500000 ] || export TMPDIR=/dev/shm
-work=$(mktemp -d) left_out=0 keeper=
+work=$(mktemp -d) left_out=0 keeper='' tried=''
 port=$((30000 + $$ * 7 % 9000))
 addresses="127.0.0.1:$port"
 
@@ -16,7 +16,7 @@ trap clean EXIT
 trap 'exit 130' INT TERM
 
 fail() { echo "failed: $*" >&2; exit 1; }
-passed() { echo "$*"; }
+passed() { echo "$*"; tried=1; }
 leave_out() { echo "left out: $*"; left_out=$((left_out + 1)); }
 has() { command -v "$1" > /dev/null; }
 
@@ -47,7 +47,8 @@ try_package() {
         passed "the package: made again, the same bytes"
     fi
     if has lintian; then
-        expect 0 lintian --fail-on error,warning,info --display-info --allow-root "$made"
+        # Bytes of machine code or of symbols may happen to spell a word: whether some do differs from build to build.
+        expect 0 lintian --fail-on error,warning,info --display-info --allow-root --suppress-tags spelling-error-in-binary "$made"
         ! grep -q '^[EWI]:' "$work/said" || fail "lintian: $(cat "$work/said")"
         passed "lintian: nothing"
     else
@@ -55,6 +56,35 @@ try_package() {
     fi
     dpkg-deb -x "$made" "$work/root"
     cmp -s "$NOZHGIVA_PROGRAM" "$work/root/usr/lib/nozhgiva/vr_app" || fail "the program isn't put in as it is"
+    try_contents
+    try_purge
+}
+
+# No test is in the package, and no trial: of what can be run below examples/ there is what `nozhgiva` calls.
+try_contents() {
+    local home=$work/root/usr/lib/nozhgiva found
+    found=$(cd "$home" && find . -name 'test*' -o -name '*_test.*' -o -name '*-test.*' -o -name 'check*' -o -name trials)
+    [ -z "$found" ] || fail "tests are in the package: $found"
+    found=$(cd "$home" && find examples operate -type f -perm -u+x | sort)
+    [ "$found" = "$(python3 -B -c 'from command import commands; print(*sorted(one.calls for one in commands.COMMANDS if one.calls.split("/")[0] in ("examples", "operate")), sep="\n")')" ] \
+        || fail "what can be run in the package isn't what nozhgiva calls: $found"
+    passed "the package: no tests in it"
+}
+
+# A purge removes what is enabled and what was written, and leaves data files.
+try_purge() {
+    local root=$work/purged
+    mkdir -p "$root/etc/systemd/system/multi-user.target.wants" "$root/etc/nozhgiva" "$root/var/log/nozhgiva" "$root/var/lib/nozhgiva"
+    ln -s /usr/lib/systemd/system/nozhgiva@.service "$root/etc/systemd/system/multi-user.target.wants/nozhgiva@0.service"
+    touch "$root/etc/nozhgiva/group" "$root/var/log/nozhgiva/0.log" "$root/var/lib/nozhgiva/0"
+    expect 0 env DPKG_ROOT="$root" sh packaging/debian/postrm remove
+    [ -L "$root/etc/systemd/system/multi-user.target.wants/nozhgiva@0.service" ] || fail "a removal disables the unit, which a new installation starts again"
+    expect 0 env DPKG_ROOT="$root" sh packaging/debian/postrm purge
+    [ "$(cd "$root" && find . -type f -o -type l)" = ./var/lib/nozhgiva/0 ] || fail "a purge leaves $(cd "$root" && find . -type f -o -type l)"
+    rm "$root/var/lib/nozhgiva/0"
+    expect 0 env DPKG_ROOT="$root" sh packaging/debian/postrm purge
+    [ ! -e "$root/var/lib/nozhgiva" ] && [ ! -e "$root/etc/nozhgiva" ] || fail "a purge leaves empty folders"
+    passed "a purge: nothing is left but data files"
 }
 
 # The unit, and its words run as they stand, but for the folders.
@@ -132,7 +162,12 @@ try_base() {
         kill $keeper; wait $keeper' > "$work/said" 2>&1 < /dev/null || fail "a member in the base system: $(cat "$work/said")"
     grep -q 'value green' "$work/said" || fail "a member in the base system: $(cat "$work/said")"
     expect 0 inside dpkg -i "/tmp/$(basename "$made")"
+    # As `systemctl enable` does it.
+    mkdir -p "$root/etc/systemd/system/multi-user.target.wants"
+    ln -s /usr/lib/systemd/system/nozhgiva@.service "$root/etc/systemd/system/multi-user.target.wants/nozhgiva@0.service"
     expect 0 inside dpkg --purge nozhgiva
+    [ ! -L "$root/etc/systemd/system/multi-user.target.wants/nozhgiva@0.service" ] || fail "the unit is enabled still after a purge"
+    [ ! -e "$root/etc/nozhgiva" ] || fail "/etc/nozhgiva is left after a purge"
     [ "$(stat -c %s "$root/var/lib/nozhgiva/0")" = 2039808 ] || fail "the data file is gone after a purge"
     [ ! -e "$root/usr/lib/nozhgiva" ] || fail "something is left after a purge: $(find "$root/usr/lib/nozhgiva" | head -n 3)"
     passed "the package in a base system: installed, a member run as its user, installed again, purged; its data file stays"

@@ -1,12 +1,14 @@
-"""Builds the wheel of a pure package by the standard library alone (the hooks of PEP 517).
+"""Builds the wheel and the source archive of a pure package by the standard library alone (the hooks of PEP 517).
 
-It reads the table `project` of `pyproject.toml`, takes each file of `src/NAME`, and writes no date into the archive: the same files give the
-same bytes.
+It reads the table `project` of `pyproject.toml`, takes each file of `src/NAME`, and writes no date into an archive: the same files give the
+same bytes. The licence is that of the repository, or the one that a source archive has beside `pyproject.toml`.
 """
 
 import ast
 import base64
+import gzip
 import hashlib
+import io
 import tarfile
 import zipfile
 from pathlib import Path
@@ -14,6 +16,7 @@ from pathlib import Path
 ROOT = Path(__file__).resolve().parent.parent
 EPOCH = (1980, 1, 1, 0, 0, 0)
 MODE = 0o644 << 16
+LICENSES = (ROOT / "LICENSE", ROOT.parent.parent / "LICENSE")
 WHEEL = "Wheel-Version: 1.0\nGenerator: pure_wheel\nRoot-Is-Purelib: true\nTag: py3-none-any\n"
 
 
@@ -56,6 +59,11 @@ def _package(project):
     return {path.relative_to(source).as_posix(): path.read_bytes() for path in files}
 
 
+def _license():
+    """The text of the licence, if it is there, as a file by its name."""
+    return {"LICENSE": path.read_bytes() for path in LICENSES[::-1] if path.is_file()}
+
+
 def _record_line(name, data):
     digest = base64.urlsafe_b64encode(hashlib.sha256(data).digest()).rstrip(b"=").decode()
     return f"{name},sha256={digest},{len(data)}\n"
@@ -67,6 +75,7 @@ def build_wheel(wheel_directory, config_settings=None, metadata_directory=None):
     files = _package(project)
     files[f"{stem}.dist-info/METADATA"] = _metadata(project).encode()
     files[f"{stem}.dist-info/WHEEL"] = WHEEL.encode()
+    files.update((f"{stem}.dist-info/{name}", data) for name, data in _license().items())
     record = f"{stem}.dist-info/RECORD"
     files[record] = ("".join(_record_line(name, data) for name, data in files.items()) + f"{record},,\n").encode()
     with zipfile.ZipFile(Path(wheel_directory) / f"{stem}-py3-none-any.whl", "w", zipfile.ZIP_DEFLATED) as wheel:
@@ -80,7 +89,13 @@ def build_wheel(wheel_directory, config_settings=None, metadata_directory=None):
 def build_sdist(sdist_directory, config_settings=None):
     project = _project()
     stem = f"{project['name']}-{project['version']}"
-    with tarfile.open(Path(sdist_directory) / f"{stem}.tar.gz", "w:gz") as archive:
-        for part in ("pyproject.toml", "README.md", "backend", "src"):
-            archive.add(ROOT / part, f"{stem}/{part}", filter=lambda info: None if info.name.endswith((".pyc", "__pycache__")) else info)
+    files = {"PKG-INFO": _metadata(project).encode(), **_license()}
+    for path in (ROOT / "pyproject.toml", ROOT / project["readme"], *sorted((ROOT / "backend").glob("*.py"))):
+        files[path.relative_to(ROOT).as_posix()] = path.read_bytes()
+    files.update((f"src/{name}", data) for name, data in _package(project).items())
+    with gzip.GzipFile(Path(sdist_directory) / f"{stem}.tar.gz", "wb", mtime=0) as packed, tarfile.open(fileobj=packed, mode="w", format=tarfile.PAX_FORMAT) as archive:
+        for name, data in files.items():
+            info = tarfile.TarInfo(f"{stem}/{name}")
+            info.size = len(data)
+            archive.addfile(info, io.BytesIO(data))
     return f"{stem}.tar.gz"

@@ -1,8 +1,10 @@
-"""The wheel: built and installed into a fresh environment without a network, and imported there."""
+"""The wheel: built and installed into a fresh environment without a network, and imported there; the source archive, and the wheel that is made of it."""
 
+import email
 import os
 import subprocess
 import sys
+import tarfile
 import tempfile
 import unittest
 from pathlib import Path
@@ -48,6 +50,27 @@ class Wheel(unittest.TestCase):
             self.assertEqual(wheels[0].read_bytes(), Path(folder, "fresh", wheels[0].name).read_bytes())
             run(python, "-m", "pip", "install", wheels[0])
             self.assertEqual(run(python, "-W", "ignore", "-c", SCRIPT), "1.0.0 134\n")
+
+    def test_source_archive(self):
+        with tempfile.TemporaryDirectory() as folder:
+            def build(root, what, into):
+                Path(folder, into).mkdir()
+                code = f"import sys; sys.path.insert(0, {str(Path(root, 'backend'))!r}); import pure_wheel; print(pure_wheel.build_{what}({folder + '/' + into!r}))"
+                return Path(folder, into, run(sys.executable, "-B", "-c", code).strip())
+
+            archive = build(ROOT, "sdist", "one")
+            self.assertEqual(archive.read_bytes(), build(ROOT, "sdist", "two").read_bytes())
+            with tarfile.open(archive) as packed:
+                self.assertEqual({name.split("/")[0] for name in packed.getnames()}, {"nozhgiva-1.0.0"})
+                self.assertFalse([name for name in packed.getnames() if "__pycache__" in name or name.endswith(".pyc")])
+                packed.extractall(folder)
+            made = Path(folder, "nozhgiva-1.0.0")
+            # What an index reads of an archive before it takes it: name, version and the form of this file.
+            told = email.message_from_string((made / "PKG-INFO").read_text(encoding="utf-8"))
+            self.assertEqual([told[name] for name in ("Metadata-Version", "Name", "Version", "License")], ["2.1", "nozhgiva", "1.0.0", "Apache-2.0"])
+            self.assertIn("# A client in Python", told.get_payload())
+            self.assertEqual((made / "LICENSE").read_bytes(), (ROOT.parents[1] / "LICENSE").read_bytes())
+            self.assertEqual(build(made, "wheel", "three").read_bytes(), build(ROOT, "wheel", "four").read_bytes())
 
 
 if __name__ == "__main__":
