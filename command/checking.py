@@ -48,9 +48,16 @@ def read_table(path: Path = TABLE) -> List[Check]:
 
 
 def find_program() -> Optional[str]:
-    """The program that the checks use, which says on standard error which one it is; None where there is none."""
+    """The program that the checks use; None where there is none."""
     ran = subprocess.run([str(TOP / "command" / "program")], stdout=subprocess.PIPE, stderr=subprocess.PIPE, text=True, check=False)
     return ran.stdout.strip() or None
+
+
+def kind_of_program() -> str:
+    """Which one that is, for who reads what passed: proved, compiled, or the one that is given."""
+    ran = subprocess.run([str(TOP / "command" / "program"), "--kind", "--quiet"], stdout=subprocess.PIPE, stderr=subprocess.DEVNULL, text=True, check=False)
+    kind = ran.stdout.partition(" ")[0]
+    return {"": "missing", "compiled": "compiled, not proved"}.get(kind, kind)
 
 
 def lacks(check: Check, program: Optional[str]) -> Optional[str]:
@@ -87,7 +94,7 @@ class Run:
 
     def all_of(self, checks: List[Check]) -> None:
         before = self.status()
-        self.say(f"checks: the program is {self.program or 'missing'}")
+        self.say(f"checks: the program is {kind_of_program()}{f': {self.program}' if self.program else ''}")
         for check in checks:
             why = lacks(check, self.program) or ("no time" if self.left() <= 0 else None)
             if why:

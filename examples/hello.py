@@ -1,11 +1,14 @@
 """Asks a running group from Python, as any program may (clients/python).
-  python examples/hello.py ADDRESS ..     the addresses of all members, in their order; the group's number is 5"""
+  ./nozhgiva cluster -- env PYTHONPATH=clients/python/src python3 examples/hello.py     of a group that runs meanwhile
+  python3 examples/hello.py GROUP ADDRESS ..                                            of the group of this number: the addresses of all members"""
 
+import os
 import sys
 
 from nozhgiva import Group
 
-group = Group(5, sys.argv[1:])
+number, *addresses = sys.argv[1:] or [os.environ["NOZHGIVA_GROUP"], *os.environ["NOZHGIVA_ADDRS"].split()]
+group = Group(int(number), addresses)
 with group.register() as session:
     session.put("color", "green")
     print("color is", session.get("color"))
