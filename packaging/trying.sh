@@ -1,4 +1,4 @@
-# shellcheck shell=bash disable=SC2015,SC2016,SC2317
+# shellcheck shell=bash disable=SC2015,SC2016,SC2034,SC2317
 # What packaging/check tries. It is sourced at the top of the repository, with `whole` set or empty.
 # In memory, where there is room: what is tried here is no disk. A base system takes more.
 room=$(df -k --output=avail /dev/shm 2> /dev/null | tail -n 1)
