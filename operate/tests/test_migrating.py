@@ -223,5 +223,5 @@ class Real(unittest.TestCase):
         self.assertEqual(self.ask(group, "get k1\nget k7\n", "--v2"), "value v1\nvalue v7\n")
 
     def test_walks_that_are_killed_are_run_again(self):
-        made = subprocess.run([os.path.join(HERE, "trials", "killed"), "--short"], capture_output=True, text=True, env=dict(os.environ, PROGRAM=program.PATH))
+        made = subprocess.run([os.path.join(HERE, "trials", "killed"), "--short"], capture_output=True, text=True, env=dict(os.environ, NOZHGIVA_PROGRAM=program.PATH))
         self.assertEqual(made.returncode, 0, made.stdout + made.stderr)
