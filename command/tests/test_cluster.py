@@ -5,12 +5,17 @@ import re
 import signal
 import socket
 import subprocess
+import sys
 import tempfile
 import time
 import unittest
 from typing import List
 
-from common import NOZHGIVA, TOP, call, free_ports, needs_program
+from common import NOZHGIVA, TOP, call, needs_program
+
+sys.path.append(str(TOP / "examples"))
+
+from clustering.holders import free_run  # noqa: E402
 
 
 def processes_with(text: str) -> List[str]:
@@ -38,7 +43,7 @@ class Clusters(unittest.TestCase):
         return out.splitlines()
 
     def test_what_its_lines_started_is_ended(self) -> None:
-        child = self.begin("--v2", "--port", str(free_ports(1)[0] % 40000 + 20000))
+        child = self.begin("--v2", "--port", str(free_run(3)))
         lines = self.lines(child, 3)
         members = [int(number) for number in re.findall(r"\d+", lines[0].split("processes")[1].split(",")[0])]
         ran = call(["bash", "-c", lines[1]], where=str(TOP))
@@ -64,7 +69,7 @@ class Clusters(unittest.TestCase):
     def test_numbers_of_groups_differ_and_nothing_is_said_on_standard_error(self) -> None:
         numbers = set()
         for _ in range(2):
-            child = self.begin("--port", str(free_ports(1)[0] % 40000 + 20000))
+            child = self.begin("--port", str(free_run(3)))
             lines = self.lines(child, 2)
             numbers.add(int(re.search(r"ask (\d+) ", lines[1])[1]))  # type: ignore[index]
             member = int(re.search(r"processes (\d+)", lines[0])[1])  # type: ignore[index]
@@ -94,6 +99,13 @@ class Clusters(unittest.TestCase):
                 lines = ran.stdout.decode().splitlines()
                 self.assertEqual((ran.returncode, lines[1:]), (7, ["ok", "value 1"]), ran.stderr)
                 self.assertEqual((os.listdir(folder), processes_with(f"node {lines[0].split()[0]} ")), ([], []))
+
+    def test_a_command_is_ended_with_it(self) -> None:
+        child = self.begin("--", "sh", "-c", "echo begun; exec sleep 987")
+        assert child.stdout is not None
+        self.assertEqual(child.stdout.readline(), "begun\n")
+        child.send_signal(signal.SIGTERM)
+        self.assertEqual((child.wait(30), processes_with("sleep 987")), (143, []))
 
     def test_wrong_words(self) -> None:
         for words in (["--port", "0"], ["--port", "65534"], ["--port", "x"], ["sh"], ["--"], ["--show", "--", "sh"], ["--no"]):

@@ -6,6 +6,7 @@ import sys
 import tempfile
 import unittest
 from pathlib import Path
+from typing import List
 
 from common import TOP, call
 
@@ -31,6 +32,12 @@ WORDLESS = tuple(f"examples/{name}" for name in (
 RUNNERS = ("bench/crashing", "bench/paging", "clients/python", "command", "examples/commanding", "examples/explorer", "examples/hunting", "examples/playing")
 
 
+def scripts() -> List[str]:
+    """All that can be run of what tries, measures or operates: a new script is among them."""
+    folders = ("bench", "examples", "operate", "operate/trials", "packaging", "clients/go", "clients/vectors")
+    return sorted(f"{folder}/{one.name}" for folder in folders for one in (TOP / folder).iterdir() if one.is_file() and os.access(one, os.X_OK))
+
+
 class Refusals(unittest.TestCase):
     def refused(self, *words: str) -> None:
         with self.subTest(words=words):
@@ -52,18 +59,30 @@ class Refusals(unittest.TestCase):
             self.refused(name, "nosuch")
         self.assertEqual(os.listdir(self.folder.name), [])
 
+    def test_each_script_refuses_an_option_that_it_lacks_and_has_help(self) -> None:
+        found = scripts()
+        self.assertLess({"bench/slips", "examples/hunt", "operate/check", "operate/trials/faults", "packaging/check", "clients/go/check"}, set(found))
+        for name in found:
+            self.refused(name, "--nosuch")
+            for flag in ("-h", "--help"):
+                self.helps(name, flag)
+        self.assertEqual(os.listdir(self.folder.name), [])
+
     def test_no_times_are_none(self) -> None:
         for times in ("0", "many"):
             ran = subprocess.run([TOP / "examples" / "trial"], env={**os.environ, "TIMES": times}, stdout=subprocess.PIPE, stderr=subprocess.PIPE, check=False)
             self.assertEqual((ran.returncode, ran.stdout), (2, b""))
 
-    def test_help_is_help(self) -> None:
-        for words in sorted({one[0] for one in NOTHING} | set(WORDLESS) | {f"{name}/tests/run" for name in RUNNERS}):
+    def helps(self, name: str, flag: str) -> None:
+        with self.subTest(script=name, flag=flag):
+            ran = call([str(TOP / name), flag], where=self.folder.name)
+            self.assertEqual((ran.returncode, ran.stderr), (0, b""))
+            self.assertGreater(len(ran.stdout), 50)
+
+    def test_runners_of_tests_have_help(self) -> None:
+        for name in RUNNERS:
             for flag in ("-h", "--help"):
-                with self.subTest(script=words, flag=flag):
-                    ran = call([str(TOP / words), flag], where=self.folder.name)
-                    self.assertEqual((ran.returncode, ran.stderr), (0, b""))
-                    self.assertGreater(len(ran.stdout), 50)
+                self.helps(f"{name}/tests/run", flag)
 
     def test_runs_of_no_tests_fail(self) -> None:
         runner = [sys.executable, str(TOP / "command" / "unittests.py")]
