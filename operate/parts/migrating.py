@@ -106,8 +106,9 @@ class Walk:
         self.away = [member for member in self.moved if self.hands.health(member) is None]
         if not batches:
             self.hands.say("all members are moved already")
-        if not batches or self.has_handed_over():
-            self.start_again()
+            self.start_again(self.members)
+        elif self.has_handed_over():
+            self.start_again(list(self.away))
         for batch in batches:
             self.check(batch)
             self.move(batch)
@@ -121,12 +122,12 @@ class Walk:
             self.revived.append(member)
             self.await_process(member, began, ANY_AGE)
 
-    def start_again(self) -> None:
-        """Starts whoever is moved and has no keeper, where version 2 has all that it needs."""
-        batch, began = list(self.away), self.hands.clock()
+    def start_again(self, awaited: List[int]) -> None:
+        """Starts whoever is moved and has no keeper, where version 2 has all that it needs, and waits until members are where they should be."""
+        began = self.hands.clock()
         self.start_away()
-        if batch:
-            self.settle(batch, began)
+        if awaited:
+            self.settle(awaited, began)
 
     def start_away(self) -> None:
         for member in list(self.away):

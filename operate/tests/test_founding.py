@@ -163,7 +163,8 @@ class Real(unittest.TestCase):
             for member in (0, 1):
                 group.start(member)
             group.await_leader(120)
-            self.assertEqual(self.make(group, 2, os.path.join(folder, "last")), (0, ""))
+            code, said = self.make(group, 2, os.path.join(folder, "last"))
+            self.assertEqual(code, 0, said)
 
     def test_nothing_is_waited_for_where_all_addresses_refuse(self):
         begun = time.monotonic()

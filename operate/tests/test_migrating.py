@@ -38,6 +38,7 @@ class Played:
         self.done: List[str] = []
         self.silent = 0.0  # seconds for which nobody answered
         self.steps: Optional[int] = None  # after which the walk is killed
+        self.rising = 0.0  # seconds after its start in which a member isn't in the view
 
     def answers(self) -> Optional[int]:
         """The version that answers, if one does: version 1 as long as its primary has enough others to go on, version 2 once it can change its view."""
@@ -52,8 +53,8 @@ class Played:
     def health(self, member: int) -> Optional[Dict[str, str]]:
         if self.since[member] is None:
             return None
-        is_in = self.version[member] == self.answers()
-        state = "leads" if member == self.leads() else "follows" if is_in else "changes"
+        is_in = self.version[member] == self.answers() and self.now - self.since[member] >= self.rising
+        state = "changes" if not is_in else "leads" if member == self.leads() else "follows"
         return {"member": str(member), "well": "yes" if is_in else "changes", "state": state, "applied": "100", "commit": "100", "asks": "-", "mends": "-", "unsure": "0",
                 "up": f"{self.now - self.since[member]:.1f}"}
 
@@ -148,6 +149,19 @@ class Walking(unittest.TestCase):
                         played.walk(steps=second)
                         self.assertFalse([step for step in played.walk() if step.split()[0] not in ("start", "stop", "move")])
                         self.assertEqual((set(played.version.values()), None in played.since.values()), ({2}, False))
+
+    def test_killed_after_its_last_start(self):
+        """Run again it waits until the member that was started last is where it should be."""
+        for size in (2, 3, 6):
+            with self.subTest(size):
+                played = Played(size)
+                steps = len(Played(size).walk())
+                played.walk(steps=steps - 1)
+                played.start(0)
+                played.rising = 3.0
+                self.assertIn("changes", [played.health(member)["state"] for member in range(size)])
+                self.assertEqual(played.walk(), [])
+                self.assertNotIn("changes", [played.health(member)["state"] for member in range(size)])
 
     def test_a_member_that_lost_something_stops_it_before_the_handover(self):
         played = Played(3)
