@@ -49,6 +49,8 @@ class State:
         if (request.version, request.cluster) != (self.version, self.cluster):
             return []
         with self.turn:
+            if request.number and request.client not in self.last:
+                return [reply_to(request, member, ReplyKind.EVICTED).encode()]
             number, op, outcome = self.last.get(request.client, (-1, 0, None))
             if request.number < number:
                 return [reply_to(request, member, ReplyKind.OLD).encode()]

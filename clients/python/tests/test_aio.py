@@ -5,8 +5,9 @@ import time
 import unittest
 
 import nozhgiva
-from fakes import Members, State, Streams
+from fakes import Members, State, Streams, reply_to
 from nozhgiva import aio
+from nozhgiva.messages import ReplyKind, decode
 from running import PATIENCE, Running, free_addresses, needs_program
 
 FAST = nozhgiva.Retry(first=0.05, factor=1.5, most=0.2, jitter=0.5)
@@ -55,14 +56,28 @@ class Sessions(Tests):
             with self.assertRaises(nozhgiva.Unresolved):
                 await aio.Group(5, [f"{scheme}nowhere.invalid:1", f"{scheme}nowhere.invalid:2"]).register()
         with Members(2, State()) as members:
-            with self.assertRaises(nozhgiva.Unknown) as raised:
-                await group_of(members, SHORT, version=2).register()
-            self.assertIn("answers in version 1", str(raised.exception))
             async with await group_of(members).register() as session:
                 with self.assertRaises(TypeError):
                     await session.put("key", b"bytes")
                 with self.assertRaises(ValueError):
                     await session.get("key", timeout=0)
+
+    async def test_what_is_wrong_is_said_within_a_second_and_another_version_found(self):
+        for kind in (Members, Streams):
+            with self.subTest(kind), kind(3, State(version=2)) as members:
+                begun = time.monotonic()
+                (await group_of(members).register()).close()
+                self.assertLess(time.monotonic() - begun, 1.0)
+        notices = []
+        with Members(3, State(cluster=6)) as members, self.assertRaises(nozhgiva.Unknown):
+            begun = time.monotonic()
+            await aio.Group(5, members.addresses, timeout=1.5, notice=lambda text: notices.append((time.monotonic() - begun, text))).register()
+        self.assertEqual(len(notices), 1)
+        self.assertLess(notices[0][0], 1.0)
+        self.assertIn("another group", notices[0][1])
+        with Members(3, lambda place, data: [reply_to(decode(data), (place + 1) % 3, ReplyKind.BUSY).encode()]) as members:
+            with self.assertRaises(nozhgiva.Misconfigured):
+                await group_of(members).register()
 
     async def test_a_stream_that_ends_is_made_again(self):
         state = State()

@@ -3,10 +3,10 @@
 import unittest
 from pathlib import Path
 
-from fakes import OK, MemoryLink, reply_to
+from fakes import OK, SESSION, MemoryLink, reply_to
 from nozhgiva import Put, Retry
 from nozhgiva.asking import Asker, Course, Search
-from nozhgiva.messages import Outcome, OutcomeKind, Register, Reply, ReplyKind, Request
+from nozhgiva.messages import Outcome, OutcomeKind, Register, Reply, ReplyKind, Request, decode
 from nozhgiva.sights import meaning
 
 REQUEST = Request(5, 7, 1, Put("a", "b"))
@@ -119,10 +119,16 @@ class Asking(unittest.TestCase):
         self.assertEqual((reply, link.time, len(link.sent)), (right, 0.1, 1))
 
 
-    def test_who_says_nothing_is_asked_in_the_other_version_once(self):
-        reply, link = ask(lambda member, request: [(0.01, reply_to(request, 1, ReplyKind.BUSY))] if member == 1 else [], deadline=6.0)
+    def test_who_says_nothing_is_asked_in_the_other_version_when_the_pause_ends(self):
+        reply, link = ask(lambda member, request: [(0.01, reply_to(request, 1, ReplyKind.BUSY))] if member == 1 else [], deadline=3.5)
         self.assertIsNone(reply)
-        self.assertEqual(sorted(member for _, member in link.probes), [0, 2])
+        self.assertEqual(link.sent, [(0.0, 0), (0.25, 1), (0.625, 1), (0.625, 2), (1.1875, 1), (1.1875, 0), (2.03125, 1), (2.03125, 2), (3.296875, 1), (3.296875, 0)])
+        self.assertEqual(link.probes, [(0.25, 0), (1.1875, 2), (2.03125, 0), (3.296875, 2)])
+
+    def test_a_register_asks_all_members_at_once(self):
+        asked = Request(5, 7, 0, Register())
+        reply, link = ask(lambda member, request: [(0.01, reply_to(request, 2, outcome=SESSION))] if member == 2 else [], request=asked)
+        self.assertEqual((reply.replica, link.sent), (2, [(0.0, 0), (0.0, 1), (0.0, 2)]))
 
 
 class Play:
@@ -191,7 +197,7 @@ class Seeing(unittest.TestCase):
     """What is told of each address, and what it may mean."""
 
     def test_silent_and_refused(self):
-        self.assertEqual(seen(lambda member, request: []), (["silent"] * 3, "members are silent to whoever asks for another group or version, and where too few of them run"))
+        self.assertEqual(seen(lambda member, request: []), (["silent"] * 3, "members are silent to whoever asks for another group, and where too few of them run"))
         said, means = seen(lambda member, request: [(0.0, "refused")])
         self.assertEqual((said, means[:36]), (["refused"] * 3, "no member runs at these addresses; o"))
         said, means = seen(lambda member, request: [(0.0, "refused")] if member else [])
@@ -213,13 +219,88 @@ class Seeing(unittest.TestCase):
     def test_another_group_and_another_version(self):
         other = Reply(6, 7, 1, bytes(16), 0, 0, ReplyKind.BUSY)
         self.assertEqual(seen(lambda member, request: [(0.0, other)]), (["answers for group 6"] * 3, "another group has these addresses"))
-        later = Reply(5, 7, 1, bytes(16), 0, 0, ReplyKind.BUSY, version=2)
-        self.assertEqual(seen(lambda member, request: [(0.0, later)]), (["answers in version 2"] * 3, "the group is of version 2: Group(.., version=2)"))
+        later = [Reply(5, 7, 1, bytes(16), member, 0, ReplyKind.BUSY, version=2) for member in range(3)]
+        self.assertEqual(seen(lambda member, request: [(0.0, later[member])])[0], ["answers in version 2"] * 3)
 
     def test_what_is_no_answer(self):
         self.assertEqual(seen(lambda member, request: [(0.0, b"x" * 200)]), (["sends what is no answer"] * 3, ""))
         stale = [(0.0, reply_to(Request(5, 7, 0, Register()), 0))]
         self.assertEqual(seen(lambda member, request: stale if member == 0 else [])[0], ["sends what is no answer", "silent", "silent"])
+
+
+class GoingOver(unittest.TestCase):
+    """Members that answer in another version than the one in which the session asks, all of them or some."""
+
+    def ask(self, answer, *, version=1, course=None, deadline=20.0, request=None):
+        link = EitherLink(answer)
+        request = request or Request(5, 7, 1, Put("a", "b"), version)
+        reply, search = Asker(link, course or course_of(3), STEADY, link.clock).ask(request, deadline)
+        return reply, link, search
+
+    def test_a_group_of_the_other_version_is_found_at_the_end_of_the_first_pause(self):
+        for version, other in ((1, 2), (2, 1)):
+            with self.subTest(version):
+                reply, link, _ = self.ask(lambda member, request: self.member(member, request, {0: other, 1: other, 2: other}), version=version)
+                self.assertEqual((reply.outcome, reply.version), (OK, other))
+                self.assertEqual(link.sent, [(0.0, 0, version), (0.25, 1, version), (0.26, 0, other)])
+
+    def member(self, place, request, versions, leader=0):
+        """What a member says that hears its own version alone."""
+        if request.version != versions[place]:
+            return []
+        if request.client != 7:
+            return [(0.01, reply_to(request, place, ReplyKind.EVICTED if place == leader else ReplyKind.REDIRECT, view=leader))]
+        return [(0.01, reply_to(request, place) if place == leader else reply_to(request, place, ReplyKind.REDIRECT, view=leader))]
+
+    def test_one_member_that_has_gone_over_keeps_nobody_from_the_others(self):
+        # Member 0 has moved to version 2 and knows nothing new; member 1 leads in version 1.
+        reply, link, _ = self.ask(lambda member, request: self.member(member, request, {0: 2, 1: 1, 2: 1}, leader=1))
+        self.assertEqual((reply.outcome, reply.version, reply.replica), (OK, 1, 1))
+
+    def test_the_same_request_goes_over_under_its_number(self):
+        # Member 0 leads in version 1, executes the request, and its answer is lost; then it moves.
+        state = {"executed": [], "version": 1}
+
+        def answer(member, request):
+            if request.version != state["version"] or member != 0:
+                return []
+            if request.client == 7 and request.number not in state["executed"]:
+                state["executed"].append(request.number)
+                state["version"] = 2
+                return []
+            return [(0.01, reply_to(request, 0, ReplyKind.EVICTED) if request.client != 7 else reply_to(request, 0))]
+        reply, link, _ = self.ask(answer)
+        self.assertEqual((reply.outcome, reply.version, state["executed"]), (OK, 2, [1]))
+        self.assertEqual({(request.number, request.operation) for request in link.requests if request.client == 7}, {(1, Put("a", "b"))})
+
+    def test_who_has_heard_version_2_never_goes_back(self):
+        course = course_of(3)
+        self.ask(lambda member, request: self.member(member, request, {0: 2, 1: 2, 2: 2}), version=2, course=course)
+        reply, link, _ = self.ask(lambda member, request: self.member(member, request, {0: 1, 1: 1, 2: 1}), version=2, course=course, deadline=5.0)
+        self.assertIsNone(reply)
+        self.assertEqual({version for _, _, version in link.sent}, {2})
+
+    def test_a_redirect_is_followed_in_the_version_of_who_told_it(self):
+        reply, link, _ = self.ask(lambda member, request: self.member(member, request, {0: 2, 1: 2, 2: 2}, leader=2))
+        self.assertEqual((reply.replica, link.sent), (2, [(0.0, 0, 1), (0.25, 1, 1), (0.26, 0, 2), (0.27, 2, 2)]))
+
+
+class EitherLink(MemoryLink):
+    """A link whose members get requests of both versions, and probes."""
+
+    def __init__(self, answer):
+        super().__init__(answer)
+        self.requests = []
+
+    def send(self, member, data):
+        request = decode(data)
+        self.requests.append(request)
+        self.version = request.version
+        super().send(member, data)
+        if request.client == 7:
+            self.sent[-1] = (round(self.time, 6), member, request.version)
+        else:
+            self.sent.pop()
 
 
 class Retrying(unittest.TestCase):

@@ -35,13 +35,79 @@ class Seen(unittest.TestCase):
         self.assertGreaterEqual(time.monotonic() - begun, SHORT)
         return raised.exception
 
-    def test_another_version(self):
-        with Members(2, State(version=2)) as members:
-            error = self.unknown(members.addresses)
-            self.assertIn("answers in version 2", str(error))
-            self.assertIn("version=2", str(error))
-        with Streams(2, State()) as members:
-            self.assertIn("answers in version 1", str(self.unknown(members.addresses, version=2)))
+    def noticed(self, addresses, cluster=5, **words):
+        """What a group is told while a register waits, and after how many seconds; and what the register raises, or None."""
+        notices, error = [], None
+        begun = time.monotonic()
+        group = nozhgiva.Group(cluster, addresses, timeout=2.0, notice=lambda text: notices.append((time.monotonic() - begun, text)), **words)
+        try:
+            group.register().close()
+        except nozhgiva.Unknown as raised:
+            error = raised
+        return notices, error, time.monotonic() - begun
+
+    def test_another_version_is_found_within_a_second(self):
+        for kind in (Members, Streams):
+            for version, other in ((1, 2), (2, 1)):
+                with self.subTest(kind, version=version), kind(3, State(version=other)) as members:
+                    notices, error, took = self.noticed(members.addresses, version=version)
+                    self.assertEqual((notices, error), ([], None))
+                    self.assertLess(took, 1.0)
+
+    def test_a_session_goes_over_with_its_group_and_asks_once(self):
+        lost = [True]
+        state = State(quiet=lambda number: number == 1 and lost[0])
+        with Members(3, state) as members:
+            group = nozhgiva.Group(5, members.addresses, timeout=SHORT, retry=FAST)
+            with group.register(timeout=SOON) as session:
+                with self.assertRaises(nozhgiva.Unknown):
+                    session.put("color", "green")
+                with self.assertRaises(ValueError):
+                    session.put("long", "v" * 3000)
+                state.version, lost[0] = 2, False
+                self.assertEqual(session.settle(SOON).kind.name, "OK")
+                session.put("long", "v" * 3000, timeout=SOON)
+                self.assertEqual(session.get("color", timeout=SOON), "green")
+            begun = time.monotonic()
+            group.register(timeout=SOON).close()
+            self.assertLess(time.monotonic() - begun, 0.2)  # the group's sessions know by now
+        self.assertEqual([str(operation) for operation in state.executed], ["register", "put color (5 bytes)", "put long (3,000 bytes)", "get color", "register"])
+
+    def test_what_is_wrong_is_said_within_a_second(self):
+        with Members(3, State(cluster=6)) as members, Streams(3, State(cluster=6)) as streams:
+            for addresses, said in ((members.addresses, "another group"), (streams.addresses, "another group"), (free_addresses(3), "no member runs"),
+                                    (free_addresses(3, "tcp:"), "no member runs")):
+                with self.subTest(addresses=addresses):
+                    notices, error, _ = self.noticed(addresses)
+                    self.assertEqual(len(notices), 1)
+                    self.assertLess(notices[0][0], 1.0)
+                    self.assertIn(said, notices[0][1])
+                    self.assertNotIsInstance(error, nozhgiva.Misconfigured)
+
+    def test_another_order_is_said_though_the_group_answers(self):
+        state = State()
+
+        def answer(place, data):
+            member, request = (place + 1) % 3, decode(data)
+            if member == 0:
+                return state(0, data)
+            return [reply_to(request, member, ReplyKind.REDIRECT, view=0).encode()] if request.version == 1 else []
+        with Members(3, answer) as members:
+            notices, error, _ = self.noticed(members.addresses)
+            self.assertIsNone(error)
+            self.assertGreaterEqual(len(notices), 1)
+            self.assertLess(notices[0][0], 1.0)
+            self.assertIn("another order", notices[0][1])
+
+    def test_it_fails_at_once_where_each_address_says_that_it_is_misconfigured(self):
+        def answer(place, data):
+            request = decode(data)
+            return [reply_to(request, (place + 1) % 3, ReplyKind.BUSY).encode()] if request.version == 1 else []
+        with Members(3, answer) as members:
+            _, error, took = self.noticed(members.addresses)
+            self.assertIsInstance(error, nozhgiva.Misconfigured)
+            self.assertLess(took, 1.0)
+            self.assertIn("another order", str(error))
 
     def test_another_group(self):
         with Members(2, State(cluster=6)) as members:

@@ -14,13 +14,14 @@ request of the session first asks for that answer. Recipes are for threads alone
 from __future__ import annotations
 
 import asyncio
+import math
 import os
 import time
 from contextlib import asynccontextmanager
 from types import TracebackType
 from typing import Any, AsyncIterator, Dict, List, Optional, Sequence, Tuple, Type, Union
 
-from .asking import Search, Send
+from .asking import LOOK, Search, Send
 from .errors import Closed, Full, NotAsked, Unknown
 from .ledger import GroupWords, Ledger
 from .links import CONNECT_TIME, NOT_RESOLVED, Came, Found, Places, Unpacker, datagram_socket, resolved, stream_socket, trouble_of
@@ -303,15 +304,22 @@ class Session(Requests):
         begun, view = time.monotonic(), self._ledger.course.view
         search = Search(request, self._ledger.course, self._group.retry)
         reply: Optional[Reply] = None
+        look_at = begun + LOOK if search.is_register else math.inf
         while reply is None and time.monotonic() < deadline and not self._ledger.is_closed:
-            sends = search.next_round()
-            reply = await self._round(search, sends, min(time.monotonic() + search.next_pause(), deadline))
+            self._send(search.next_round())
+            until = min(time.monotonic() + search.next_pause(), deadline)
+            reply = await self._hear(search, min(until, look_at))
+            if reply is None and look_at < until:
+                if search.is_hopeless:
+                    break
+                self._ledger.tell(search)
+                look_at = math.inf
+                reply = await self._hear(search, until)
         self._ledger.note(request, reply, search, begun, view)
         return self._ledger.settle(request, reply, search, unsent)
 
-    async def _round(self, search: Search, sends: List[Send], until: float) -> Optional[Reply]:
-        """Sends, and hears until the clock shows `until`."""
-        self._send(sends)
+    async def _hear(self, search: Search, until: float) -> Optional[Reply]:
+        """Hears until the clock shows `until`, and sends what comes of it."""
         while (left := until - time.monotonic()) > 0:
             came = await self._link.receive(left)
             if came is None:

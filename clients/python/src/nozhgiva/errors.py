@@ -2,12 +2,16 @@
 
 from __future__ import annotations
 
-from typing import Any, Optional, Sequence, Tuple
+from .records import TYPE_CHECKING
+from .sights import told
 
-from .messages import Operation, Outcome
-from .sights import Sight, told
+if TYPE_CHECKING:
+    from typing import Any, Optional, Sequence, Tuple
 
-__all__ = ["Closed", "Error", "Fate", "Full", "NotAsked", "SessionLost", "Unknown", "Unresolved"]
+    from .messages import Operation, Outcome
+    from .sights import Sight
+
+__all__ = ["Closed", "Error", "Fate", "Full", "Misconfigured", "NotAsked", "SessionLost", "Unknown", "Unresolved"]
 
 
 class Error(Exception):
@@ -47,6 +51,11 @@ class Unknown(Error, TimeoutError):
 
     def __reduce__(self) -> Tuple[Any, ...]:
         return type(self), (self.operation, self.unsent, self.seen)
+
+
+class Misconfigured(Unknown):
+    """Each address says that it isn't what the group's list says: another member answers there, or another group. So a register ends at once:
+    correct the list. `seen` has what was seen at each."""
 
 
 class NotAsked(Error, TimeoutError):

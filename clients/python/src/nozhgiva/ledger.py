@@ -2,17 +2,24 @@
 
 from __future__ import annotations
 
-import logging
 import os
-import secrets
+import sys
 import time
-from dataclasses import replace
-from typing import List, Optional, Sequence, Set
 
-from .asking import NO_VIEW, Course, Retry, Search
-from .errors import Closed, Fate, SessionLost, Unknown
-from .links import Places, places_of
-from .messages import SIZES, VERSIONS, Operation, Outcome, Reply, Request, encode_operation
+from .asking import NO_VIEW, Course, Retry, drawn
+from .errors import Closed, Fate, Misconfigured, SessionLost, Unknown
+from .links import places_of
+from .messages import SIZES, VERSIONS, Request, encode_operation
+from .records import TYPE_CHECKING, replace
+from .sights import told
+
+if TYPE_CHECKING:
+    import logging
+    from typing import Callable, List, Optional, Sequence, Set
+
+    from .asking import Search
+    from .links import Places
+    from .messages import Operation, Outcome, Reply
 
 __all__ = ["GroupWords", "Ledger"]
 
@@ -20,8 +27,19 @@ NUMBERS = 2**64
 """Clusters and clients are below it."""
 LAST_NUMBER = 2**32 - 1
 """The last number of a request in one session."""
+DEBUG = 10
+"""`logging.DEBUG`."""
 
-log = logging.getLogger("nozhgiva")
+
+def _log() -> Optional[logging.Logger]:
+    """The logger `nozhgiva`; None where the program has no use of `logging`, so that nobody could hear it."""
+    module = sys.modules.get("logging")
+    if module is None:
+        return None
+    log: logging.Logger = module.getLogger("nozhgiva")
+    if not log.handlers:
+        log.addHandler(module.NullHandler())
+    return log
 
 
 def _check_number(what: str, number: int, first: int) -> None:
@@ -34,7 +52,8 @@ def _check_number(what: str, number: int, first: int) -> None:
 class GroupWords:
     """What is told of a group: its number, the addresses of all members, its version, and how its requests wait."""
 
-    def __init__(self, cluster: int, addresses: Sequence[str], *, version: int = 1, timeout: float = 10.0, retry: Retry = Retry()) -> None:
+    def __init__(self, cluster: int, addresses: Sequence[str], *, version: int = 1, timeout: float = 10.0, retry: Retry = Retry(),
+                 notice: Optional[Callable[[str], None]] = None) -> None:
         _check_number("cluster", cluster, 0)
         if isinstance(addresses, (str, bytes)) or not all(isinstance(address, str) for address in addresses):
             raise TypeError("addresses are a list of str, one for each member")
@@ -49,6 +68,9 @@ class GroupWords:
         self.version = version
         self.timeout = self.checked(timeout)
         self.retry = retry
+        self.notice = notice
+        self.spoken = [version] * len(addresses)
+        """For each address the version in which its member answered last, or `version`: what the sessions have found out."""
         self._places: Places = places_of(self.addresses)
 
     @property
@@ -71,7 +93,7 @@ class GroupWords:
 
     def client_number(self, client: Optional[int]) -> int:
         """The number that was given, or one that is drawn."""
-        number = 1 + secrets.randbelow(NUMBERS - 2) if client is None else client
+        number = drawn(1, NUMBERS - 1) if client is None else client
         _check_number("client", number, 1)
         return number
 
@@ -85,7 +107,7 @@ class Ledger:
     def __init__(self, group: GroupWords, client: int) -> None:
         self.group = group
         self.client = client
-        self.course = Course(group.addresses)
+        self.course = Course(group.addresses, versions=group.spoken)
         self.open: Optional[Request] = None
         self.lost: Optional[str] = None
         self.is_closed = False
@@ -108,10 +130,15 @@ class Ledger:
 
     def check(self, operation: Operation) -> None:
         """Raises `TypeError` or `ValueError` where an operation isn't of the form of the group's version."""
-        encode_operation(operation, self.group.version)
+        encode_operation(operation, self.version)
+
+    @property
+    def version(self) -> int:
+        """The version of the group, as far as this session knows."""
+        return self.course.version or self.group.version
 
     def _request(self, operation: Operation) -> Request:
-        return Request(self.group.cluster, self.client, self._next, operation, self.group.version)
+        return Request(self.group.cluster, self.client, self._next, operation, self.version)
 
     def begin(self, operation: Operation) -> Request:
         """The request under the next number, which is open from now on. Raises `SessionLost` where there is none."""
@@ -133,7 +160,8 @@ class Ledger:
     def settle(self, request: Request, reply: Optional[Reply], search: Search, unsent: Optional[Operation]) -> Outcome:
         """The outcome of the request that is open, which isn't any more then. Raises `Unknown` where no reply came, and `SessionLost`."""
         if reply is None:
-            raise Unknown(request.operation, unsent, search.sights, self._fate)
+            kind = Misconfigured if search.is_hopeless else Unknown
+            raise kind(request.operation, unsent, search.sights, self._fate)
         self.open = None
         if reply.outcome is None:
             self.lost = reply.kind.name.lower()
@@ -143,17 +171,29 @@ class Ledger:
 
     def note(self, request: Request, reply: Optional[Reply], search: Search, begun: float, view: int) -> None:
         """Logs how a request went: a line for whoever looks closely, and a warning where another member leads than in `view`, the one before."""
-        took = time.monotonic() - begun
-        if log.isEnabledFor(logging.DEBUG):
+        took, log = time.monotonic() - begun, _log()
+        if log is not None and log.isEnabledFor(DEBUG):
             said = "no answer" if reply is None else str(reply.outcome or reply.kind.name.lower())
             log.debug("client %d: %s as number %d: %s in %.3f s, sent %d times", self.client, request.operation, request.number, said, took, search.sent)
-        if reply is not None and NO_VIEW < view < reply.view:
+        if log is not None and reply is not None and NO_VIEW < view < reply.view:
             log.warning("client %d: the primary of view %d was lost; member %d leads view %d; the request waited %.3f s",
                         self.client, view, reply.replica, reply.view, took)
         for sight in search.sights:
             if sight.members - {sight.place} and sight.place not in self._misplaced:
                 self._misplaced.add(sight.place)
-                log.warning("client %d: %s", self.client, sight)
+                self._say(f"{sight} (the addresses stand in another order than at the members)")
+
+    def tell(self, search: Search) -> None:
+        """Says what was seen so far, of a request that has no answer yet."""
+        self._say(f"no answer to `{search.request.operation}` yet; {told(search.sights)}")
+
+    def _say(self, text: str) -> None:
+        """A warning, to whoever listens to the log, and to whom the group gives its notices."""
+        log = _log()
+        if log is not None:
+            log.warning("client %d: %s", self.client, text)
+        if self.group.notice is not None:
+            self.group.notice(text)
 
     def __str__(self) -> str:
         state = "closed" if self.is_closed else f"lost: {self.lost}" if self.lost else f"waits for `{self.open.operation}`" if self.open else "open"

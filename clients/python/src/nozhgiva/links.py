@@ -11,11 +11,16 @@ import selectors
 import socket
 import time
 from collections import deque
-from typing import Any, Deque, Dict, List, NamedTuple, Optional, Protocol, Sequence, Tuple
 
 from .errors import Unresolved
 from .messages import HEADER, LARGEST_MESSAGE, Refused, size_of
+from .records import TYPE_CHECKING, NamedTuple
 from .sights import REFUSED
+
+if TYPE_CHECKING:
+    from typing import Any, Deque, Dict, List, Optional, Protocol, Sequence, Tuple
+else:
+    Protocol = object
 
 __all__ = [
     "Came", "Found", "Link", "Place", "Places", "TcpLink", "UdpLink", "Unpacker", "datagram_socket", "open_link", "places_of", "resolved",
@@ -110,7 +115,8 @@ def _lookup(places: Places) -> List[Optional[Found]]:
     answers: List[Sequence[Tuple[Any, ...]]] = []
     for host, port in places.members:
         try:
-            answers.append(socket.getaddrinfo(host, port, type=places.kind))
+            # Bytes aren't looked at as a name of other letters might be, which would read a dozen modules.
+            answers.append(socket.getaddrinfo(host.encode() if host.isascii() else host, port, type=places.kind))
         except (OSError, UnicodeError):
             answers.append([])
     return resolved(places, answers)

@@ -6,12 +6,26 @@ whatever and gives the message that they spell, or raises `Refused` with the fir
 
 from __future__ import annotations
 
-import hashlib
-import struct
-from dataclasses import dataclass, field
+import sys
 from enum import Enum, IntEnum
 from functools import cached_property
-from typing import Any, NamedTuple, Union
+
+from .records import TYPE_CHECKING, NamedTuple, dataclass, field
+
+if TYPE_CHECKING:
+    from hashlib import sha256
+    from struct import Struct, calcsize, pack, unpack_from
+    from typing import Any, Union
+else:
+    try:  # Python's own, without the modules around them, one of which loads OpenSSL
+        from _struct import Struct, calcsize, pack, unpack_from
+        if sys.version_info >= (3, 12):
+            from _sha2 import sha256
+        else:
+            from _sha256 import sha256
+    except ImportError:
+        from hashlib import sha256
+        from struct import Struct, calcsize, pack, unpack_from
 
 __all__ = [
     "Delete", "Fault", "Get", "LARGEST_KEY", "LARGEST_MESSAGE", "LARGEST_VALUE", "Operation", "Outcome", "OutcomeKind", "Put", "Refused",
@@ -33,7 +47,7 @@ FIRST_BYTE, LAST_BYTE = 33, 126
 """Each byte of a key and of a value is from the first of these to the last."""
 
 NAME_SIZE = 16
-HEADER = struct.Struct(">16s16s16s16sQQIIQQIBBBBQ8s")
+HEADER = Struct(">16s16s16s16sQQIIQQIBBBBQ8s")
 
 
 class Fault(Enum):
@@ -148,8 +162,17 @@ class Delete:
         return f"del {self.key}"
 
 
-Operation = Union[Register, Put, Get, Delete]
-"""What a request asks for. As a text it has the key and the size of the value, and never the value, which may be a secret."""
+if TYPE_CHECKING:
+    Operation = Union[Register, Put, Get, Delete]
+    """What a request asks for. As a text it has the key and the size of the value, and never the value, which may be a secret."""
+else:
+    def __getattr__(name):
+        """`Operation`, once somebody asks for it: who doesn't has no need of `typing`."""
+        if name != "Operation":
+            raise AttributeError(f"module {__name__!r} has no attribute {name!r}")
+        from typing import Union
+
+        return Union[Register, Put, Get, Delete]
 
 
 def encode_operation(operation: Operation, version: int) -> bytes:
@@ -161,9 +184,9 @@ def encode_operation(operation: Operation, version: int) -> bytes:
     if isinstance(operation, Put):
         _check_text("value", operation.value, LARGEST_VALUE[version])
         value = operation.value.encode("ascii")
-        return struct.pack(">BBH", OperationKind.PUT, len(key), len(value)) + key + value
+        return pack(">BBH", OperationKind.PUT, len(key), len(value)) + key + value
     kind = OperationKind.GET if isinstance(operation, Get) else OperationKind.DELETE
-    return struct.pack(">BB", kind, len(key)) + key
+    return pack(">BB", kind, len(key)) + key
 
 
 def _text(data: bytes, size: int, most: int) -> str:
@@ -175,9 +198,9 @@ def _text(data: bytes, size: int, most: int) -> str:
 
 def _unpacked(form: str, data: bytes) -> tuple[int, ...]:
     """The numbers at the front of a body."""
-    if len(data) < struct.calcsize(form):
+    if len(data) < calcsize(form):
         raise Refused(Fault.BODY_SHAPE)
-    return struct.unpack_from(form, data)
+    return unpack_from(form, data)
 
 
 def decode_operation(body: bytes, version: int) -> Operation:
@@ -214,7 +237,7 @@ def encode_outcome(outcome: Outcome, version: int) -> bytes:
     if outcome.kind != OutcomeKind.VALUE:
         return bytes([outcome.kind])
     _check_text("value", outcome.value, LARGEST_VALUE[version])
-    return struct.pack(">BH", outcome.kind, len(outcome.value)) + outcome.value.encode("ascii")
+    return pack(">BH", outcome.kind, len(outcome.value)) + outcome.value.encode("ascii")
 
 
 def decode_outcome(body: bytes, version: int) -> Outcome:
@@ -230,7 +253,7 @@ def decode_outcome(body: bytes, version: int) -> Outcome:
 
 def name_of(data: bytes) -> bytes:
     """The name of bytes: the first 16 of their SHA-256."""
-    return hashlib.sha256(data).digest()[:NAME_SIZE]
+    return sha256(data).digest()[:NAME_SIZE]
 
 
 class Header(NamedTuple):

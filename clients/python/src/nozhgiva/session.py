@@ -2,16 +2,22 @@
 
 from __future__ import annotations
 
-import threading
 import time
-from types import TracebackType
-from typing import Optional, Type
+from _thread import TIMEOUT_MAX, allocate_lock
 
 from .asking import Asker
 from .errors import Full, NotAsked, Unknown
 from .ledger import GroupWords, Ledger
-from .links import Link, open_link
-from .messages import Delete, Get, Operation, Outcome, OutcomeKind, Put, Register, Request
+from .links import open_link
+from .messages import Delete, Get, OutcomeKind, Put, Register
+from .records import TYPE_CHECKING
+
+if TYPE_CHECKING:
+    from types import TracebackType
+    from typing import Optional, Type
+
+    from .links import Link
+    from .messages import Operation, Outcome, Request
 
 __all__ = ["Group", "Requests", "Session"]
 
@@ -43,8 +49,10 @@ class Group(GroupWords):
     """A group of members.
 
     `cluster` is its number, and `addresses` are all of its members' in their order, as at `node` and `client`: `HOST:PORT` for UDP or
-    `tcp:HOST:PORT`. `version` is that of its files, 1 or 2. `timeout` is how many seconds a request waits for its answer unless it says
-    otherwise, and `retry` how it is asked meanwhile. Nothing is sent before `register`.
+    `tcp:HOST:PORT`. `version` is that of its files, 1 or 2, in which it is asked first: sessions find the right one, and go over where the
+    group does. `timeout` is how many seconds a request waits for its answer unless it says otherwise, and `retry` how it is asked meanwhile.
+    `notice` is called with a line of text where an address seems to be wrong, or a register has no answer for 0.75 seconds. Nothing is sent
+    before `register`.
 
     Raises `ValueError` where an address is of another form, or there are fewer or more of them than the version allows: 2 to 6 in version 1,
     1 to 6 in version 2.
@@ -55,6 +63,7 @@ class Group(GroupWords):
         The group keeps 32 sessions, in version 2 64; a further one ends the one that was used longest ago.
 
         Raises `Unknown` where no answer came in `timeout` seconds: fewer members run than the group needs, or messages don't come through;
+        `Misconfigured`, an `Unknown` too, after 0.75 seconds where each address says that it is another member's or group's;
         `SessionLost` where the number was used before and its session has gone on; `Unresolved` where no address can be resolved. Names of
         hosts are looked up here, once for the session; one that isn't found is left out. How long that takes is up to the system.
         """
@@ -87,8 +96,8 @@ class Session(Requests):
         self._group = group
         self._ledger = Ledger(group, client)
         self._link = link
-        self._asker = Asker(link, self._ledger.course, group.retry, is_stopped=lambda: self._ledger.is_closed)
-        self._turn = threading.Lock()
+        self._asker = Asker(link, self._ledger.course, group.retry, is_stopped=lambda: self._ledger.is_closed, tell=self._ledger.tell)
+        self._turn = allocate_lock()
 
     @property
     def client(self) -> int:
@@ -114,7 +123,7 @@ class Session(Requests):
         self._ledger.check(operation)
         self._ledger.check_open()
         deadline = time.monotonic() + within
-        if not self._turn.acquire(timeout=min(within, threading.TIMEOUT_MAX)):
+        if not self._turn.acquire(timeout=min(within, TIMEOUT_MAX)):
             raise NotAsked(f"`{operation}` wasn't asked: others had the session for {within:g} s")
         try:
             self._ledger.check_open()
@@ -140,7 +149,7 @@ class Session(Requests):
         within = self._group.checked(timeout)
         self._ledger.check_open()
         deadline = time.monotonic() + within
-        if not self._turn.acquire(timeout=min(within, threading.TIMEOUT_MAX)):
+        if not self._turn.acquire(timeout=min(within, TIMEOUT_MAX)):
             raise NotAsked(f"others had the session for {within:g} s")
         try:
             self._ledger.check_open()

@@ -2,8 +2,10 @@
 
 from __future__ import annotations
 
-from dataclasses import dataclass, field
-from typing import List, Optional, Sequence, Set
+from .records import TYPE_CHECKING, dataclass, field
+
+if TYPE_CHECKING:
+    from typing import List, Optional, Sequence, Set
 
 __all__ = ["REFUSED", "Sight", "meaning", "told"]
 
@@ -34,11 +36,16 @@ class Sight:
     behind: int = 0
     """How often it answered out of a view older than the session knows: it was cut off, and leads no more."""
     versions: Set[int] = field(default_factory=set)
-    """The versions of the format, other than the group's, in which somebody spoke there."""
+    """The versions of the format, other than that of the request, in which somebody spoke there. Clients go over to them by themselves."""
     clusters: Set[int] = field(default_factory=set)
     """The numbers of other groups whose members spoke there."""
     stray: int = 0
     """How many messages came that were no answer to this request: late ones, and what is no message at all."""
+
+    @property
+    def is_misplaced(self) -> bool:
+        """Whether another member than the one whose place it is, or one of another group, answers there."""
+        return bool(self.members - {self.place} or self.clusters)
 
     @property
     def is_silent(self) -> bool:
@@ -65,10 +72,6 @@ class Sight:
 def meaning(sights: Sequence[Sight]) -> str:
     """What all of this most likely means, in a sentence; empty where nothing does."""
     asked = [sight for sight in sights if sight.asked]
-    versions = {version for sight in sights for version in sight.versions}
-    if versions:
-        version = min(versions)
-        return f"the group is of version {version}: Group(.., version={version})"
     if any(sight.clusters for sight in sights):
         return "another group has these addresses"
     if any(sight.members - {sight.place} for sight in sights):
@@ -76,8 +79,8 @@ def meaning(sights: Sequence[Sight]) -> str:
     if asked and all(sight.trouble == REFUSED for sight in asked):
         return "no member runs at these addresses; or they are reached over TCP and not over UDP, or the other way round"
     if asked and all(sight.is_silent for sight in asked):
-        return "members are silent to whoever asks for another group or version, and where too few of them run"
-    if any(sight.redirects for sight in asked):
+        return "members are silent to whoever asks for another group, and where too few of them run"
+    if any(sight.redirects or sight.versions for sight in asked):
         return "no member leads: fewer run, or hear each other, than the group needs"
     return ""
 
