@@ -88,6 +88,11 @@ class Running:
         for number in numbers:
             self.members[number] = self._start(number)
 
+    def migrate(self, number):
+        """Moves the file of a member that was killed to version 2."""
+        words = [PROGRAM, "migrate", str(CLUSTER), str(number), str(len(self.members)), f"{self.folder.name}/{number}"]
+        subprocess.run(words, check=True, stdout=subprocess.DEVNULL)
+
     def kill(self, *numbers):
         for number in numbers:
             self.members[number].kill()

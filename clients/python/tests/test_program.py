@@ -7,6 +7,7 @@ import unittest
 
 from failover import measure
 from nozhgiva import Full, Group, OutcomeKind, Pool, Retry, SessionLost, Unknown
+from nozhgiva.recipes import Counter
 from running import CLUSTER, PATIENCE, Running, needs_program
 
 FAST = Retry(first=0.05, factor=1.5, most=0.2, jitter=0.5)
@@ -40,15 +41,53 @@ class Program(unittest.TestCase):
             session.put("color", "v" * 3000)
             self.assertEqual(session.get("color"), "v" * 3000)
 
-    def test_a_group_of_another_version_says_so(self):
+    def test_a_group_of_another_version_is_found_and_another_group_said(self):
         for scheme, version in (("", 2), ("tcp:", 1)):
             with self.subTest(scheme=scheme, version=version), Running(scheme, version=version) as running:
+                with Group(CLUSTER, running.addresses, version=3 - version, timeout=PATIENCE, retry=FAST).register() as session:
+                    session.put("color", "v" * {1: 1024, 2: 3000}[version])
+                notices = []
                 with self.assertRaises(Unknown) as raised:
-                    Group(CLUSTER, running.addresses, version=3 - version, timeout=2.5, retry=FAST).register()
-                self.assertIn(f"answers in version {version}", str(raised.exception))
-                with self.assertRaises(Unknown) as raised:
-                    Group(CLUSTER + 1, running.addresses, version=version, timeout=0.5).register()
+                    Group(CLUSTER + 1, running.addresses, version=version, timeout=1.5, notice=notices.append).register()
                 self.assertTrue(all(sight.is_silent or not sight.asked for sight in raised.exception.seen), raised.exception)
+                self.assertIn("another group", notices[0])
+
+    def test_sessions_go_over_with_a_group_that_is_moved_to_version_2(self):
+        """Two add to a counter all the time, and one put is open while the group goes over: each is executed once."""
+        for scheme in ("", "tcp:"):
+            with self.subTest(scheme), Running(scheme) as running, running.group.register() as session:
+                Counter(session, "visits").make()
+                over, added = threading.Event(), []
+                threads = [threading.Thread(target=self.add, args=(running, over, added)) for _ in range(2)]
+                for thread in threads:
+                    thread.start()
+                self.move(running, 2)
+                running.kill(1)
+                running.migrate(1)
+                with self.assertRaises(Unknown):
+                    session.put("color", "green", timeout=1.0)
+                running.start(1)
+                self.assertEqual(session.settle().kind, OutcomeKind.OK)
+                session.put("long", "v" * 3000)
+                self.move(running, 0)
+                over.set()
+                for thread in threads:
+                    thread.join()
+                self.assertEqual(sorted(added), list(range(1, len(added) + 1)))
+                self.assertGreater(len(added), 4)
+                self.assertEqual((session.get("color"), session.get("visits")), ("green", str(len(added))))
+
+    def move(self, running, number):
+        running.kill(number)
+        running.migrate(number)
+        running.start(number)
+        time.sleep(0.5)
+
+    def add(self, running, over, added):
+        with running.group.register() as session:
+            counter = Counter(session, "visits")
+            while not over.is_set():
+                added.append(counter.add())
 
     def test_addresses_in_another_order_are_told(self):
         with Running() as running:
