@@ -36,12 +36,16 @@ class Command(NamedTuple):
     words: Codes = ()
     needs_program: bool = False  # whether the script is to be told which program there is
     tells_program: bool = False  # whether it matters so much which one that is that it is said
+    is_word: bool = False  # whether the script is given the subcommand's name too, before the words
 
 
 CLUSTER = ("CLUSTER", "the number of the group, below 2^64")
 ADDRESSES = ("ADDR..", "the addresses of all members, in their order; over TCP each begins with tcp:")
 TURNS = ("TURNS", "how often it receives before it ends, with up to ten milliseconds each")
 VERSION_2 = ("--v2", "the group's files are of version 2")
+KEY = ("KEY", "the key, 1 to 64 visible letters of ASCII")
+OF_GROUP = ("CLUSTER ADDR..", "the group's number and the addresses of all its members; without them those of NOZHGIVA_GROUP and NOZHGIVA_ADDRS, or of /etc/nozhgiva/group")
+ASKED: Codes = (("1", "the key isn't there, or there is no room for it"), WORDS, ("3", "a line is refused"), NO_ANSWER)
 
 COMMANDS: Tuple[Command, ...] = (
     Command("build", BUILDING, "compiles the program without proving anything, in some two minutes of a processor, as out/vr_app", "nozhgiva build",
@@ -80,8 +84,15 @@ COMMANDS: Tuple[Command, ...] = (
     Command("migrate", RUNNING, "makes a member's data file one of version 2; there is no way back", "nozhgiva migrate 5 0 3 /var/lib/nozhgiva/0",
             (("0", "the file is of version 2"), USAGE, *FILE_CODES, MEMORY), usage="CLUSTER REPLICA N FILE",
             words=(CLUSTER, ("REPLICA", "the member's number in it, from 0"), ("N", "how many members the group has"), ("FILE", "the member's data file"))),
-    Command("ask", RUNNING, "asks a group line by line, and asks again after a pause where no answer comes",
-            "printf 'get a\\n' | nozhgiva ask 5 127.0.0.1:4000 127.0.0.1:4001 127.0.0.1:4002", (("0", "all lines are answered"), WORDS, ("3", "a line is refused"), NO_ANSWER), "operate/ask", needs_program=True),
+    Command("ask", RUNNING, "asks a group to put, get or delete keys, by its words or line by line, in one session",
+            "printf 'get a\\n' | nozhgiva ask 5 127.0.0.1:4000 127.0.0.1:4001 127.0.0.1:4002",
+            (("0", "all lines are answered"), *ASKED), "operate/ask"),
+    Command("get", RUNNING, "writes the value of a key", "nozhgiva get color 5 127.0.0.1:4000 127.0.0.1:4001 127.0.0.1:4002", (("0", "it is written"), *ASKED), "operate/ask",
+            "KEY [CLUSTER ADDR..]", (KEY, OF_GROUP), is_word=True),
+    Command("put", RUNNING, "gives a key a value", "nozhgiva put color green 5 127.0.0.1:4000 127.0.0.1:4001 127.0.0.1:4002", (("0", "it is put"), *ASKED), "operate/ask",
+            "KEY VALUE [CLUSTER ADDR..]", (KEY, ("VALUE", "1 to 1,024 letters of the same kind, in a group of version 2 to 3,000"), OF_GROUP), is_word=True),
+    Command("del", RUNNING, "takes a key out", "nozhgiva del color 5 127.0.0.1:4000 127.0.0.1:4001 127.0.0.1:4002", (("0", "it was there, and isn't any more"), *ASKED), "operate/ask",
+            "KEY [CLUSTER ADDR..]", (KEY, OF_GROUP), is_word=True),
     Command("keep", OPERATING, "runs a member, writes its lines with times, and starts it again when it ended",
             "nozhgiva keep --log /var/log/nozhgiva/0.log 5 0 /var/lib/nozhgiva/0 10.0.0.1:4000 10.0.0.2:4000 10.0.0.3:4000",
             (("0", "it was told to end"), USAGE, ("6 to 12", "the member's code, where somebody has to look first"), ("20", "another keeper has the file")), "operate/keep", needs_program=True, tells_program=True),

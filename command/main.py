@@ -48,7 +48,7 @@ def call(home: str, command: Command, words: List[str]) -> int:
     signal.signal(signal.SIGPIPE, signal.SIG_DFL)
     signal.signal(signal.SIGXFSZ, signal.SIG_DFL)
     try:
-        os.execv(path, [path, *words])
+        os.execv(path, [path, *[command.name] * command.is_word, *words])
     except OSError as error:
         return fail(f"{path} doesn't start: {error.strerror}; is what its first line names installed?")
 
