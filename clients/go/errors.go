@@ -16,6 +16,9 @@ var (
 	ErrSessionLost = errors.New("the session is lost")
 	// ErrNotAsked: the operation wasn't sent to anybody, so it isn't executed, now or later.
 	ErrNotAsked = errors.New("it wasn't asked")
+	// ErrMisconfigured: each address says that it isn't what the group's list says, but another member's or another group's. A register ends so
+	// after less than a second, and is an ErrUnknown too.
+	ErrMisconfigured = errors.New("the addresses aren't those of the group's members in their order")
 	// ErrFull: the put was executed and changed nothing, since its key is new and the group holds as many keys as it can, 128.
 	ErrFull = errors.New("the group is full")
 	// ErrClosed: the session was closed.
@@ -33,22 +36,27 @@ type UnknownError struct {
 	Unsent *Operation
 	// Seen has what was seen at each address of the group, in their order.
 	Seen []Seen
-	// Cause is what ended the wait: context.DeadlineExceeded, context.Canceled or ErrClosed.
+	// Cause is what ended the wait: context.DeadlineExceeded, context.Canceled, ErrClosed or ErrMisconfigured.
 	Cause error
 }
 
 // Error says what isn't known, why, and what was seen at each address.
 func (e *UnknownError) Error() string {
+	text := "nozhgiva: no answer (%v): whether `%v` was executed isn't known%s; %s"
+	return fmt.Sprintf(text, e.Cause, e.Operation, unsent(e.Unsent), saidOf(e.Seen))
+}
+
+// saidOf says what was seen at all addresses, as the end of a sentence.
+func saidOf(all []Seen) string {
 	hint := " (members don't answer those who ask for another cluster)"
-	seen := make([]string, len(e.Seen))
-	for at, one := range e.Seen {
+	seen := make([]string, len(all))
+	for at, one := range all {
 		seen[at] = one.String()
 		if one.Sight != Silent {
 			hint = ""
 		}
 	}
-	text := "nozhgiva: no answer (%v): whether `%v` was executed isn't known%s; seen: %s%s"
-	return fmt.Sprintf(text, e.Cause, e.Operation, unsent(e.Unsent), strings.Join(seen, ", "), hint)
+	return fmt.Sprintf("seen: %s%s", strings.Join(seen, ", "), hint)
 }
 
 // Is tells whether the error is ErrUnknown, or ErrNotAsked where one wasn't.
@@ -135,9 +143,12 @@ const (
 	Redirects                 // it says that the member Seen.Leader leads, in Seen.View
 	OtherMember               // the member Seen.Member answers at this place: the addresses stand in another order
 	OtherCluster              // messages of the group Seen.Cluster come from there
-	OtherVersion              // it answers in version Seen.Version; a member that is silent is asked for that, too
+	OtherVersion              // it answers in version Seen.Version, in which it is asked then
 	NoMessage                 // what comes from there is no message
 )
+
+// isWrong tells whether a sight tells of a wrong configuration.
+func (s Sight) isWrong() bool { return s == OtherMember || s == OtherCluster || s == NoMessage }
 
 // Seen is what a request saw at one of the group's addresses. A sight that tells of a wrong configuration stays; of the others it is the last.
 type Seen struct {

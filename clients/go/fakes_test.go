@@ -49,6 +49,7 @@ type state struct {
 	last     int64
 	given    Outcome
 	version  byte
+	only     bool // hears its version alone from the start
 	quiet    bool
 }
 
@@ -58,6 +59,13 @@ func (s *state) hush(quiet bool) {
 	s.mutex.Lock()
 	defer s.mutex.Unlock()
 	s.quiet = quiet
+}
+
+// move has it hear another version from now on.
+func (s *state) move(version byte) {
+	s.mutex.Lock()
+	defer s.mutex.Unlock()
+	s.version = version
 }
 
 // said tells what was executed, in order.
@@ -70,8 +78,11 @@ func (s *state) said() string {
 func (s *state) script(member int, asked request) [][]byte {
 	s.mutex.Lock()
 	defer s.mutex.Unlock()
-	if asked.version != s.version && s.last >= 0 || int64(asked.number) < s.last {
+	if asked.version != s.version && (s.only || s.last >= 0) || int64(asked.number) < s.last {
 		return nil // a member hears its own version, and nobody waits for the answer to a late copy
+	}
+	if asked.operation.Key == "version" {
+		return [][]byte{answer(asked, member, replyEvicted, 0, Outcome{}).encode()}
 	}
 	if s.last != int64(asked.number) {
 		s.version = asked.version
@@ -97,7 +108,7 @@ func (s *state) execute(operation Operation) Outcome {
 	case !found:
 		return Outcome{Kind: OutcomeAbsent}
 	case operation.Kind == OperationGet:
-		return Outcome{OutcomeValue, value}
+		return Outcome{Kind: OutcomeValue, Value: value}
 	default:
 		delete(s.keys, operation.Key)
 		return Outcome{Kind: OutcomeOK}
@@ -204,7 +215,7 @@ func briefly(t *testing.T) context.Context {
 // wantIs fails the test where an error isn't all of some kinds, or is one of others.
 func wantIs(t *testing.T, what string, err error, kinds ...error) {
 	t.Helper()
-	for _, kind := range []error{ErrUnknown, ErrSessionLost, ErrNotAsked, ErrFull, ErrClosed, ErrInvalid} {
+	for _, kind := range []error{ErrUnknown, ErrSessionLost, ErrNotAsked, ErrFull, ErrClosed, ErrInvalid, ErrMisconfigured} {
 		wanted := false
 		for _, one := range kinds {
 			wanted = wanted || one == kind

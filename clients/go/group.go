@@ -7,6 +7,7 @@ import (
 	"fmt"
 	"math/rand"
 	"sync"
+	"sync/atomic"
 	"time"
 )
 
@@ -33,13 +34,15 @@ type Group struct {
 	version   byte
 	timeout   time.Duration
 	retry     Retry
+	notice    func(string)
+	spoken    []atomic.Uint32
 }
 
 // An Option says how a group is asked.
 type Option func(*Group)
 
-// WithVersion asks in a version of the format, 1 or 2: that of the members' files. Without it, it is 1. In version 2 a group may have one
-// member, and values have up to 3,000 bytes in place of 1,024.
+// WithVersion asks in a version of the format first, 1 or 2: that of the members' files. Without it, it is 1. Sessions find the right one, and go
+// over where the group does. In version 2 a group may have one member, and values have up to 3,000 bytes in place of 1,024.
 func WithVersion(version int) Option {
 	return func(g *Group) {
 		g.version = byte(version)
@@ -51,6 +54,10 @@ func WithVersion(version int) Option {
 
 // WithTimeout says how long a request waits for its answer, where its context doesn't end sooner: 10 seconds without it.
 func WithTimeout(timeout time.Duration) Option { return func(g *Group) { g.timeout = timeout } }
+
+// WithNotice has a line of text given to a function where an address seems to be wrong, or a register has no answer for 0.75 seconds. It is
+// called by whoever asks, which waits for it.
+func WithNotice(notice func(text string)) Option { return func(g *Group) { g.notice = notice } }
 
 // WithRetry says how a request is asked again while it waits: by [DefaultRetry] without it.
 func WithRetry(retry Retry) Option { return func(g *Group) { g.retry = retry } }
@@ -79,6 +86,10 @@ func Dial(cluster uint64, addresses []string, options ...Option) (*Group, error)
 	if err != nil {
 		return nil, err
 	}
+	g.spoken = make([]atomic.Uint32, len(addresses))
+	for place := range g.spoken {
+		g.spoken[place].Store(uint32(g.version))
+	}
 	return g, nil
 }
 
@@ -91,7 +102,8 @@ func (g *Group) String() string {
 // used longest ago. So a program should have few, and may use one from several goroutines.
 //
 // It gives an error of package net where no address can be resolved, and an [ErrUnknown] where no answer came: fewer members run than the
-// group needs, messages don't come through, or the number, the version or the addresses are another group's. The error says what was seen.
+// group needs, messages don't come through, or the number or the addresses are another group's. The error says what was seen. It is an
+// [ErrMisconfigured] too, after less than a second, where each address says that it is another member's or another group's.
 func (g *Group) Register(ctx context.Context) (*Session, error) {
 	var drawn [8]byte
 	for {
@@ -120,7 +132,8 @@ func (g *Group) RegisterAs(ctx context.Context, client uint64) (*Session, error)
 		return nil, notAsked("register", err)
 	}
 	s := &Session{client: client, group: g, link: link, turn: make(chan struct{}, 1)}
-	s.asker = asker{link: link, addresses: g.addresses, retry: g.retry, draw: rand.New(rand.NewSource(int64(client)))}
+	s.asker.link, s.asker.addresses, s.asker.retry, s.asker.notice = link, g.addresses, g.retry, g.notice
+	s.asker.draw, s.asker.spoken, s.asker.misplaced = rand.New(rand.NewSource(int64(client))), g.spoken, make([]bool, len(g.addresses))
 	if _, err := s.ask(within, Operation{Kind: OperationRegister}); err != nil {
 		s.Close()
 		return nil, err
@@ -181,6 +194,14 @@ func (s *Session) Delete(ctx context.Context, key string) (was bool, err error) 
 	return outcome.Kind == OutcomeOK, err
 }
 
+// Ask asks any operation but a register, and gives its outcome, with its number in the group's list: what Put, Get and Delete are made of.
+func (s *Session) Ask(ctx context.Context, operation Operation) (Outcome, error) {
+	if operation.Kind < OperationPut || operation.Kind > OperationDelete {
+		return Outcome{}, invalid("an operation is a put, a get or a delete")
+	}
+	return s.do(ctx, operation)
+}
+
 // Settle asks once more for the answer of the operation that is pending after an [ErrUnknown], and gives its outcome; nil where none is pending.
 func (s *Session) Settle(ctx context.Context) (*Outcome, error) {
 	within, cancel := context.WithTimeout(ctx, s.group.timeout)
@@ -228,12 +249,20 @@ func (s *Session) begin(ctx context.Context, what string) error {
 
 // do asks an operation of its form, within the group's timeout.
 func (s *Session) do(ctx context.Context, operation Operation) (Outcome, error) {
-	if err := operation.check(s.group.version); err != nil {
+	if err := operation.check(s.version()); err != nil {
 		return Outcome{}, err
 	}
 	within, cancel := context.WithTimeout(ctx, s.group.timeout)
 	defer cancel()
 	return s.ask(within, operation)
+}
+
+// version gives that of the group, as far as this session knows.
+func (s *Session) version() byte {
+	if known := s.asker.version.Load(); known != 0 {
+		return byte(known)
+	}
+	return s.group.version
 }
 
 // ask asks under the next number, once nothing is pending.
@@ -253,7 +282,7 @@ func (s *Session) ask(ctx context.Context, operation Operation) (Outcome, error)
 	if s.lost != nil {
 		return Outcome{}, withUnsent(s.lost, operation)
 	}
-	s.open = &request{s.group.cluster, s.client, uint32(s.next), operation, s.group.version}
+	s.open = &request{s.group.cluster, s.client, uint32(s.next), operation, s.version()}
 	s.next++
 	return s.settle(ctx)
 }
@@ -270,6 +299,7 @@ func (s *Session) settle(ctx context.Context) (Outcome, error) {
 		s.lost = &SessionLostError{Reason: reason, Operation: operation}
 		return Outcome{}, s.lost
 	}
+	answer.outcome.Op = answer.op
 	return answer.outcome, nil
 }
 

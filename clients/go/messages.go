@@ -161,10 +161,12 @@ const (
 	OutcomeValue                          // of a get
 )
 
-// Outcome is what executing an operation gave; Value stands exactly with OutcomeValue.
+// Outcome is what executing an operation gave; Value stands exactly with OutcomeValue. Op is the number in the group's list of operations under
+// which it was executed: of two operations the one that was executed later has the greater one.
 type Outcome struct {
 	Kind  OutcomeKind
 	Value string
+	Op    uint64
 }
 
 func (o Outcome) encode() []byte {
@@ -178,7 +180,7 @@ func decodeOutcome(body []byte, version byte) (Outcome, error) {
 	if len(body) >= 3 && OutcomeKind(body[0]) == OutcomeValue {
 		value := string(body[3:])
 		if len(value) == int(binary.BigEndian.Uint16(body[1:])) && checkText("value", value, largestValue[version]) == nil {
-			return Outcome{OutcomeValue, value}, nil
+			return Outcome{Kind: OutcomeValue, Value: value}, nil
 		}
 	}
 	if len(body) == 1 && body[0] >= byte(OutcomeSession) && body[0] < byte(OutcomeValue) {

@@ -145,7 +145,7 @@ func TestMembersThatAreKilledInTurn(t *testing.T) {
 	}
 }
 
-// Members don't answer a client of another cluster, and are asked which version is theirs; what a client is told says so.
+// Members don't answer a client of another cluster, and what a client is told says so. One of another version is found.
 func TestAnotherVersionOrCluster(t *testing.T) {
 	for _, scheme := range []string{"", "tcp:"} {
 		r := start(t, scheme, "127.0.0.1")
@@ -154,13 +154,51 @@ func TestAnotherVersionOrCluster(t *testing.T) {
 		if err != nil {
 			t.Fatal(err)
 		}
-		for wanted, group := range map[string]*Group{
-			"don't answer those who ask for another cluster": other, "1 is of version 1": r.group(WithVersion(2), WithTimeout(3*time.Second)),
-		} {
-			_, err := group.Register(background)
-			if wantIs(t, "a register", err, ErrUnknown); !strings.Contains(strings.ReplaceAll(fmt.Sprint(err), r.addresses[1], "1"), wanted) {
-				t.Errorf("%v", err)
+		_, err = other.Register(background)
+		if wantIs(t, "a register", err, ErrUnknown); !strings.Contains(fmt.Sprint(err), "don't answer those who ask for another cluster") {
+			t.Errorf("%v", err)
+		}
+		session := register(t, r.group(WithVersion(2)))
+		wantIs(t, "a long put", session.Put(background, "long", strings.Repeat("v", 3000)), ErrInvalid, ErrNotAsked)
+	}
+}
+
+// A group is moved to version 2, member by member, while a session deletes keys that it has put: each put and delete is executed once, also the one
+// that is open while the group goes over.
+func TestAGroupThatIsMoved(t *testing.T) {
+	for _, scheme := range []string{"", "tcp:"} {
+		r := start(t, scheme, "127.0.0.1")
+		session := register(t, r.group())
+		last, op := 0, uint64(0)
+		for _, member := range []int{2, 1, 0} {
+			r.kill(member)
+			words := []string{"migrate", strconv.Itoa(cluster), strconv.Itoa(member), strconv.Itoa(size), filepath.Join(r.folder, strconv.Itoa(member))}
+			if said, err := exec.Command(r.program, words...).CombinedOutput(); err != nil {
+				t.Fatalf("%v: %s", err, said)
 			}
+			if member == 1 {
+				within, cancel := context.WithTimeout(background, time.Second)
+				err := session.Put(within, "open", "yes")
+				cancel()
+				wantIs(t, "a put without a quorum", err, ErrUnknown)
+			}
+			r.begin(member)
+			for end := time.Now().Add(time.Second); time.Now().Before(end); last++ {
+				outcome, err := session.Ask(background, Operation{Kind: OperationPut, Key: "last", Value: strconv.Itoa(last)})
+				if err != nil || outcome.Op <= op {
+					t.Fatalf("%v after %d: %v", outcome, op, err)
+				}
+				op = outcome.Op
+				if was, err := session.Delete(background, "last"); err != nil || !was {
+					t.Fatal(was, err)
+				}
+			}
+		}
+		if value, _, err := session.Get(background, "open"); err != nil || value != "yes" {
+			t.Error(value, err)
+		}
+		if err := session.Put(background, "long", strings.Repeat("v", 3000)); err != nil {
+			t.Error(err)
 		}
 	}
 }

@@ -296,8 +296,8 @@ func TestWhatWasSeen(t *testing.T) {
 		{"redirects", overDatagrams, says(replyRedirect, 7), Redirects, "redirects to member 1 (view 7)"},
 		{"another order", overDatagrams, change(func(r *reply) { r.replica = (r.replica + 2) % 3 }), OtherMember, "member 2 answers at place 0"},
 		{"another cluster", overDatagrams, change(func(r *reply) { r.cluster = 6 }), OtherCluster, "is of another cluster (6)"},
-		{"another version", overDatagrams, ofVersion2, OtherVersion, "is of version 2"},
-		{"another version over streams", overStreams, ofVersion2, OtherVersion, "is of version 2"},
+		{"another version without a primary", overDatagrams, ofVersion2, Redirects, "redirects to member 0 (view 0)"},
+		{"another version without a primary, over streams", overStreams, ofVersion2, Redirects, "redirects to member 0 (view 0)"},
 		{"no message", overDatagrams, func(int, request) [][]byte { return [][]byte{[]byte("HTTP/1.1 400 Bad Request")} }, NoMessage, "sends what is no message"},
 		{"no message on a stream", overStreams, func(int, request) [][]byte { return [][]byte{make([]byte, 200)} }, NoMessage, "sends what is no message"},
 	}
@@ -306,10 +306,23 @@ func TestWhatWasSeen(t *testing.T) {
 		t.Run(row.name, func(t *testing.T) {
 			t.Parallel()
 			begun := time.Now()
-			_, err := dial(t, row.start(t, 3, row.says), WithTimeout(later)).Register(background)
-			wantIs(t, "a register", err, ErrUnknown)
-			if took := time.Since(begun); took < later {
-				t.Errorf("it waited for %v alone", took)
+			var said []string
+			var when []time.Duration
+			notice := func(text string) { said, when = append(said, text), append(when, time.Since(begun)) }
+			_, err := dial(t, row.start(t, 3, row.says), WithTimeout(later), WithNotice(notice)).Register(background)
+			kinds, hopeless := []error{ErrUnknown}, row.sight == OtherMember || row.sight == OtherCluster
+			if hopeless {
+				kinds = append(kinds, ErrMisconfigured)
+			}
+			wantIs(t, "a register", err, kinds...)
+			if took := time.Since(begun); !hopeless && took < later || hopeless && took > later/2 {
+				t.Errorf("it waited for %v", took)
+			}
+			if len(said) != 1 && !hopeless || hopeless && row.sight == OtherCluster && len(said) > 0 || !hopeless && !strings.Contains(said[0], row.wanted) {
+				t.Errorf("it was told: %v", said)
+			}
+			if !hopeless && when[0] > time.Second {
+				t.Errorf("it was told after %v", when[0])
 			}
 			var unknown *UnknownError
 			if !errors.As(err, &unknown) {
@@ -325,6 +338,57 @@ func TestWhatWasSeen(t *testing.T) {
 			}
 		})
 	}
+}
+
+// A group of the other version is found within a second, and a session goes over with its group: what is open is executed once.
+func TestSessionsGoOver(t *testing.T) {
+	for _, start := range []func(*testing.T, int, script) []string{overDatagrams, overStreams} {
+		for version := 1; version <= 2; version++ {
+			s := newState()
+			s.version, s.last = byte(version), -1
+			s.only = true
+			begun := time.Now()
+			register(t, dial(t, start(t, 3, s.script), WithVersion(3-version), WithRetry(DefaultRetry)))
+			if took := time.Since(begun); took > time.Second {
+				t.Errorf("version %d is found after %v", version, took)
+			}
+		}
+	}
+	s := newState()
+	s.version, s.only = 1, true
+	session := register(t, dial(t, overDatagrams(t, 3, s.script)))
+	s.hush(true)
+	err := session.Put(briefly(t), "color", "green")
+	wantIs(t, "a put", err, ErrUnknown)
+	wantIs(t, "a long put", session.Put(background, "long", strings.Repeat("v", 3000)), ErrInvalid, ErrNotAsked)
+	s.move(2)
+	s.hush(false)
+	outcome, err := session.Settle(background)
+	if err != nil || outcome.Kind != OutcomeOK || outcome.Op != 1 {
+		t.Errorf("%v %v", outcome, err)
+	}
+	if err := session.Put(background, "long", strings.Repeat("v", 3000)); err != nil {
+		t.Error(err)
+	}
+	if said := s.said(); said != "register, put color (5 bytes), put long (3000 bytes)" {
+		t.Error(said)
+	}
+}
+
+// The outcome of an operation has its number in the group's list.
+func TestAnOutcomeHasItsNumber(t *testing.T) {
+	session := register(t, dial(t, overDatagrams(t, 2, func(member int, asked request) [][]byte {
+		said := answer(asked, member, replyOutcome, 0, Outcome{Kind: map[bool]OutcomeKind{true: OutcomeSession, false: OutcomeOK}[asked.number == 0]})
+		said.op = 40 + uint64(asked.number)
+		return [][]byte{said.encode()}
+	})))
+	for wanted := uint64(41); wanted < 44; wanted++ {
+		if outcome, err := session.Ask(background, Operation{Kind: OperationPut, Key: "color", Value: "green"}); err != nil || outcome.Op != wanted {
+			t.Errorf("%v %v", outcome, err)
+		}
+	}
+	_, err := session.Ask(background, Operation{Kind: OperationRegister})
+	wantIs(t, "a register by Ask", err, ErrInvalid, ErrNotAsked)
 }
 
 func TestAClosedSession(t *testing.T) {

@@ -9,6 +9,7 @@ import (
 	"sort"
 	"strconv"
 	"strings"
+	"sync/atomic"
 	"testing"
 )
 
@@ -139,8 +140,10 @@ func TestWhatAMessageSays(t *testing.T) {
 		}
 		var sent []int
 		l := &link{places: []sender{toNobody{0, &sent}, toNobody{1, &sent}, toNobody{2, &sent}}}
-		s := &search{asker: &asker{link: l, addresses: make([]string, 3)}, request: asked.(request), asked: make([]bool, 3), seen: make([]Seen, 3)}
-		copy(s.name[:], fromHex(t, row[2]))
+		a := &asker{}
+		prepare(a, l)
+		s := a.newSearch(asked.(request))
+		s.asked = make([]byte, 3)
 		answer := s.hear(arrival{place: 0, data: fromHex(t, row[3])})
 		word := "dropped"
 		switch {
@@ -176,13 +179,23 @@ type stage struct {
 }
 
 func (s stage) send(data []byte) {
-	if bytes.Equal(data, s.search.data) {
+	if bytes.Equal(data, s.search.requests[1].data) {
 		s.sent = append(s.sent, s.place)
 	}
 }
 
+// prepare has an asker ask three members of version 1 through a link.
+func prepare(a *asker, l *link) {
+	a.link, a.addresses, a.draw = l, make([]string, 3), rand.New(rand.NewSource(1))
+	a.spoken, a.misplaced = make([]atomic.Uint32, 3), make([]bool, 3)
+	a.spoken[0].Store(1)
+	a.spoken[1].Store(1)
+	a.spoken[2].Store(1)
+}
+
 func newPlay(t *testing.T) *play {
-	p := &play{T: t, asker: asker{link: &link{}, addresses: make([]string, 3), draw: rand.New(rand.NewSource(1))}}
+	p := &play{T: t}
+	prepare(&p.asker, &link{})
 	for place := range p.addresses {
 		p.link.places = append(p.link.places, stage{place, p})
 	}
