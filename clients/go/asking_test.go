@@ -31,7 +31,7 @@ func (c *tally) all() [3]int {
 // Pauses that are much longer than these tests may take: what is to be asked at once isn't asked after one.
 var slow = Retry{First: surely / 2, Most: surely / 2, Factor: 1}
 
-// A redirect is followed at once, and who answered last is asked first.
+// A register asks all members at once, and the next request who answered.
 func TestWhoIsAsked(t *testing.T) {
 	s, count, begun := newState(), &tally{}, time.Now()
 	session := register(t, dial(t, overDatagrams(t, 3, count.of(func(member int, asked request) [][]byte {
@@ -43,7 +43,7 @@ func TestWhoIsAsked(t *testing.T) {
 	if err := session.Put(background, "color", "green"); err != nil {
 		t.Fatal(err)
 	}
-	if took, asked := time.Since(begun), count.all(); took > surely/4 || asked != [3]int{1, 0, 2} {
+	if took, asked := time.Since(begun), count.all(); took > surely/4 || asked != [3]int{1, 1, 2} {
 		t.Errorf("it took %v, and %v were asked", took, asked)
 	}
 }

@@ -241,7 +241,7 @@ class Texts(Folder):
     def test_words(self):
         kept = self.path("given", backups.spell(self.BACKUP))
         for words, wanted in [((kept, "--check"), 0), ((kept,), 2), ((kept, "6"), 2), ((kept, "6", *NOBODY, "--check"), 2), (("/no/such", "--check"), 1),
-                              ((kept, "6", *NOBODY, "--program", "/no/such"), 2), ((kept, "6", *NOBODY, "--for", "0.5", "--program", "/bin/false"), 13)]:
+                              ((kept, "6", "no-address", "127.0.0.1:2"), 2), ((kept, "6", *NOBODY, "--for", "0.5", "--program", "/bin/false"), 13)]:
             with self.subTest(str(words)):
                 code, _, said = run("restore", *words)
                 self.assertEqual(code, wanted, said)
