@@ -44,7 +44,7 @@ ADDRESSES = ("ADDR..", "the addresses of all members, in their order; over TCP e
 TURNS = ("TURNS", "how often it receives before it ends, with up to ten milliseconds each")
 VERSION_2 = ("--v2", "the group's files are of version 2")
 KEY = ("KEY", "the key, 1 to 64 visible letters of ASCII")
-OF_GROUP = ("CLUSTER ADDR..", "the group's number and the addresses of all its members; without them those of NOZHGIVA_GROUP and NOZHGIVA_ADDRS, or of /etc/nozhgiva/group")
+OF_GROUP: Codes = (("CLUSTER", "the number of the group; without it the group is the one of NOZHGIVA_GROUP and NOZHGIVA_ADDRS, or of /etc/nozhgiva/group"), ADDRESSES)
 ASKED: Codes = (("1", "the key isn't there, or there is no room for it"), WORDS, ("3", "a line is refused"), NO_ANSWER)
 
 COMMANDS: Tuple[Command, ...] = (
@@ -87,12 +87,12 @@ COMMANDS: Tuple[Command, ...] = (
     Command("ask", RUNNING, "asks a group to put, get or delete keys, by its words or line by line, in one session",
             "printf 'get a\\n' | nozhgiva ask 5 127.0.0.1:4000 127.0.0.1:4001 127.0.0.1:4002",
             (("0", "all lines are answered"), *ASKED), "operate/ask"),
-    Command("get", RUNNING, "writes the value of a key", "nozhgiva get color 5 127.0.0.1:4000 127.0.0.1:4001 127.0.0.1:4002", (("0", "it is written"), *ASKED), "operate/ask",
-            "KEY [CLUSTER ADDR..]", (KEY, OF_GROUP), is_word=True),
-    Command("put", RUNNING, "gives a key a value", "nozhgiva put color green 5 127.0.0.1:4000 127.0.0.1:4001 127.0.0.1:4002", (("0", "it is put"), *ASKED), "operate/ask",
-            "KEY VALUE [CLUSTER ADDR..]", (KEY, ("VALUE", "1 to 1,024 letters of the same kind, in a group of version 2 to 3,000"), OF_GROUP), is_word=True),
-    Command("del", RUNNING, "takes a key out", "nozhgiva del color 5 127.0.0.1:4000 127.0.0.1:4001 127.0.0.1:4002", (("0", "it was there, and isn't any more"), *ASKED), "operate/ask",
-            "KEY [CLUSTER ADDR..]", (KEY, OF_GROUP), is_word=True),
+    Command("get", RUNNING, "writes the value of a key, as `ask` with these words", "nozhgiva get color 5 127.0.0.1:4000 127.0.0.1:4001 127.0.0.1:4002", (("0", "it is written"), *ASKED), "operate/ask",
+            "KEY [CLUSTER ADDR..]", (KEY, *OF_GROUP), is_word=True),
+    Command("put", RUNNING, "gives a key a value, as `ask` with these words", "nozhgiva put color green 5 127.0.0.1:4000 127.0.0.1:4001 127.0.0.1:4002", (("0", "it is put"), *ASKED), "operate/ask",
+            "KEY VALUE [CLUSTER ADDR..]", (KEY, ("VALUE", "1 to 1,024 letters of the same kind, in a group of version 2 to 3,000"), *OF_GROUP), is_word=True),
+    Command("del", RUNNING, "takes a key out, as `ask` with these words", "nozhgiva del color 5 127.0.0.1:4000 127.0.0.1:4001 127.0.0.1:4002", (("0", "it was there, and isn't any more"), *ASKED), "operate/ask",
+            "KEY [CLUSTER ADDR..]", (KEY, *OF_GROUP), is_word=True),
     Command("keep", OPERATING, "runs a member, writes its lines with times, and starts it again when it ended",
             "nozhgiva keep --log /var/log/nozhgiva/0.log 5 0 /var/lib/nozhgiva/0 10.0.0.1:4000 10.0.0.2:4000 10.0.0.3:4000",
             (("0", "it was told to end"), USAGE, ("6 to 12", "the member's code, where somebody has to look first"), ("20", "another keeper has the file")), "operate/keep", needs_program=True, tells_program=True),
