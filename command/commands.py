@@ -45,7 +45,7 @@ TURNS = ("TURNS", "how often it receives before it ends, with up to ten millisec
 VERSION_2 = ("--v2", "the group's files are of version 2")
 KEY = ("KEY", "the key, 1 to 64 visible letters of ASCII")
 OF_GROUP: Codes = (("CLUSTER", "the number of the group; without it the group is the one of NOZHGIVA_GROUP and NOZHGIVA_ADDRS, or of /etc/nozhgiva/group"), ADDRESSES)
-ASKED: Codes = (("1", "the key isn't there, or there is no room for it"), WORDS, ("3", "a line is refused"), NO_ANSWER)
+ASKED: Codes = (("1", "the key isn't there, or there is no room for it"), WORDS, ("3", "a line is refused"), OUTPUT, NO_ANSWER)
 
 COMMANDS: Tuple[Command, ...] = (
     Command("build", BUILDING, "compiles the program without proving anything, in some two minutes of a processor, as out/vr_app", "nozhgiva build",

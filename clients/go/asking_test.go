@@ -43,7 +43,11 @@ func TestWhoIsAsked(t *testing.T) {
 	if err := session.Put(background, "color", "green"); err != nil {
 		t.Fatal(err)
 	}
-	if took, asked := time.Since(begun), count.all(); took > surely/4 || asked != [3]int{1, 1, 2} {
+	took := time.Since(begun)
+	for count.all() != [3]int{1, 1, 2} && time.Since(begun) < surely/4 {
+		time.Sleep(rest) // what was sent is on its way
+	}
+	if asked := count.all(); took > surely/4 || asked != [3]int{1, 1, 2} {
 		t.Errorf("it took %v, and %v were asked", took, asked)
 	}
 }

@@ -182,6 +182,19 @@ class Asking(unittest.TestCase):
                 self.assertEqual((made.stdout, made.returncode), ("", 2))
                 self.assertIn(why, made.stderr)
 
+    def test_streams_that_are_none(self):
+        with Members(2, State()) as members:
+            group = " ".join(["5", *members.addresses])
+            for line, code, why in (("ask {} > /dev/full < lines", 6, "standard output can't be written: no space left on device"), ("put color green {} > /dev/full", 6, "standard output can't"),
+                                    ("put color green {} >&-", 6, "there is no standard output"), ("ask {} <&-", 2, "there is no standard input"), ("ask {} < .", 2, "standard input is a folder"),
+                                    ("get color {} < .", 0, "")):
+                with self.subTest(line), tempfile.TemporaryDirectory() as folder:
+                    with open(os.path.join(folder, "lines"), "w") as file:
+                        file.write("put color green\n")
+                    made = subprocess.run(["sh", "-c", f"{NOZHGIVA} {line.format(group)}"], cwd=folder, env=environment(), capture_output=True, text=True, timeout=60)
+                    self.assertEqual((made.returncode, len(made.stderr.splitlines())), (code, bool(why)), made.stderr)
+                    self.assertIn(why, made.stderr)
+
     @unittest.skipUnless(shutil.which("strace"), "no strace")
     def test_one_put_starts_at_most_two_processes_and_makes_at_most_800_system_calls(self):
         with Members(3, State()) as members, tempfile.NamedTemporaryFile() as trace:

@@ -104,8 +104,9 @@ class Wrong(unittest.TestCase):
         with self.assertRaises(Taken):
             lock.acquire(timeout=0.3)
         lock.make_free()
+        self.assertIsNone(lock.holder())
         with lock.held() as number:
-            self.assertEqual((lock.is_held, lock.number), (True, number))
+            self.assertEqual((lock.is_held, lock.number, lock.holder()), (True, number, number))
             with self.assertRaises(NotHeld):
                 lock.acquire()
         self.assertFalse(lock.is_held)
@@ -303,6 +304,11 @@ class Client:
         return None
 
 
+def lock_of(session):
+    """The lock of the election for which all stand."""
+    return Election(session, "leader", "anyone").lock
+
+
 def taken_over(election, session):
     """A candidate that goes on by another client."""
     election.session = election.lock.session = session
@@ -322,7 +328,7 @@ class Schedules(unittest.TestCase):
         """Clients of a state that has a free lock, and nothing else."""
         self.turns = Turns()
         self.addCleanup(self.turns.end)
-        self.run_alone(lambda session: Lock(session, "leader").make_free())
+        self.run_alone(lambda session: lock_of(session).make_free())
 
     def run_alone(self, run):
         client = self.turns.client(run)
@@ -362,37 +368,37 @@ class Schedules(unittest.TestCase):
                 with self.subTest(is_told=is_told, done=done):
                     self.begin()
                     words = {"number": self.leader("A").lock.number} if is_told else {}
-                    one, other = (self.turns.client(lambda session: Lock(session, "leader").make_free(**words)) for _ in range(2))
+                    one, other = (self.turns.client(lambda session: lock_of(session).make_free(**words)) for _ in range(2))
                     other.go(done)
                     self.assertIsNone(one.go(None))
-                    self.assertGreater(self.run_alone(lambda session: Lock(session, "leader").acquire()), 0)
+                    self.assertGreater(self.run_alone(lambda session: lock_of(session).acquire()), 0)
                     self.assertIsNone(other.go(None))
-                    third = self.turns.client(lambda session: Lock(session, "leader").acquire())
+                    third = self.turns.client(lambda session: lock_of(session).acquire())
                     third.go(STEPS + 2)
                     self.assertIsNone(third.result)
 
     def test_a_lock_is_given_back_though_the_table_is_full(self):
         locks = []
-        self.run_alone(lambda session: locks.append(Lock(session, "leader")) or locks[0].acquire())
+        self.run_alone(lambda session: locks.append(lock_of(session)) or locks[0].acquire())
         self.turns.state.room = len(self.turns.state.keys)
         self.run_alone(lambda session: setattr(locks[0], "session", session) or locks[0].release())
         with self.assertRaises(Full):
-            self.run_alone(lambda session: Lock(session, "leader").acquire())
+            self.run_alone(lambda session: lock_of(session).acquire())
         self.turns.state.room += 1
-        self.assertGreater(self.run_alone(lambda session: Lock(session, "leader").acquire()), 0)
+        self.assertGreater(self.run_alone(lambda session: lock_of(session).acquire()), 0)
 
     def test_one_that_took_it_and_is_gone(self):
         """It ended before it said its number: nobody holds the lock, and only `anew` makes it free."""
-        gone = self.turns.client(lambda session: Lock(session, "leader").acquire())
+        gone = self.turns.client(lambda session: lock_of(session).acquire())
         gone.go(STEPS - 1)
         with self.assertRaisesRegex(Taken, "anew"):
-            self.run_alone(lambda session: Lock(session, "leader").make_free(timeout=0.1))
-        self.run_alone(lambda session: Lock(session, "leader").make_free(anew=True))
-        self.assertGreater(self.run_alone(lambda session: Lock(session, "leader").acquire()), 0)
+            self.run_alone(lambda session: lock_of(session).make_free(timeout=0.1))
+        self.run_alone(lambda session: lock_of(session).make_free(anew=True))
+        self.assertGreater(self.run_alone(lambda session: lock_of(session).acquire()), 0)
 
     def test_no_two_hold_it_in_any_order(self):
         """Three that take and release it, one of which is deposed by two that watch: each order of their requests is drawn."""
-        for seed in range(200):
+        for seed in range(50):
             with self.subTest(seed=seed):
                 self.play(random.Random(seed))
 
@@ -401,7 +407,7 @@ class Schedules(unittest.TestCase):
         turns, holders, deposed = self.turns, [], set()
 
         def hold(session):
-            lock = Lock(session, "leader")
+            lock = lock_of(session)
             for _ in range(2):
                 number = lock.acquire()
                 holders.append(number)
@@ -418,7 +424,7 @@ class Schedules(unittest.TestCase):
             if holders:
                 number = holders[0]
                 deposed.add(number)
-                Lock(session, "leader").make_free(number=number)
+                lock_of(session).make_free(number=number)
             return "done"
         clients = [turns.client(hold) for _ in range(3)] + [turns.client(depose) for _ in range(2)]
         for _ in range(2_000):

@@ -74,6 +74,13 @@ def _number_of(outcome: Outcome) -> Optional[int]:
     return int(outcome.value) if outcome.value.isdecimal() else None
 
 
+class Leader(NamedTuple):
+    """Who leads: the candidate, and the number of its term, greater than those of all terms before it."""
+
+    candidate: str
+    term: int
+
+
 Steps = Generator[Operation, Outcome, Optional[int]]
 """What is asked to take a lock, one after the other, each with what it gave; the number, or None where the lock wasn't had."""
 
@@ -91,13 +98,13 @@ class Lock:
     after it: of those who delete it one hears that it was there, and is the next.
     """
 
-    def __init__(self, session: Session, name: str, holder: str = HELD) -> None:
-        """`holder` is the value of the key that is there while this one holds the lock."""
+    def __init__(self, session: Session, name: str, says: str = HELD) -> None:
+        """`says` is the value of the key that is there while this one holds the lock."""
         if len(name) > LONGEST_NAME:
             raise ValueError(f"the name of a lock has at most {LONGEST_NAME} letters, since its keys have more, not {len(name)}")
         self.session = session
         self.name = name
-        self.holder = holder
+        self.says = says
         self.number: Optional[int] = None
         """The number of who holds it, where this lock does: greater than all before it. Else None."""
         self._doubt: Optional[Unknown] = None
@@ -118,10 +125,15 @@ class Lock:
         """The key whose delete takes the lock after this number."""
         return f"{self.name}.next.{number}"
 
+    def holder(self, timeout: Optional[float] = None) -> Optional[int]:
+        """The number of who holds it, for whoever watches over it; None where nobody does."""
+        current = self._current(timeout)
+        return None if current is None else current.term
+
     def make_free(self, timeout: Optional[float] = None, *, number: Optional[int] = None, anew: bool = False) -> None:
         """Makes the lock free, whoever holds it, or only where this `number` does: once before its first use, and where its holder is gone for
-        good. A holder that isn't gone learns it when it releases the lock. Where several watch over a holder, each gives its number, so that
-        none makes free what the next one holds.
+        good. A holder that isn't gone learns it when it releases the lock. Where several watch over a holder, each gives the number that it
+        saw (`holder`), so that none makes free what the next one holds.
 
         Raises `Taken` where one has taken it and hasn't said its number in all of the time. Where that one is gone for good, `anew` makes a
         lock that nobody holds; call it while nobody else uses the lock.
@@ -174,6 +186,18 @@ class Lock:
         """Holds it no more, and gives nothing back: for who has learned that another one holds it by now."""
         self.number = self._doubt = self._steps = None
 
+    def _current(self, timeout: Optional[float]) -> Optional[Leader]:
+        """Who holds it, by number and by what its key says."""
+        deadline, before = _Deadline(self.session.within(timeout)), None
+        while True:
+            last = _number_of(self._asked(Get(self.name), deadline))
+            if last is None or last == before:
+                return None
+            held = self._asked(Get(self.held_key(last)), deadline)
+            if held.kind == OutcomeKind.VALUE:
+                return Leader(held.value, last)
+            before = last
+
     def _begin(self, number: int, deadline: _Deadline) -> None:
         """Makes a lock that nobody holds, as if one with this number, which nobody else has, had given it back."""
         for operation in (Put(self.next_key(number), FREE), Put(self.name, str(number))):
@@ -206,7 +230,7 @@ class Lock:
         last, own = _number_of(read), read.op
         if last is None or (yield Get(self.held_key(last))).kind == OutcomeKind.VALUE:
             return None
-        for operation in (Put(self.held_key(own), self.holder), Put(self.next_key(own), FREE)):
+        for operation in (Put(self.held_key(own), self.says), Put(self.next_key(own), FREE)):
             self._made.append(operation)
             if (yield operation).kind == OutcomeKind.FULL:
                 raise Full(operation)
@@ -322,13 +346,6 @@ class Counter:
         return int(self.cell.read(timeout) or "0")
 
 
-class Leader(NamedTuple):
-    """Who leads: the candidate, and the number of its term, greater than those of all terms before it."""
-
-    candidate: str
-    term: int
-
-
 class Election:
     """One leader among several candidates, until it resigns. It is a lock that leaders hold, of the same name, so `name` has the number N of
     the last term, and `name.held.N` is the candidate that leads in it.
@@ -355,15 +372,7 @@ class Election:
 
     def leader(self, timeout: Optional[float] = None) -> Optional[Leader]:
         """Who leads; None where nobody does. It may be gone."""
-        deadline, before = _Deadline(self.session.within(timeout)), None
-        while True:
-            term = _number_of(self.session.ask(Get(self.name), deadline.left(f"get {self.name}")))
-            if term is None or term == before:
-                return None
-            candidate = self.session.get(self.lock.held_key(term), deadline.left(f"get {self.name}"))
-            if candidate is not None:
-                return Leader(candidate, term)
-            before = term
+        return self.lock._current(timeout)
 
     def leads(self, timeout: Optional[float] = None) -> bool:
         """Whether this candidate led when the group was asked: it has a term, and neither resigned nor was deposed."""
