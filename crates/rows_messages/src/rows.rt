@@ -4,7 +4,7 @@
 use crate::states::{tell_keys, tell_sessions};
 use std::alloc::{AllocError, Global};
 use vr_base::ByteList;
-use vr_codec::{decode, encode, judge};
+use vr_codec::{MsgFault, decode, encode, judge};
 use vr_msg::{Frame, Message, Output, Sent};
 use vr_text::write_text;
 
@@ -54,21 +54,38 @@ fn tell_message(message: Message, to: &mut ByteList) -> Result<(), AllocError> {
             message: Message::new(frame),
         }),
     };
-    write_text(6, &output, to)
+    let told = write_text(6, &output, to);
+    drop(output);
+    told
+}
+
+/// A word where a message isn't spelled by the bytes that it was read from, or these were judged to be none.
+fn compare(
+    alloc: Global,
+    message: &Message,
+    judged: Option<MsgFault>,
+    bytes: &[u8],
+    to: &mut ByteList,
+) -> Result<(), AllocError> {
+    let mut again = Vec::new(alloc);
+    encode(message, &mut again)?;
+    if judged.is_some() || again.as_slice() != bytes {
+        to.extend(b"not so: ")?;
+    }
+    Ok(())
 }
 
 /// What bytes are, and whether the message is spelled by them.
 fn tell(alloc: Global, bytes: &[u8], to: &mut ByteList) -> Result<(), AllocError> {
     let judged = judge(bytes);
     match decode(alloc, bytes) {
-        Ok(message) => {
-            let mut again = Vec::new(alloc);
-            encode(&message, &mut again)?;
-            if judged.is_some() || again.as_slice() != bytes {
-                to.extend(b"not so: ")?;
+        Ok(message) => match compare(alloc, &message, judged, bytes, to) {
+            Ok(()) => tell_message(message, to),
+            Err(why) => {
+                drop(message);
+                Err(why)
             }
-            tell_message(message, to)
-        }
+        },
         Err(fault) => {
             if judged != Some(fault) {
                 to.extend(b"not so: ")?;

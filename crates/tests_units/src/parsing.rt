@@ -5,6 +5,31 @@ use std::process::Abort;
 use vr_base::{Kind, Mode, Version};
 use vr_lines::{Line, LineFault, parse_line};
 
+/// What a line was read as is what it is to be read as.
+fn is_read(
+    rt: &impl Abort,
+    line: &[u8],
+    read: &Result<Line, LineFault>,
+    want: &Result<Line, LineFault>,
+) {
+    assert_eq!(rt; *read, *want, "at {line:?}");
+}
+
+/// What a line of a group of so many of this version is read as. Each of both is let go once.
+fn reads_as(
+    rt: &impl Abort,
+    alloc: Global,
+    n: u8,
+    version: Version,
+    line: &[u8],
+    want: Result<Line, LineFault>,
+) {
+    let read = parse_line(alloc, n, line, version);
+    is_read(rt, line, &read, &want);
+    drop(read);
+    drop(want);
+}
+
 /// What a line of a group of three of version 1 is read as.
 fn reads(rt: &impl Abort, alloc: Global, line: &[u8], want: Line) {
     reads_of(rt, alloc, Version::new(1), line, want);
@@ -12,14 +37,12 @@ fn reads(rt: &impl Abort, alloc: Global, line: &[u8], want: Line) {
 
 /// What a line of a group of three of this version is read as.
 fn reads_of(rt: &impl Abort, alloc: Global, version: Version, line: &[u8], want: Line) {
-    let read = parse_line(alloc, 3, line, version);
-    assert_eq!(rt; read, Ok(want), "at {line:?}");
+    reads_as(rt, alloc, 3, version, line, Ok(want));
 }
 
 /// Of a group of three of this version it is no line.
 fn refused(rt: &impl Abort, alloc: Global, version: Version, line: &[u8]) {
-    let read = parse_line(alloc, 3, line, version);
-    assert_eq!(rt; read, Err(LineFault::NotALine), "at {line:?}");
+    reads_as(rt, alloc, 3, version, line, Err(LineFault::NotALine));
 }
 
 /// It is a line of neither version.
@@ -108,8 +131,7 @@ fn other_lines_are_refused(rt: HostRuntime) {
 
 /// What the first line of a schedule is read as.
 fn begins(rt: &impl Abort, alloc: Global, line: &[u8], want: Result<Line, LineFault>) {
-    let read = parse_line(alloc, 0, line, Version::new(1));
-    assert_eq!(rt; read, want, "at {line:?}");
+    reads_as(rt, alloc, 0, Version::new(1), line, want);
 }
 
 #[test]

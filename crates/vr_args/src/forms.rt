@@ -57,6 +57,25 @@ fn with_arg<'a>(command: Command<'a>, arg: Arg<'a>) -> Result<Command<'a>, Alloc
     command.arg(arg)
 }
 
+/// The same, where there is memory for the command.
+fn and_arg<'a>(
+    command: Result<Command<'a>, AllocError>,
+    arg: Arg<'a>,
+) -> Result<Command<'a>, AllocError>
+    requires arg { IsLocalArg arg }
+    requires command { IfOk command (λ c. IsLocal c) }
+    ensures form { IfOk result (λ c. IsOkAnd command.entry (λ d. form_of c ≡ taking (form_of d) (rule_in arg.entry))) }
+    ensures local { IfOk result (λ c. IsLocal c) }
+{
+    match command {
+        Ok(command) => with_arg(command, arg),
+        Err(why) => {
+            drop(arg);
+            Err(why)
+        }
+    }
+}
+
 /// The command with one command below it more, where there is memory for that one.
 #[tactic(auto, unfolding(crate::specs::Forms::form_of, crate::specs::Forms::IsLocal, crate::specs::Forms::above))]
 fn with_command<'a>(
@@ -68,11 +87,48 @@ fn with_command<'a>(
     ensures form { IfOk result (λ c. IsOkAnd sub.entry (λ s. form_of c ≡ above (form_of command.entry) (form_of s))) }
     ensures local { IfOk result (λ c. IsLocal c) }
 {
-    command.subcommand(sub?)
+    match sub {
+        Ok(sub) => command.subcommand(sub),
+        Err(why) => {
+            drop(command);
+            Err(why)
+        }
+    }
+}
+
+/// The same, where there is memory for the command.
+fn and_command<'a>(
+    command: Result<Command<'a>, AllocError>,
+    sub: Result<Command<'a>, AllocError>,
+) -> Result<Command<'a>, AllocError>
+    requires sub { IfOk sub (λ s. IsLocal s) }
+    requires command { IfOk command (λ c. IsLocal c) }
+    ensures form { IfOk result (λ c. IsOkAnd command.entry (λ d. IsOkAnd sub.entry (λ s. form_of c ≡ above (form_of d) (form_of s)))) }
+    ensures local { IfOk result (λ c. IsLocal c) }
+{
+    match command {
+        Ok(command) => with_command(command, sub),
+        Err(why) => {
+            drop(sub);
+            Err(why)
+        }
+    }
+}
+
+/// The command with this required argument more, where there is memory for the command.
+fn and_wanted<'a>(
+    alloc: Global,
+    command: Result<Command<'a>, AllocError>,
+    id: &'a str,
+) -> Result<Command<'a>, AllocError>
+    requires { IfOk command (λ c. IsLocal c) }
+    ensures form { IfOk result (λ c. IsOkAnd command.entry (λ d. form_of c ≡ taking (form_of d) (wanted id.entry.now))) }
+    ensures local { IfOk result (λ c. IsLocal c) }
+{
+    and_arg(command, wanted(alloc, id))
 }
 
 /// The command with these required arguments more.
-#[tactic(auto, using(std::proofs::lemmas::Grind::common_steps, crate::proofs::Forming::wanting_more, crate::proofs::Forming::wanting_all))]
 fn with_wanted<'a>(
     alloc: Global,
     command: Command<'a>,
@@ -82,21 +138,22 @@ fn with_wanted<'a>(
     ensures form { IfOk result (λ c. form_of c ≡ wanting (form_of command.entry) (texts_now ids.now)) }
     ensures local { IfOk result (λ c. IsLocal c) }
 {
-    let mut command = command;
+    let mut command = Ok(command);
     for id in ids {
-        command = with_arg(command, wanted(alloc, id))?;
+        command = and_wanted(alloc, command, id);
     }
-    Ok(command)
+    command
 }
 
 /// A command with these required arguments, and with addresses after them.
-#[tactic(auto, unfolding(crate::specs::Forms::peered))]
 fn peered<'a>(alloc: Global, name: &'a str, ids: &[&'a str]) -> Result<Command<'a>, AllocError>
     ensures form { IfOk result (λ c. form_of c ≡ peered name.entry.now (texts_now ids.now)) }
     ensures local { IfOk result (λ c. IsLocal c) }
 {
-    let command = with_wanted(alloc, plain(alloc, name), ids)?;
-    with_arg(command, addresses(alloc))
+    and_arg(
+        with_wanted(alloc, plain(alloc, name), ids),
+        addresses(alloc),
+    )
 }
 
 /// `replay`.
@@ -116,36 +173,35 @@ fn soak<'a>(alloc: Global) -> Result<Command<'a>, AllocError>
     with_wanted(alloc, plain(alloc, "soak"), &["seed", "count"])
 }
 
-/// The command with the flags that say what a file is made as.
-#[tactic(auto, unfolding(crate::specs::Forms::making))]
-fn making<'a>(alloc: Global, command: Command<'a>) -> Result<Command<'a>, AllocError>
-    requires { IsLocal command }
-    ensures form { IfOk result (λ c. form_of c ≡ making (form_of command.entry)) }
+/// The command with the flags that say what a file is made as, where there is memory for the command.
+fn making<'a>(
+    alloc: Global,
+    command: Result<Command<'a>, AllocError>,
+) -> Result<Command<'a>, AllocError>
+    requires { IfOk command (λ c. IsLocal c) }
+    ensures form { IfOk result (λ c. IsOkAnd command.entry (λ d. form_of c ≡ making (form_of d))) }
     ensures local { IfOk result (λ c. IsLocal c) }
 {
-    let command = with_arg(command, flag(alloc, "careful"))?;
-    with_arg(command, flag(alloc, "v2"))
+    let command = and_arg(command, flag(alloc, "careful"));
+    and_arg(command, flag(alloc, "v2"))
 }
 
 /// `node CLUSTER REPLICA FILE TURNS ADDR..` with `--fresh` or not, with `--careful` or not, with `--v2` or not.
-#[tactic(auto, unfolding(crate::specs::Forms::node))]
 fn node<'a>(alloc: Global) -> Result<Command<'a>, AllocError>
     ensures form { IfOk result (λ c. form_of c ≡ node) }
     ensures local { IfOk result (λ c. IsLocal c) }
 {
-    let command = peered(alloc, "node", &["cluster", "replica", "file", "turns"])?;
-    let command = with_arg(command, flag(alloc, "fresh"))?;
-    making(alloc, command)
+    let command = peered(alloc, "node", &["cluster", "replica", "file", "turns"]);
+    making(alloc, and_arg(command, flag(alloc, "fresh")))
 }
 
 /// `client CLUSTER ID TURNS ADDR..` with `--v2` or not.
-#[tactic(auto, unfolding(crate::specs::Forms::client))]
 fn client<'a>(alloc: Global) -> Result<Command<'a>, AllocError>
     ensures form { IfOk result (λ c. form_of c ≡ client) }
     ensures local { IfOk result (λ c. IsLocal c) }
 {
-    let command = peered(alloc, "client", &["cluster", "id", "turns"])?;
-    with_arg(command, flag(alloc, "v2"))
+    let command = peered(alloc, "client", &["cluster", "id", "turns"]);
+    and_arg(command, flag(alloc, "v2"))
 }
 
 /// `trial CLUSTER TURNS FILES ADDR..`.
@@ -186,16 +242,37 @@ fn running<'a>(alloc: Global) -> Result<Command<'a>, AllocError>
     ensures form { IfOk result (λ c. form_of c ≡ running) }
     ensures local { IfOk result (λ c. IsLocal c) }
 {
-    let command = with_command(top(alloc), Ok(replay(alloc)))?;
-    with_command(command, soak(alloc))
+    let command = with_command(top(alloc), Ok(replay(alloc)));
+    and_command(command, soak(alloc))
+}
+
+/// The same with `node`.
+fn with_node<'a>(alloc: Global) -> Result<Command<'a>, AllocError>
+    ensures form { IfOk result (λ c. form_of c ≡ above running node) }
+    ensures local { IfOk result (λ c. IsLocal c) }
+{
+    and_command(running(alloc), node(alloc))
+}
+
+/// The same with `client`.
+fn with_client<'a>(alloc: Global) -> Result<Command<'a>, AllocError>
+    ensures form { IfOk result (λ c. form_of c ≡ above (above running node) client) }
+    ensures local { IfOk result (λ c. IsLocal c) }
+{
+    and_command(with_node(alloc), client(alloc))
+}
+
+/// The same with `trial`.
+fn with_trial<'a>(alloc: Global) -> Result<Command<'a>, AllocError>
+    ensures form { IfOk result (λ c. form_of c ≡ above (above (above running node) client) trial) }
+    ensures local { IfOk result (λ c. IsLocal c) }
+{
+    and_command(with_client(alloc), trial(alloc))
 }
 
 /// The command line with all of its commands.
 pub fn command<'a>(alloc: Global) -> Result<Command<'a>, AllocError>
     ensures { IfOk result (λ c. form_of c ≡ the_command) }
 {
-    let command = with_command(running(alloc)?, node(alloc))?;
-    let command = with_command(command, client(alloc))?;
-    let command = with_command(command, trial(alloc))?;
-    with_command(command, migrate(alloc))
+    and_command(with_trial(alloc), migrate(alloc))
 }

@@ -1,5 +1,5 @@
 //! The loop.
-ghost use Rattle.std.specs.Prelude.{◌≡◌, IfOk, true};
+ghost use Rattle.std.specs.Prelude.{◌≡◌, [], IfOk, true};
 ghost use Rattle.vr_serve.specs.Events.{due, last_after};
 ghost use Rattle.vr_serve.specs.Serving.{Arrives, Handles, Serves, TakesTurn, TakesTurns};
 
@@ -118,6 +118,47 @@ fn take_turns<M: Member, D: SectorDisk, K: Sink, L: Link, C: Clock>(
     Ok(after)
 }
 
+/// The same as `serve`, with what the loop keeps made: the next message has number 0, and no client was heard.
+#[tactic(auto, using(crate::proofs::Ending::causes_none, crate::proofs::Ending::causes_later, crate::proofs::Ending::causes_received))]
+fn serve_with<M: Member, D: SectorDisk, K: Sink, L: Link, C: Clock>(
+    alloc: Global,
+    version: Version,
+    cluster: u64,
+    member: &mut M,
+    post: &mut Post,
+    first: Outbox,
+    disk: &mut D,
+    link: &mut L,
+    clock: &mut C,
+    sink: &mut K,
+    turns: u64,
+) -> Result<(), Stop>
+    requires running { M.runs member.old ≡ true }
+    requires number { post.old.number ≡ 0 }
+    requires clients { post.old.clients.items ≡ [] }
+    ensures { Serves M.Member D.SectorDisk K.Sink L.Link C.Clock version cluster turns first member.old member.new disk.old disk.new link.old link.new clock.old clock.new sink.old sink.new result }
+{
+    post.put_out(sink, link, first)?;
+    let last = clock.now();
+    let mut objects = Objects {
+        member,
+        disk,
+        sink,
+        link,
+    };
+    take_turns(
+        alloc,
+        version,
+        cluster,
+        &mut objects,
+        post,
+        clock,
+        last,
+        turns,
+    )?;
+    Ok(())
+}
+
 /// Puts out `first`, its messages numbered from 0, with no client heard; takes the clock's number as the last tick; does so many
 /// turns; after `Ok` the member runs. An `Err` cuts it off before the clock was asked, with a front of `first` put out, or in a
 /// turn, after all events before. Of the event at which it was cut off, a step that stopped has put out nothing, one that was done
@@ -139,24 +180,17 @@ pub fn serve<M: Member, D: SectorDisk, K: Sink, L: Link, C: Clock>(
     requires { M.runs member.old ≡ true }
     ensures { Serves M.Member D.SectorDisk K.Sink L.Link C.Clock version cluster turns first member.old member.new disk.old disk.new link.old link.new clock.old clock.new sink.old sink.new result }
 {
-    let mut post = Post::new(alloc)?;
-    post.put_out(sink, link, first)?;
-    let last = clock.now();
-    let mut objects = Objects {
-        member,
-        disk,
-        sink,
-        link,
-    };
-    take_turns(
-        alloc,
-        version,
-        cluster,
-        &mut objects,
-        &mut post,
-        clock,
-        last,
-        turns,
-    )?;
-    Ok(())
+    match Post::new(alloc) {
+        Ok(mut post) => {
+            let served = serve_with(
+                alloc, version, cluster, member, &mut post, first, disk, link, clock, sink, turns,
+            );
+            drop(post);
+            served
+        }
+        Err(_) => {
+            drop(first);
+            Err(Stop::NoMemory)
+        }
+    }
 }

@@ -1,10 +1,11 @@
-use Rattle.std.proofs.Common.{◌≡◌, ◌∙◌, ap₂}
-use Rattle.vr_args.proofs.Forming.{put_last}
-use Rattle.vr_args.specs.Forms.{above, form_of, replay, running, soak, top}
+use Rattle.std.proofs.Common.{Ok}
+use Rattle.vr_args.proofs.Forming.{put_below}
+use Rattle.vr_args.specs.Forms.{above, replay, running, soak, top}
 use Rattle.vr_args.proofs.forms.running.Goals as goal
 
 pub returns-clause-form : goal.returns-clause-form
 unfolding running
 returns-clause-form c =
-    let first : form_of c.in_ok-command.command ≡ above top replay = c.in_ok-command.ensures.form ∙ ap₂ above c.top.ensures.form c.replay.ensures.form in
-    put_last c.with_command-2.result _ (above top replay) soak c.soak.result first c.with_command-2.ensures.form c.soak.ensures.form
+    put_below c.and_command.result c.with_command-command.result c.soak.result (above top replay) soak c.and_command.ensures.form
+    (put_below c.with_command-command.result (Ok c.top.result) (Ok c.replay.result) top replay c.with_command-command.ensures.form c.top.ensures.form c.replay.ensures.form)
+    c.soak.ensures.form
