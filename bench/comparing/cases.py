@@ -10,8 +10,8 @@ from typing import Callable, Iterator, List, NamedTuple, Tuple
 
 from . import TOP, Case, Given, ran
 
-SOAK_LINES = 2000
-SPOILED = 6  # schedules that are made of each example
+SOAK_LINES = 1000
+SPOILED = 3  # schedules that are made of each example
 SEED = 1
 SECTOR = 512
 COPIES = tuple(20 * copy * SECTOR for copy in range(4))  # where the copies of the superblock begin
@@ -117,7 +117,7 @@ def damages() -> Iterator[Tuple[str, Callable[[bytearray], object]]]:
     yield "each header sector", partial(flip, places=range(HEADERS, PREPARES, SECTOR))
     yield "each prepare", partial(flip, places=range(PREPARES, GRID, SECTOR))
     yield "each block", partial(flip, places=range(GRID, END, SECTOR))
-    for slot in range(0, 64, 5):
+    for slot in range(0, 64, 16):
         yield f"header sector of slot {slot}", partial(flip, places=[HEADERS + slot * SECTOR + 40])
         yield f"prepare of slot {slot}", partial(flip, places=[PREPARES + 4 * slot * SECTOR + 40])
         yield f"slot {slot}", partial(flip, places=[HEADERS + slot * SECTOR + 40, PREPARES + 4 * slot * SECTOR + 40])

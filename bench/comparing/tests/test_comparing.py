@@ -1,21 +1,27 @@
 """What bench/compare tells of two programs: of the one that is built, and of others that stand before it and change one thing."""
 
+import contextlib
+import importlib.machinery
+import importlib.util
+import io
 import os
+import re
 import shutil
 import subprocess
 import sys
 import tempfile
 import unittest
 from pathlib import Path
+from types import ModuleType
 from typing import Dict, Iterable, Iterator, List, Optional, Tuple
+from unittest import mock
 
-from comparing import TOP, Case, cases, differences, members
+from comparing import TOP, Case, cases, differences, members, stack
 from faulting.shim import Shim, compiler
 
 DEEP = """#!{python}
 import os, sys
 def deep(n): return n and max(map(deep, [n - 1]))
-if sys.argv[1] != "replay": os.execv("{program}", sys.argv)
 sys.setrecursionlimit(9000)
 while os.read(0, 1 << 16): deep(3000)
 """
@@ -33,6 +39,16 @@ PROGRAM = find_program()
 def compare(*words: str, top: Path = TOP, env: Optional[Dict[str, str]] = None) -> Tuple[int, str, str]:
     ran = subprocess.run([str(top / "bench/compare"), *words], stdout=subprocess.PIPE, stderr=subprocess.PIPE, text=True, check=False, env=env)
     return ran.returncode, ran.stdout, ran.stderr
+
+
+def load_script() -> ModuleType:
+    """bench/compare as a module."""
+    loader = importlib.machinery.SourceFileLoader("compare_script", str(TOP / "bench/compare"))
+    spec = importlib.util.spec_from_loader(loader.name, loader)
+    assert spec is not None
+    script = importlib.util.module_from_spec(spec)
+    loader.exec_module(script)
+    return script
 
 
 def write_program(path: Path, text: str) -> str:
@@ -128,16 +144,15 @@ class Planted(unittest.TestCase):
 
     def test_a_byte_of_an_example(self) -> None:
         other = self.other("real \"$@\" | sed 's/^reply 0 client 7 request 1 op 2 ok$/& /'")
-        status, output, _ = compare("--only", "examples", str(PROGRAM), other)
-        self.assertEqual(status, 1)
-        self.assertIn("put-get.txt: output, byte ", output)
-        self.assertRegex(output.splitlines()[-1], "^[0-9]+ differ$")
+        found = [case for case in cases.examples() if case.name in ("put-get.txt", "first-request.txt")]
+        self.assertEqual([one.split(", byte")[0] for one in self.told(found, other)], ["put-get.txt: output"])
 
     def test_the_sum_of_a_soak(self) -> None:
         other = self.other("if [ \"$2\" = 1 ]; then real \"$@\" | sed 's/^sum ./sum x/'; else real \"$@\"; fi")
         status, output, _ = compare("--only", "soaks", "--soaks", "3", str(PROGRAM), other)
         self.assertEqual((status, output.count(": output, byte ")), (1, 1))
-        self.assertIn("soak 1 2000: output, byte ", output)
+        self.assertIn("soak 1 1000: output, byte ", output)
+        self.assertEqual(output.splitlines()[-2:], ["soaks: 3 runs, 1 of them differ", "1 differ"])
 
     def test_the_status_of_a_refusal(self) -> None:
         told = self.told(cases.odd_bytes(), self.other("real \"$@\"; s=$?; [ $s != 3 ] || s=2; exit $s"))
@@ -145,7 +160,7 @@ class Planted(unittest.TestCase):
         self.assertFalse([one for one in told if not one.endswith("status, byte 0: proved '3', compiled '2'")])
 
     def test_what_is_said_of_words(self) -> None:
-        words = list(cases.refused_words())
+        words = list(cases.refused_words())[:5]
         self.assertEqual(len(self.told(words, self.other("real \"$@\" 2> /dev/null"))), len(words))
 
     def test_a_byte_of_a_file_and_a_line_of_a_member(self) -> None:
@@ -165,9 +180,17 @@ class Planted(unittest.TestCase):
         self.assertEqual([one.split(", byte")[0] for one in self.told(talk, other)], ["group: three members: member 1, lines"])
 
     def test_more_of_the_stack_than_a_program_takes(self) -> None:
-        status, output, _ = compare("--only", "stack", str(PROGRAM), write_program(self.folder / "deep", DEEP.format(python=sys.executable, program=PROGRAM)))
-        self.assertEqual(status, 1, output)
-        self.assertRegex(output, r"stack, replay [a-z-]*\.txt: compiled uses [0-9,]+ bytes of 229,376")
+        deep = write_program(self.folder / "deep", DEEP.format(python=sys.executable))
+        schedule = cases.schedule_of(TOP / "examples/put-get.txt")
+        script = load_script()
+        measured = {"replay": lambda program: [("put-get", stack.driven(program, ["replay"], schedule))]}
+        for other, differs in ((str(PROGRAM), 0), (deep, 1)):
+            comparison = script.Comparison(script.Programs(str(PROGRAM), other), str(self.folder))
+            said = io.StringIO()
+            with mock.patch.object(stack, "MEASURED", measured), contextlib.redirect_stdout(said):
+                comparison.stacks()
+            self.assertEqual(comparison.differs, differs, said.getvalue())
+            self.assertEqual(bool(re.search("stack, put-get: compiled uses [0-9,]+ bytes of 229,376", said.getvalue())), bool(differs))
 
 
 if __name__ == "__main__":
