@@ -6,7 +6,7 @@ import sys
 import unittest
 from typing import Any
 
-NONE_TRIED = "nothing was tried: "
+NONE_TRIED = "nothing was tried"
 
 
 class Counting(unittest.TextTestResult):
@@ -28,7 +28,7 @@ def main() -> int:
     if not ran.wasSuccessful():
         return 1
     if not ran.passed + len(ran.expectedFailures):
-        print(f"{NONE_TRIED}{len(ran.skipped)} of {ran.testsRun} tests were left out", file=sys.stderr)
+        print(f"{NONE_TRIED}: {len(ran.skipped)} of {ran.testsRun} tests were left out", file=sys.stderr)
         return 2
     return 0
 
