@@ -21,7 +21,6 @@ MARKS = frozenset((QUICK, TIME, SLOW))
 LEAST, TIMES = 60, 10
 LEFT_OUT = re.compile(r""".*skipped (?P<quote>['"])(?P<skipped>.*)(?P=quote)|\s*left out: (?P<told>.*)""")
 LINES_OF_A_FAILURE = 60
-NONE_TRIED = 2  # of a check that could try nothing, which it says (command/unittests.py)
 LONG = 5  # seconds; of what takes longer it is said that it began
 
 
@@ -140,7 +139,7 @@ class Run:
                 self.left_out += [f"{check.name}: {why}" for why in parts]
                 self.say(f"{check.name}: passed in {took}")
                 return
-            if status == NONE_TRIED and any(line.startswith(unittests.NONE_TRIED) for line in text.splitlines()):
+            if status == unittests.NONE and any(line.startswith(unittests.NONE_TRIED) for line in text.splitlines()):
                 self.leave_out(check, "; ".join(parts_left_out(text)) or "none of its tests was tried")
                 return
             if status is None and self.left() <= 0:
