@@ -134,8 +134,8 @@ def set_up(say: Callable[[str], None], checks: AbstractSet[str], is_wanted: bool
     installation.run()
     left = missing(lacking, checks)
     say(f"set-up: {len(lacking) - len(left)} of {len(lacking)} installed in {time.monotonic() - begun:.0f} s")
-    for one in left:
-        say(f"set-up: left out: {one.name}: {installation.why[one.name]}")
+    for why in dict.fromkeys(installation.why[one.name] for one in left):
+        say(f"set-up: left out: {names(one for one in left if installation.why[one.name] == why)}: {why}")
     faults = [one for one in left if one.is_must and is_ci() and one.name not in installation.unreached]
     if faults:
         say(f"set-up: FAILED: a CI has to have {names(faults)}, as command/packages.txt says")
