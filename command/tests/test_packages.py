@@ -79,13 +79,13 @@ class Pretended(unittest.TestCase):
         for path in (self.said, self.bin / "nz-must", self.bin / "nz-may"):
             path.unlink(missing_ok=True)
 
-    def set_up(self, is_wanted: bool = True, **env: str) -> Tuple[bool, List[str]]:
+    def set_up(self, **env: str) -> Tuple[bool, List[str]]:
         """Whether all is well, and what was said."""
         self.forget()
         said: List[str] = []
         rows = packages.read_list(self.room / "list.txt")
         with mock.patch.dict(os.environ, {**self.env, **env}, clear=True), mock.patch.object(packages, "read_list", lambda: rows):
-            return packages.set_up(said.append, {"one", "other", "plain"}, is_wanted), said
+            return packages.set_up(said.append, {"one", "other", "plain"}, True), said
 
     def check(self, *words: str, **env: str) -> Tuple[int, List[str]]:
         """A run of checks in a tree of its own: how it ended, and its lines."""
@@ -113,7 +113,8 @@ class Installs(Pretended):
         status, lines = self.check("--checks", CI="true")
         self.assertEqual((status, lines[-1]), (0, "3 passed, 0 failed"))
         self.assertEqual(lines[0], "set-up: apt-get installs nz-must nz-may for one, other: some minutes, 15 at most; with --no-install it is left out")
-        self.assertEqual(self.calls(), [f"update {packages.WHOLE}", "install --download-only nz-must", "install --no-download nz-must", "install --download-only nz-may", "install --no-download nz-may"])
+        wanted = [f"install {step} {name}" for name in ("nz-must", "nz-may") for step in ("--download-only", "--no-download")]
+        self.assertEqual(self.calls(), [f"update {packages.WHOLE}", *wanted])
         self.assertEqual([line for line in lines[1:] if "left out" in line], [])
         self.said.unlink()
         with mock.patch.object(self, "forget"):  # the next run finds all
@@ -129,9 +130,10 @@ class Installs(Pretended):
 
     def test_a_registry_out_of_reach_is_told_and_fails_nothing(self) -> None:
         reach = "E: it is out of reach"
-        rows = (({"APT_FAILS": "--download-only"}, [f"nz-must nz-may: apt-get install: {reach}"]),
-                ({"APT_FAILS": "update"}, []),  # the lists that are there may do
-                ({"APT_FAILS": "update", "APT_LACKS": "nz-must"}, [f"nz-must: apt-get update: {reach}"]))
+        rows: Tuple[Tuple[Dict[str, str], List[str]], ...] = (
+            ({"APT_FAILS": "--download-only"}, [f"nz-must nz-may: apt-get install: {reach}"]),
+            ({"APT_FAILS": "update"}, []),  # the lists that are there may do
+            ({"APT_FAILS": "update", "APT_LACKS": "nz-must"}, [f"nz-must: apt-get update: {reach}"]))
         for env, left in rows:
             with self.subTest(env=env):
                 is_well, lines = self.set_up(CI="true", **env)
