@@ -9,18 +9,18 @@ import signal
 import subprocess
 import time
 from pathlib import Path
-from typing import Callable, FrozenSet, List, NamedTuple, Optional, Tuple
+from typing import Callable, Dict, FrozenSet, List, NamedTuple, Optional, Sequence, Tuple
 
 from command import unittests
 
 TOP = Path(os.path.realpath(__file__)).parent.parent
 TABLE = TOP / "command" / "checks.txt"
-MARKS = frozenset(("quick", "time"))
+QUICK, TIME, SLOW = "quick", "time", "slow"
+MARKS = frozenset((QUICK, TIME, SLOW))
 # A check that takes S seconds of a processor has this many on the clock: a machine may be busy and slow.
 LEAST, TIMES = 60, 10
 LEFT_OUT = re.compile(r""".*skipped (?P<quote>['"])(?P<skipped>.*)(?P=quote)|\s*left out: (?P<told>.*)""")
 LINES_OF_A_FAILURE = 60
-NONE_TRIED = 2  # of a check that could try nothing, which it says (command/unittests.py)
 LONG = 5  # seconds; of what takes longer it is said that it began
 
 
@@ -41,9 +41,10 @@ def read_table(path: Path = TABLE) -> List[Check]:
     for line in path.read_text(encoding="utf-8").splitlines():
         if line and not line.startswith("#"):
             name, seconds, needs, marks, *command = line.split()
-            if not set(words_of(marks)) <= MARKS or not command:
+            found = frozenset(words_of(marks))
+            if not found <= MARKS or {QUICK, SLOW} <= found or not command:
                 raise ValueError(f"{path}: {line}")
-            checks.append(Check(name, int(seconds), words_of(needs), frozenset(words_of(marks)), tuple(command)))
+            checks.append(Check(name, int(seconds), words_of(needs), found, tuple(command)))
     return checks
 
 
@@ -60,18 +61,21 @@ def kind_of_program() -> str:
     return {"": "missing", "compiled": "compiled, not proved"}.get(kind, kind)
 
 
+def is_there(need: str) -> bool:
+    """Whether this machine has what a word of the table names."""
+    if need == "root":
+        return os.geteuid() == 0
+    if need.startswith("python:"):
+        return importlib.util.find_spec(need[len("python:"):]) is not None
+    if need.startswith("/"):
+        return os.path.exists(need)
+    return any(map(shutil.which, need.split("/")))
+
+
 def lacks(check: Check, program: Optional[str]) -> Optional[str]:
     """What a check needs and there isn't."""
     for need in check.needs:
-        if need == "program":
-            missing = program is None
-        elif need == "root":
-            missing = os.geteuid() != 0
-        elif need.startswith("python:"):
-            missing = importlib.util.find_spec(need[len("python:"):]) is None
-        else:
-            missing = not any(map(shutil.which, need.split("/")))
-        if missing:
+        if not (program is not None if need == "program" else is_there(need)):
             return f"no {need}" if need != "root" else "not root"
     return None
 
@@ -84,11 +88,12 @@ def parts_left_out(text: str) -> List[str]:
 
 
 class Run:
-    """A run of checks: what passed, what failed, and what was left out and why."""
+    """A run of checks: what passed, what failed, what was left out and why, and how many checks that were."""
 
     def __init__(self, top: Path, folder: str, until: float, say: Callable[[str], None]) -> None:
         self.top, self.folder, self.until, self.say = top, folder, until, say
         self.passed, self.failed, self.left_out = 0, 0, []  # type: int, int, List[str]
+        self.without, self.in_part = 0, 0
         self.program = find_program()
         self.env = {**os.environ, "PYTHONDONTWRITEBYTECODE": "1", "TMPDIR": folder, **({"NOZHGIVA_PROGRAM": self.program} if self.program else {})}
 
@@ -115,6 +120,7 @@ class Run:
         return subprocess.run(["git", "status", "--porcelain"], cwd=self.top, stdout=subprocess.PIPE, stderr=subprocess.DEVNULL, text=True, check=False).stdout
 
     def leave_out(self, check: Check, why: str) -> None:
+        self.without += 1
         self.left_out.append(f"{check.name}: {why}")
         self.say(f"{check.name}: left out: {why}")
 
@@ -123,15 +129,17 @@ class Run:
         for is_last in (True,) if "time" not in check.marks else (False, True):
             begun = time.monotonic()
             if check.seconds > LONG:
-                self.say(f"{check.name}: begins, some {check.seconds} s of a processor")
+                self.say(f"{check.name}: begins, some {check.seconds} s")
             status, text = self.ask(check)
             took = f"{time.monotonic() - begun:.0f} s"
             if status == 0:
                 self.passed += 1
-                self.left_out += [f"{check.name}: {why}" for why in parts_left_out(text)]
+                parts = parts_left_out(text)
+                self.in_part += bool(parts)
+                self.left_out += [f"{check.name}: {why}" for why in parts]
                 self.say(f"{check.name}: passed in {took}")
                 return
-            if status == NONE_TRIED and any(line.startswith(unittests.NONE_TRIED) for line in text.splitlines()):
+            if status == unittests.NONE and any(line.startswith(unittests.NONE_TRIED) for line in text.splitlines()):
                 self.leave_out(check, "; ".join(parts_left_out(text)) or "none of its tests was tried")
                 return
             if status is None and self.left() <= 0:
@@ -146,17 +154,22 @@ class Run:
         self.say(f"{check.name}: {'FAILED' if is_last else 'failed, and is tried once more'}: {how}, after {took}")
 
     def ask(self, check: Check) -> Tuple[Optional[int], str]:
-        """Runs its command once: its status and what it said. None where it took too long, and all that it started is ended then."""
-        with open(os.path.join(self.folder, f"{check.name}.said"), "w+", encoding="utf-8", errors="replace") as said:
-            child = subprocess.Popen(check.command, cwd=self.top, env=self.env, stdin=subprocess.DEVNULL, stdout=said, stderr=said, start_new_session=True, preexec_fn=heed_signals)
-            try:
-                status: Optional[int] = child.wait(max(1.0, min(self.left(), LEAST + TIMES * check.seconds)))
-            except subprocess.TimeoutExpired:
-                status = None
-            finally:
-                end_all(child)
-            said.seek(0)
-            return status, said.read()
+        """Runs its command once: its status and what it said."""
+        return call(check.command, max(1.0, min(self.left(), LEAST + TIMES * check.seconds)), os.path.join(self.folder, f"{check.name}.said"), self.env, self.top)
+
+
+def call(command: Sequence[str], seconds: float, path: str, env: Dict[str, str], where: Optional[Path] = None) -> Tuple[Optional[int], str]:
+    """Runs a command, which writes to a file at `path`: its status and what it said. None where it took too long, and all that it started is ended then."""
+    with open(path, "w+", encoding="utf-8", errors="replace") as said:
+        child = subprocess.Popen(command, cwd=where, env=env, stdin=subprocess.DEVNULL, stdout=said, stderr=said, start_new_session=True, preexec_fn=heed_signals)
+        try:
+            status: Optional[int] = child.wait(seconds)
+        except subprocess.TimeoutExpired:
+            status = None
+        finally:
+            end_all(child)
+        said.seek(0)
+        return status, said.read()
 
 
 def heed_signals() -> None:

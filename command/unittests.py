@@ -6,7 +6,8 @@ import sys
 import unittest
 from typing import Any
 
-NONE_TRIED = "nothing was tried: "
+NONE_TRIED, NONE = "nothing was tried", 2
+"""What is said, at a line's beginning, and the exit code, where a check could try nothing."""
 
 
 class Counting(unittest.TextTestResult):
@@ -28,8 +29,8 @@ def main() -> int:
     if not ran.wasSuccessful():
         return 1
     if not ran.passed + len(ran.expectedFailures):
-        print(f"{NONE_TRIED}{len(ran.skipped)} of {ran.testsRun} tests were left out", file=sys.stderr)
-        return 2
+        print(f"{NONE_TRIED}: {len(ran.skipped)} of {ran.testsRun} tests were left out", file=sys.stderr)
+        return NONE
     return 0
 
 

@@ -1,6 +1,7 @@
 """No check passes without having tried something: unknown names are refused, and words where none are taken."""
 
 import os
+import shutil
 import subprocess
 import sys
 import tempfile
@@ -29,7 +30,7 @@ NOTHING = (
 WORDLESS = tuple(f"examples/{name}" for name in (
     "check-lines", "check-readme", "closed-streams", "crash", "endless", "full-disk", "inspect-check", "migrate", "no-memory", "not-a-file", "reads", "second-process", "silent",
     "stops", "trial")) + tuple(f"bench/{name}.sh" for name in ("apply", "choice", "codec", "digests", "limit", "mail", "replica", "storage", "stream", "superblock"))
-RUNNERS = ("bench/crashing", "bench/paging", "clients/python", "command", "examples/commanding", "examples/explorer", "examples/hunting", "examples/playing")
+RUNNERS = tuple(str(one.parent.parent.relative_to(TOP)) for one in sorted([*TOP.glob("*/tests/run"), *TOP.glob("*/*/tests/run")]))
 
 
 def scripts() -> List[str]:
@@ -80,6 +81,7 @@ class Refusals(unittest.TestCase):
             self.assertGreater(len(ran.stdout), 50)
 
     def test_runners_of_tests_have_help(self) -> None:
+        self.assertLess({"bench/crashing", "clients/python", "command", "examples/playing"}, set(RUNNERS))
         for name in RUNNERS:
             for flag in ("-h", "--help"):
                 self.helps(f"{name}/tests/run", flag)
@@ -96,9 +98,21 @@ class Refusals(unittest.TestCase):
             self.assertIn("unittests.py", (TOP / name / "tests" / "run").read_text(encoding="utf-8"))
             self.assertIn(call([str(TOP / name / "tests" / "run"), "nosuch"]).returncode, (1, 2))
 
+    def test_without_its_tool_a_check_tries_nothing_and_says_so(self) -> None:
+        bare = Path(self.folder.name, "bare")
+        bare.mkdir()
+        for name in ("bash", "sh", "env", "python3", "dirname", "realpath", "sed", "awk", "mktemp", "rm"):
+            os.symlink(str(shutil.which(name)), bare / name)
+        env = {**os.environ, "PATH": str(bare), "NOZHGIVA_PROGRAM": str(shutil.which("true"))}
+        for words in (["bench/crashes", "--short"], ["bench/faults", "--planted"], ["bench/faults", "--only", "disk:"], ["clients/go/check"]):
+            with self.subTest(words=words):
+                ran = call([str(TOP / words[0]), *words[1:]], env=env, where=self.folder.name)
+                self.assertEqual((ran.returncode, b"\nnothing was tried: " in b"\n" + ran.stdout + ran.stderr), (2, True), ran.stdout + ran.stderr)
+
     def test_each_check_of_the_table_refuses_a_word_of_no_meaning(self) -> None:
         for one in checking.read_table():
-            self.refused(*one.command, "--nosuch")
+            start = next(at for at, word in enumerate(one.command) if word != "env" and "=" not in word)
+            self.refused(*one.command[start:], "--nosuch")
 
 
 if __name__ == "__main__":
