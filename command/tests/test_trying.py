@@ -15,7 +15,7 @@ from command import checking
 
 # Scripts, and words that name nothing that they could try.
 NOTHING = (
-    ("bench/slips", "nosuch"), ("bench/slips", "--nosuch"), ("bench/wrong-bodies", "nosuch"), ("bench/paths", "nosuch"), ("bench/pages", "nosuch"), ("bench/crashes", "nosuch"),
+    ("bench/slips", "nosuch"), ("bench/slips", "--nosuch"), ("bench/wrong-bodies", "nosuch"), ("bench/addresses", "nosuch"), ("bench/pages", "nosuch"), ("bench/crashes", "nosuch"),
     ("bench/faults", "--only", "nosuch"), ("bench/progress", "nosuch"), ("bench/beside.py", "--nosuch"), ("examples/check", "--nosuch"), ("examples/check", "nosuch"),
     ("examples/check-all", "nosuch"), ("examples/check-commands", "nosuch"), ("examples/check-commands", "docs/GLOSSARY.md"), ("examples/hunt", "nosuch"),
     ("examples/outage", "nosuch"), ("examples/standstill", "nosuch"), ("examples/soak-check", "nosuch"), ("examples/soak-twice", "nosuch"), ("examples/soak-twice", "0"),
@@ -23,13 +23,13 @@ NOTHING = (
     ("operate/trials/counted", "--minutes", "0"), ("operate/trials/counted", "--seeds", ","), ("operate/trials/deaf", "--cut", "0"), ("operate/trials/faults", "--minutes", "0"),
     ("operate/trials/restarts", "loop", "--keys", "0"), ("operate/trials/slow", "--seconds", "0"), ("operate/trials/stopped", "--tries", "0"), ("operate/trials/watched", "--minutes", "nan"),
     ("examples/outage", "0"), ("examples/hunt", "--minutes", "0"), ("bench/progress", "--count", "0"), ("bench/faults", "--minutes", "0"), ("bench/crashes", "--minutes", "0"),
-    ("bench/soak.sh", "nosuch"), ("bench/caches.sh", "--nosuch"), ("bench/replay.sh", "--nosuch"), ("bench/builds.sh", "/bin/true", "/bin/true", "0"),
+    ("bench/figures",), ("bench/figures", "nosuch"), ("bench/figures", "soak", "nosuch"), ("bench/figures", "caches", "--nosuch"), ("bench/figures", "limit", "nosuch"),
     ("clients/python/tests/run", "failover", "--seconds", "0"), ("clients/go/check", "nosuch"), ("clients/vectors/make-messages", "nosuch"), ("command/test", "nosuch"), ("command/test", "--quick", "go", "nosuch"),
 )
 # Scripts that take no words.
 WORDLESS = tuple(f"examples/{name}" for name in (
     "check-lines", "check-readme", "closed-streams", "crash", "endless", "full-disk", "inspect-check", "migrate", "no-memory", "not-a-file", "reads", "second-process", "silent",
-    "stops", "trial")) + tuple(f"bench/{name}.sh" for name in ("apply", "choice", "codec", "digests", "limit", "mail", "replica", "storage", "stream", "superblock"))
+    "stops", "trial")) + tuple(f"bench/{name}.sh" for name in ("apply", "choice", "codec", "mail", "storage", "stream", "superblock"))
 RUNNERS = tuple(str(one.parent.parent.relative_to(TOP)) for one in sorted([*TOP.glob("*/tests/run"), *TOP.glob("*/*/tests/run")]))
 
 
