@@ -169,7 +169,7 @@ def figure(name: str, what: str, measure: Callable[[argparse.Namespace], Outcome
     return Figure(name, what, SECONDS, NEEDS, measure, add_commit, blocks, has_short=False)
 
 
-SECONDS = 300
+SECONDS = 600  # where the crates are proved from nothing
 FIGURES: Tuple[Figure, ...] = (
     figure("apply", "instructions of an apply and of an encoding of a state, and of an apply in plain Rust", measure_apply)._replace(needs=(*NEEDS, "rustc"), has_short=True),
     figure("choice", "instructions of a choice of a log", measure_choice),

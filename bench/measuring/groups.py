@@ -6,7 +6,7 @@ import shutil
 import subprocess
 import time
 from pathlib import Path
-from typing import Dict, List, NamedTuple, Sequence, Tuple
+from typing import Dict, List, NamedTuple, Optional, Sequence, Tuple
 
 from . import Figure, Outcome, Refused, places, reading, say
 from .members import Etcd, Floor, Members, Pace, Program, await_that, puts, side_by_side, told, traced
@@ -136,7 +136,7 @@ def measure_puts(words: argparse.Namespace) -> Outcome:
     return Outcome(table(COLUMNS["puts"], rows), [])
 
 
-def taken(program: str, folder: str, watched: int, count: int) -> Taken:
+def taken(program: str, folder: Optional[str], watched: int, count: int) -> Taken:
     """One group, of which this member runs under valgrind. Of a backup's group the third is down, since it would fall behind the others."""
     say(f"member {watched} under valgrind, {count:,} puts")
     with Place(folder) as place:
