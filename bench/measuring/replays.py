@@ -418,6 +418,6 @@ FIGURES: Tuple[Figure, ...] = (
     Figure("builds", "two built programs by processor time, in turn on one processor, of which the least counts; 1 where they don't write the same", 60, (), measure_builds, add_builds),
     Figure("replay", "memory, pace and instructions a line of schedules of 10,000 to 900,000 lines, and the functions that take most; 1 where the work a line grows",
            600, (*VALGRIND, places.TIME), measure_replay, add_folder, ("replay",)),
-    Figure("soak", "the same of `soak`, with what digests take", 600, (*VALGRIND, places.TIME), measure_soak, add_soak, ("soak",)),
+    Figure("soak", "the same of `soak`, with what digests take; 1 where the work an event grows", 600, (*VALGRIND, places.TIME), measure_soak, add_soak, ("soak",)),
     Figure("replica", "instructions of steps of a replica, beside the digests and the calls of the disk that they need", 60, VALGRIND, measure_replica),
 )

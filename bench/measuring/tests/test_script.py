@@ -108,6 +108,7 @@ class Script(unittest.TestCase):
         ran = self.call("limit", env=self.env(NOZHGIVA_PROGRAM=self.tool("program", "#!/bin/sh\ncat > /dev/null\n")))
         self.assertEqual(ran.returncode, 1)
         self.assertIn("| 1,000,000 | 0 | nothing |", ran.stdout)
+        self.assertIn("limit ends with 1 where it ends otherwise", ran.stderr)
 
     def test_a_failure_of_what_is_measured_is_told(self) -> None:
         self.tool("valgrind", "#!/bin/sh\necho no memory >&2\nexit 7\n")
