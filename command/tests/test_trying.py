@@ -23,13 +23,13 @@ NOTHING = (
     ("operate/trials/counted", "--minutes", "0"), ("operate/trials/counted", "--seeds", ","), ("operate/trials/deaf", "--cut", "0"), ("operate/trials/faults", "--minutes", "0"),
     ("operate/trials/restarts", "loop", "--keys", "0"), ("operate/trials/slow", "--seconds", "0"), ("operate/trials/stopped", "--tries", "0"), ("operate/trials/watched", "--minutes", "nan"),
     ("examples/outage", "0"), ("examples/hunt", "--minutes", "0"), ("bench/progress", "--count", "0"), ("bench/faults", "--minutes", "0"), ("bench/crashes", "--minutes", "0"),
-    ("bench/figures",), ("bench/figures", "nosuch"), ("bench/figures", "soak", "nosuch"), ("bench/figures", "caches", "--nosuch"), ("bench/figures", "limit", "nosuch"),
+    ("bench/figures",), ("bench/figures", "nosuch"), ("bench/figures", "soak", "nosuch"), ("bench/figures", "caches", "--nosuch"), ("bench/figures", "limit", "nosuch"), ("bench/figures", "apply", "nosuch"),
     ("clients/python/tests/run", "failover", "--seconds", "0"), ("clients/go/check", "nosuch"), ("clients/vectors/make-messages", "nosuch"), ("command/test", "nosuch"), ("command/test", "--quick", "go", "nosuch"),
 )
 # Scripts that take no words.
 WORDLESS = tuple(f"examples/{name}" for name in (
     "check-lines", "check-readme", "closed-streams", "crash", "endless", "full-disk", "inspect-check", "migrate", "no-memory", "not-a-file", "reads", "second-process", "silent",
-    "stops", "trial")) + tuple(f"bench/{name}.sh" for name in ("apply", "choice", "codec", "mail", "storage", "stream", "superblock"))
+    "stops", "trial"))
 RUNNERS = tuple(str(one.parent.parent.relative_to(TOP)) for one in sorted([*TOP.glob("*/tests/run"), *TOP.glob("*/*/tests/run")]))
 
 
