@@ -10,7 +10,7 @@ import time
 import unittest
 from pathlib import Path
 
-from measuring import PAGE, Figure, Refused, crates, groups, models, places, replays, schedules, tables
+from measuring import PAGE, TOP, Figure, Refused, crates, groups, models, places, replays, schedules, tables
 
 FIGURES = {one.name: one for one in (*groups.FIGURES, *replays.FIGURES, *crates.FIGURES)}
 COLUMNS = {**groups.COLUMNS, **replays.COLUMNS, **crates.COLUMNS}
@@ -158,6 +158,14 @@ cp ../../crates.txt out/map
         with places.Place() as place:
             crate = models.built(place, crates.CHOICE, None).parent.parent
             self.assertEqual(sorted(path.name for path in crate.rglob("*.antt")), ["Answers.antt", "Invariants.antt", "Lib.antt"])
+
+    @unittest.skipUnless((TOP / ".git").exists(), "no clone, so no commit")
+    def test_the_crates_of_a_commit(self) -> None:
+        with places.Place() as place:
+            program = models.built(place, crates.CHOICE, "HEAD")
+            self.assertEqual(models.said(place, program), "5 1 run --jobs 1")
+            wanted = subprocess.check_output(["git", "show", "HEAD:crates/vr_choose/src/lib.rt"], cwd=TOP)
+            self.assertEqual((place / "choice" / "crates" / "vr_choose" / "src" / "lib.rt").read_bytes(), wanted)
 
     def test_a_commit_that_is_not_there_is_refused(self) -> None:
         with places.Place() as place, self.assertRaisesRegex(Refused, "nonesuch"):
