@@ -15,7 +15,7 @@ from command import checking
 
 # Scripts, and words that name nothing that they could try.
 NOTHING = (
-    ("bench/slips", "nosuch"), ("bench/slips", "--nosuch"), ("bench/wrong-bodies", "nosuch"), ("bench/paths", "nosuch"), ("bench/pages", "nosuch"), ("bench/crashes", "nosuch"),
+    ("bench/slips", "nosuch"), ("bench/slips", "--nosuch"), ("bench/wrong-bodies", "nosuch"), ("bench/addresses", "nosuch"), ("bench/pages", "nosuch"), ("bench/crashes", "nosuch"),
     ("bench/faults", "--only", "nosuch"), ("bench/progress", "nosuch"), ("bench/beside.py", "--nosuch"), ("examples/check", "--nosuch"), ("examples/check", "nosuch"),
     ("examples/check-all", "nosuch"), ("examples/check-commands", "nosuch"), ("examples/check-commands", "docs/GLOSSARY.md"), ("examples/hunt", "nosuch"),
     ("examples/outage", "nosuch"), ("examples/standstill", "nosuch"), ("examples/soak-check", "nosuch"), ("examples/soak-check", "7", "0"), ("examples/soak-twice", "nosuch"), ("examples/soak-twice", "0"),
