@@ -66,7 +66,7 @@ try_contents() {
     found=$(cd "$home" && find . -name 'test*' -o -name '*_test.*' -o -name '*-test.*' -o -name 'check*' -o -name trials)
     [ -z "$found" ] || fail "tests are in the package: $found"
     found=$(cd "$home" && find examples operate -type f -perm -u+x | sort)
-    [ "$found" = "$(python3 -B -c 'from command import commands; print(*sorted(one.calls for one in commands.COMMANDS if one.calls.split("/")[0] in ("examples", "operate")), sep="\n")')" ] \
+    [ "$found" = "$(python3 -B -c 'from command import commands; print(*sorted({one.calls for one in commands.COMMANDS if one.calls.split("/")[0] in ("examples", "operate")}), sep="\n")')" ] \
         || fail "what can be run in the package isn't what nozhgiva calls: $found"
     passed "the package: no tests in it"
 }

@@ -18,7 +18,7 @@ NOTHING = (
     ("bench/slips", "nosuch"), ("bench/slips", "--nosuch"), ("bench/wrong-bodies", "nosuch"), ("bench/addresses", "nosuch"), ("bench/pages", "nosuch"), ("bench/crashes", "nosuch"),
     ("bench/faults", "--only", "nosuch"), ("bench/progress", "nosuch"), ("bench/beside.py", "--nosuch"), ("examples/check", "--nosuch"), ("examples/check", "nosuch"),
     ("examples/check-all", "nosuch"), ("examples/check-commands", "nosuch"), ("examples/check-commands", "docs/GLOSSARY.md"), ("examples/hunt", "nosuch"),
-    ("examples/outage", "nosuch"), ("examples/standstill", "nosuch"), ("examples/soak-check", "nosuch"), ("examples/soak-twice", "nosuch"), ("examples/soak-twice", "0"),
+    ("examples/outage", "nosuch"), ("examples/standstill", "nosuch"), ("examples/soak-check", "nosuch"), ("examples/soak-check", "7", "0"), ("examples/soak-twice", "nosuch"), ("examples/soak-twice", "0"),
     ("examples/message-rows", "nosuch"), ("examples/command-rows", "nosuch"), ("operate/check", "nosuch"), ("packaging/check", "nosuch"), ("packaging/check-network", "nosuch"),
     ("operate/trials/counted", "--minutes", "0"), ("operate/trials/counted", "--seeds", ","), ("operate/trials/deaf", "--cut", "0"), ("operate/trials/faults", "--minutes", "0"),
     ("operate/trials/restarts", "loop", "--keys", "0"), ("operate/trials/slow", "--seconds", "0"), ("operate/trials/stopped", "--tries", "0"), ("operate/trials/watched", "--minutes", "nan"),
