@@ -187,7 +187,7 @@ class Times(unittest.TestCase):
     def test_all_that_are_not_slow_fit_into_their_minutes_on_a_slow_machine(self) -> None:
         table = checking.read_table()
         self.assertLessEqual(sum(one.seconds for one in table if checking.SLOW not in one.marks), 1000)  # of 1,500
-        self.assertLessEqual(sum(one.seconds for one in table if checking.QUICK in one.marks), 120)  # of 180
+        self.assertLessEqual(sum(one.seconds for one in table if checking.QUICK in one.marks), 200)  # of 300
 
     def test_slow_ones_are_run_by_all_or_by_their_name_alone(self) -> None:
         with tempfile.TemporaryDirectory() as folder:
