@@ -28,7 +28,7 @@ def processes_with(text: str) -> List[str]:
 class Clusters(unittest.TestCase):
     def begin(self, *words: str) -> "subprocess.Popen[str]":
         child = subprocess.Popen([NOZHGIVA, "cluster", *words], stdout=subprocess.PIPE, stderr=subprocess.PIPE, text=True, cwd=TOP)
-        self.addCleanup(child.communicate)
+        self.addCleanup(child.communicate, timeout=30)
         self.addCleanup(child.kill)
         return child
 
