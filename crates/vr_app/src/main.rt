@@ -56,8 +56,8 @@ impl<'r> Maker for Hand<'r> {
     }
 
     fn disk(&mut self) -> Result<Self::Disk, AllocError> {
-        let mut disk = FileDisk::new(self.rt);
-        disk.remember(self.rt.alloc())?;
+        let mut disk = FileDisk::new(self.rt.alloc(), self.rt);
+        disk.remember()?;
         Ok(disk)
     }
 

@@ -5,3 +5,4 @@ pub mod Fronts
 pub mod Regions
 pub mod Sectors
 pub mod Stops
+pub mod Untouched

@@ -4,6 +4,7 @@ ghost use Rattle.vr_base.specs.Bytes.{piece};
 ghost use Rattle.vr_base.specs.Causes.{HasCause, one_more};
 ghost use Rattle.vr_disk.specs.DiskState.{Runs, reads};
 ghost use Rattle.vr_disk.specs.Sectors.{has, together, writes};
+ghost use Rattle.vr_disk.specs.Untouched.{Untouched};
 
 use crate::{DiskFailed, SECTORS, Sector, SectorDisk, ZEROS};
 use vr_base::put;
@@ -55,8 +56,7 @@ pub fn write_zeros<D: SectorDisk>(disk: &mut D, at: u32, count: u32) -> Result<(
 pub fn read_sectors<D: SectorDisk>(disk: &mut D, at: u32, count: u32, to: &mut [u8]) -> bool
     requires within { at + count ≤ SECTORS }
     requires size { length to.old ≡ 512 * count }
-    ensures told { D.told disk.new ≡ D.told disk.old }
-    ensures faults { D.faults disk.new ≡ D.faults disk.old }
+    ensures untouched { Untouched D.SectorDisk disk.old disk.new }
     ensures value { IfSome (D.told disk.old) (λ d. together at count d.face ≡ (if result then Some to.new else None)) }
     ensures reads { D.read_faults disk.old ≤ D.read_faults disk.new }
     ensures cause { D.read_faults disk.new ≡ (if result then D.read_faults disk.old else one_more (D.read_faults disk.old)) }
@@ -76,9 +76,8 @@ pub fn read_sectors<D: SectorDisk>(disk: &mut D, at: u32, count: u32, to: &mut [
 fn sector_reads_as<D: SectorDisk>(disk: &mut D, i: u32, bytes: &[u8], at: usize) -> bool
     requires i { i < SECTORS }
     requires size { at + 512 ≤ length bytes.now }
-    ensures told { D.told disk.new ≡ D.told disk.old }
+    ensures untouched { Untouched D.SectorDisk disk.old disk.new }
     ensures value { IfSome (D.told disk.old) (λ d. result ≡ has (piece at 512 bytes.now) (reads d.face i)) }
-    ensures faults { D.faults disk.new ≡ D.faults disk.old }
     ensures reads { D.read_faults disk.old ≤ D.read_faults disk.new }
 {
     disk.reads_as(i, &bytes[at..at + 512])
@@ -88,8 +87,7 @@ fn sector_reads_as<D: SectorDisk>(disk: &mut D, i: u32, bytes: &[u8], at: usize)
 pub fn sectors_read_as<D: SectorDisk>(disk: &mut D, at: u32, count: u32, bytes: &[u8]) -> bool
     requires within { at + count ≤ SECTORS }
     requires size { length bytes.now ≡ 512 * count }
-    ensures told { D.told disk.new ≡ D.told disk.old }
-    ensures faults { D.faults disk.new ≡ D.faults disk.old }
+    ensures untouched { Untouched D.SectorDisk disk.old disk.new }
     ensures value { IfSome (D.told disk.old) (λ d. result ≡ has bytes.now (together at count d.face)) }
     ensures reads { D.read_faults disk.old ≤ D.read_faults disk.new }
 {
@@ -104,8 +102,7 @@ pub fn sectors_read_as<D: SectorDisk>(disk: &mut D, at: u32, count: u32, bytes: 
 /// Whether so many sectors from one on read as zeros.
 pub fn are_zeros<D: SectorDisk>(disk: &mut D, at: u32, count: u32) -> bool
     requires { at + count ≤ SECTORS }
-    ensures told { D.told disk.new ≡ D.told disk.old }
-    ensures faults { D.faults disk.new ≡ D.faults disk.old }
+    ensures untouched { Untouched D.SectorDisk disk.old disk.new }
     ensures value { IfSome (D.told disk.old) (λ d. result ≡ has (replicate (512 * count) 0) (together at count d.face)) }
     ensures reads { D.read_faults disk.old ≤ D.read_faults disk.new }
 {

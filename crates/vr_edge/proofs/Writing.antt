@@ -1,5 +1,5 @@
 -- Bytes that are taken one piece after another.
-use Rattle.std.proofs.Common.{◌≡◌, ℕ, ◌+◌, ◌-◌, List, take, drop, length, Option, arith}
+use Rattle.std.proofs.Common.{◌≡◌, ◌∙◌, ℕ, ◌+◌, ◌-◌, List, [], take, drop, length, append-nil, Option, None, Some, arith}
 use Rattle.std.specs.Io.KnownBytes.{Appends, Keeps}
 use Rattle.std.proofs.KnownBytes.{Appends-trans, Appends-kept}
 use Rattle.std.proofs.lemmas.List.{take-append-drop}
@@ -22,7 +22,8 @@ pub appends_slice : (a b c : Option (List ℕ)) (at n : ℕ) (bytes : List ℕ) 
 appends_slice a b c at n bytes so_far piece =
     rw (take-add at n bytes) (Appends-trans a b c (take at bytes) (take n (drop at bytes)) so_far (rw slice_from at piece))
 
-pub front_more : (a b c : Option (List ℕ)) (at n : ℕ) (bytes : List ℕ) → Appends a b (take at bytes)
-    → Appends b c (take n (take (length bytes - at) (drop at bytes))) → AppendsFront a c bytes
-front_more a b c at n bytes so_far piece =
-    (take (at + n) bytes, drop (at + n) bytes, appends_slice a b c at n bytes so_far piece, take-append-drop (at + n) bytes)
+-- a write that took nothing
+pub none_taken : (a b : Option (List ℕ)) → Appends a b [] → Keeps a b
+none_taken None b h = tt
+none_taken (Some x) None h = absurd h
+none_taken (Some x) (Some y) h = h ∙ append-nil x

@@ -9,8 +9,8 @@ ghost use Rattle.vr_edge.specs.Logs.{told};
 ghost use Rattle.vr_edge.specs.Stocks.{Fits, IsStock, Took};
 ghost use Rattle.vr_edge.specs.Told.{Grows, GrowsOn, IsNothing};
 
-use crate::attach::attach_entry;
-use crate::calls::is_listed;
+use crate::attach::note_attach;
+use crate::calls::{answer, count_fault, is_listed};
 use crate::link::RECEIVE_ROOM;
 use crate::log::Log;
 use crate::outbox::Outbox;
@@ -115,16 +115,9 @@ impl Link for MemLink {
     {
         let call = self.attaches;
         self.attaches = call.saturating_add(1);
-        let given = if is_listed(&self.script.failing_attaches, call) {
-            Err(LinkFailed)
-        } else {
-            Ok(())
-        };
-        let entry = attach_entry(&mut self.stock, own, peers, &given);
-        self.attached.note(entry);
-        if given.is_err() {
-            self.faults = self.faults.saturating_add(1);
-        }
+        let given = answer(&self.script.failing_attaches, call, LinkFailed);
+        note_attach(&mut self.attached, &mut self.stock, own, peers, &given);
+        count_fault(&mut self.faults, &given);
         given
     }
 
@@ -163,9 +156,7 @@ impl Link for MemLink {
     {
         let given = self.script.give(self.receives, to);
         self.receives = self.receives.saturating_add(1);
-        if given.is_err() {
-            self.faults = self.faults.saturating_add(1);
-        }
+        count_fault(&mut self.faults, &given);
         given
     }
 }

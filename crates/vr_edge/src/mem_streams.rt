@@ -3,6 +3,7 @@ ghost use Rattle.std.specs.Prelude.{◌≡◌, ◌≤◌, ◌<◌, ◌+◌, [], 
 ghost use Rattle.vr_base.specs.Causes.{HasCause, one_more};
 ghost use Rattle.vr_edge.specs.Attaching.{attached_by, texts_of};
 ghost use Rattle.vr_edge.specs.Counts.{is_listed};
+ghost use Rattle.vr_edge.specs.Logs.{told, told_to};
 ghost use Rattle.vr_edge.specs.Streaming.{IsPolled, polled_by, written_by};
 ghost use Rattle.vr_edge.specs.StreamScripts.{gives, is_left_out, left_behind};
 ghost use Rattle.vr_edge.specs.Stocks.{Fits, FitsOne, IsStock, Took, TookOne};
@@ -11,8 +12,8 @@ ghost use Rattle.vr_edge.specs.declared.stream_script.Coming.TheVariants as comi
 ghost use Rattle.vr_edge.specs.declared.streams.StreamCall.TheVariants as call;
 ghost use Rattle.vr_edge.specs.declared.streams.StreamFailed.{StreamFailed};
 
-use crate::attach::attach_entry;
-use crate::calls::is_listed;
+use crate::attach::note_attach;
+use crate::calls::{answer, count_fault};
 use crate::log::{CallLog, Log};
 use crate::{
     Attach, Coming, LogRoom, Piece, Polled, STREAM_ROOM, StreamCall, StreamFailed, StreamScript,
@@ -156,6 +157,55 @@ fn write_entry(
     Some(Write { port, bytes, taken })
 }
 
+/// Tells one poll, where there is room for its bytes.
+fn note_poll(
+    calls: &mut CallLog,
+    stock: &mut TextStock,
+    peers: usize,
+    polled: &Result<Polled, StreamFailed>,
+    bytes: &[u8],
+)
+    requires { (length bytes.now ≡ STREAM_ROOM) × IfOk polled.now (IsPolled peers) }
+    ensures calls { Grows (told calls.old.log.whole calls.old.log.entries.items) (told calls.new.log.whole calls.new.log.entries.items) (polled_by polled.now bytes.now ∷ []) }
+    ensures polled { told_to calls.new.was_whole calls.new.polled calls.new.log.entries.items ≡ told calls.new.log.whole calls.new.log.entries.items }
+    // one for which there is room is told, where each before was
+    ensures kept { vec_len calls.old.log.entries < calls.old.log.room → FitsOne STREAM_ROOM stock.old
+        → GrowsOn (told calls.old.log.whole calls.old.log.entries.items) (told calls.new.log.whole calls.new.log.entries.items) (polled_by polled.now bytes.now ∷ []) × TookOne stock.old stock.new }
+    ensures room { calls.new.log.room ≡ calls.old.log.room }
+{
+    let entry = poll_entry(stock, peers, polled, bytes);
+    calls.note_poll(entry);
+}
+
+/// Tells one write, where there is room for its bytes.
+fn note_write(
+    log: &mut Log<Write>,
+    stock: &mut TextStock,
+    port: u32,
+    bytes: &[u8],
+    written: &Result<usize, StreamFailed>,
+)
+    ensures told { Grows (told log.old.whole log.old.entries.items) (told log.new.whole log.new.entries.items) (written_by port bytes.now written.now ∷ []) }
+    // one for which there is room is told, where each before was, and uses that room
+    ensures kept { vec_len log.old.entries < log.old.room → FitsOne (length bytes.now) stock.old
+        → GrowsOn (told log.old.whole log.old.entries.items) (told log.new.whole log.new.entries.items) (written_by port bytes.now written.now ∷ []) × Took 1 0 stock.old stock.new }
+    ensures room { log.new.room ≡ log.old.room }
+{
+    let entry = write_entry(stock, port, bytes, written);
+    log.note(entry);
+}
+
+/// How many peers are attached after an attach of so many; one that failed leaves them.
+fn attached_after(before: usize, count: usize, given: &Result<(), StreamFailed>) -> usize
+    ensures attached { OnOk given.now (result ≡ count) }
+    ensures kept { OnErr given.now (result ≡ before) }
+{
+    match given {
+        Ok(()) => count,
+        Err(_) => before,
+    }
+}
+
 /// What streams tell of their calls.
 #[derive(Drop)]
 struct Books {
@@ -166,8 +216,6 @@ struct Books {
 }
 
 impl Books {
-    ghost use Rattle.vr_edge.specs.Logs.{told, told_to};
-
     /// No call is told, and there is so much room.
     fn new(alloc: Global, room: LogRoom) -> Result<Books, AllocError>
         ensures attached { IfOk result (λ b. told b.attached.whole b.attached.entries.items ≡ Some []) }
@@ -274,7 +322,6 @@ impl MemStreams {
 }
 
 impl Streams for MemStreams {
-    ghost use Rattle.vr_edge.specs.Logs.{told, told_to};
     ghost use Rattle.vr_edge.specs.StreamScripts.{found_at, gives_at, waits, write_takes};
 
     ghost attaches = { λ s. told s.attached.whole s.attached.entries.items };
@@ -312,18 +359,10 @@ impl Streams for MemStreams {
     {
         let call = self.attaches;
         self.attaches = call.saturating_add(1);
-        let given = if is_listed(&self.script.failing_attaches, call) {
-            Err(StreamFailed)
-        } else {
-            Ok(())
-        };
-        let entry = attach_entry(&mut self.stock, own, peers, &given);
-        self.attached.note(entry);
-        if given.is_ok() {
-            self.peers = peers.len();
-        } else {
-            self.faults = self.faults.saturating_add(1);
-        }
+        let given = answer(&self.script.failing_attaches, call, StreamFailed);
+        note_attach(&mut self.attached, &mut self.stock, own, peers, &given);
+        self.peers = attached_after(self.peers, peers.len(), &given);
+        count_fault(&mut self.faults, &given);
         given
     }
 
@@ -347,11 +386,8 @@ impl Streams for MemStreams {
         ensures state { self.new ≡ record self.old { left_out = self.new.left_out; polls = one_more self.old.polls; calls = self.new.calls; stock = self.new.stock; faults = self.new.faults } }
     {
         let given = self.find(to);
-        let entry = poll_entry(&mut self.stock, self.peers, &given, to);
-        self.calls.note_poll(entry);
-        if given.is_err() {
-            self.faults = self.faults.saturating_add(1);
-        }
+        note_poll(&mut self.calls, &mut self.stock, self.peers, &given, to);
+        count_fault(&mut self.faults, &given);
         given
     }
 
@@ -374,11 +410,8 @@ impl Streams for MemStreams {
         let call = self.writes;
         self.writes = call.saturating_add(1);
         let written = self.script.take(call, bytes.len());
-        let entry = write_entry(&mut self.stock, port, bytes, &written);
-        self.written.note(entry);
-        if written.is_err() {
-            self.call_faults = self.call_faults.saturating_add(1);
-        }
+        note_write(&mut self.written, &mut self.stock, port, bytes, &written);
+        count_fault(&mut self.call_faults, &written);
         written
     }
 
@@ -401,10 +434,13 @@ impl Streams for MemStreams {
         self.closes = number.saturating_add(1);
         leave_out(&mut self.left_out, port, true);
         self.calls.note_close(port);
-        if is_listed(&self.script.failing_closes, number) {
-            self.call_faults = self.call_faults.saturating_add(1);
-            return Err(StreamFailed);
-        }
-        Ok(())
+        let given = answer(&self.script.failing_closes, number, StreamFailed);
+        count_fault(&mut self.call_faults, &given);
+        given
     }
+
+    /// In memory nobody waits for a place.
+    fn speaks(&mut self, _port: u32, _member: u8)
+        ensures { self.new ≡ self.old }
+    {}
 }

@@ -134,4 +134,15 @@ pub trait Streams {
         ensures written { written self.new ≡ written self.old }
         ensures attached { attached self.new ≡ attached self.old }
         ensures others { faults self.new ≡ faults self.old };
+
+    /// The stream at a port brought a message of this member that is no request. It changes nothing that is told.
+    fn speaks(&mut self, port: u32, member: u8)
+        ensures attaches { attaches self.new ≡ attaches self.old }
+        ensures calls { calls self.new ≡ calls self.old }
+        ensures polled { polled self.new ≡ polled self.old }
+        ensures written { written self.new ≡ written self.old }
+        ensures waiting { waiting self.new ≡ waiting self.old }
+        ensures attached { attached self.new ≡ attached self.old }
+        ensures faults { faults self.new ≡ faults self.old }
+        ensures others { call_faults self.new ≡ call_faults self.old };
 }

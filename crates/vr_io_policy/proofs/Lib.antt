@@ -1,2 +1,5 @@
+mod Between
 mod Fair
 mod First
+mod Gathering
+mod Over

@@ -1,3 +1,5 @@
+pub mod Caches
+pub mod Files
 pub mod Guests
 pub mod Laws
 pub mod Pauses

@@ -1,6 +1,8 @@
 -- Which place a newcomer gets.
-use Rattle.std.specs.Prelude.{◌≡◌, ◌<◌, ◌/◌, ◌==◌, ℕ, Bool, true, false, nat_lt, ◌&&◌, ◌||◌, List, length, count_by, slice_get, slice_set, Option, Some, None, IfSome, if◌then◌else◌, option_map}
+use Rattle.std.specs.Prelude.{◌≡◌, ◌<◌, ◌/◌, ◌==◌, ℕ, Bool, true, false, nat_lt, ◌&&◌, ◌||◌, List, length, count_by, slice_get, slice_set, Option, Some, None, IfSome, if◌then◌else◌, option_map, map}
 use Rattle.std.specs.Option.{option_map_or}
+use Rattle.std.specs.List.{list_any}
+use Rattle.vr_io_policy.specs.Guests.{speaks_as, speaks_for, yields}
 use Rattle.vr_io_policy.specs.Turns.{claim_of, is_before, waits_first}
 use Rattle.vr_io_policy.specs.declared.guest.Guest.{Guest}
 use Rattle.vr_io_policy.specs.declared.places.Found.{Found}
@@ -11,7 +13,7 @@ use Rattle.vr_io_policy.specs.declared.turn.Newcomer.{Newcomer}
 abbrev pub is_crowded : ℕ → List (Option Guest) → Bool
 is_crowded now guests = nat_lt (length guests / 2) (count_by (waits_first now) guests)
 
--- who comes now, from the machine of a member or not
+-- who comes now, and may be a member or not
 abbrev pub newcomer : Bool → ℕ → List (Option Guest) → Newcomer
 newcomer near now guests = record { near = near; crowded = is_crowded now guests; now = now }
 
@@ -47,3 +49,15 @@ pub record IsFirst (n : Newcomer) (guests : List (Option Guest)) (count : ℕ) (
 -- something happens to what stands at a place; a free one stays free
 abbrev pub at_place : (Guest → Guest) → ℕ → List (Option Guest) → List (Option Guest)
 at_place f at guests = option_map_or (λ p. slice_set guests at (option_map f p)) (slice_get guests at) guests
+
+-- what has a place speaks as this member
+abbrev pub has_word : ℕ → Option Guest → Bool
+has_word member place = option_map_or (speaks_for member) place false
+
+-- a stream speaks as this member
+abbrev pub is_heard : ℕ → List (Option Guest) → Bool
+is_heard member guests = list_any (has_word member) guests
+
+-- the stream at a place brought a message of this member: it speaks as that one, and no other stream does; where no member can have the number, nothing
+abbrev pub speaking : ℕ → ℕ → List (Option Guest) → List (Option Guest)
+speaking member at guests = if nat_lt member 6 then at_place (speaks_as member) at (map (option_map (yields member)) guests) else guests

@@ -1,6 +1,6 @@
 //! A stream that somebody else has made, as far as its place goes.
 ghost use Rattle.std.specs.Prelude.{◌≡◌};
-ghost use Rattle.vr_io_policy.specs.Guests.{answers, asks, comes, hears, waits};
+ghost use Rattle.vr_io_policy.specs.Guests.{answers, asks, comes, hears, speaks_as, speaks_for, waits, yields};
 
 /// The bytes of a header: what brought fewer has asked nothing.
 pub const HEADER: usize = 128;
@@ -11,8 +11,10 @@ pub const WAIT_MILLIS: u64 = 3000;
 /// A stream that others have made, by the milliseconds of a clock.
 #[derive(Clone, Copy, Debug, PartialEq, Eq)]
 pub struct Guest {
-    /// Whether it comes from the machine of a member.
+    /// Whether it may be that of a member: when it came, no stream spoke for one at the machine that it comes from.
     pub near: bool,
+    /// The member as which it speaks: it brought a message of that one, and no other stream has since.
+    pub speaks: Option<u8>,
     /// Whether anything was ever written to it.
     pub answered: bool,
     /// When it came; then when it was answered last, or had brought a whole header since, whichever was later.
@@ -22,12 +24,13 @@ pub struct Guest {
 }
 
 impl Guest {
-    /// One that comes now, from the machine of a member or not.
+    /// One that comes now, and may be that of a member or not.
     pub fn new(near: bool, now: u64) -> Guest
         ensures { result ≡ comes near now }
     {
         Guest {
             near,
+            speaks: None,
             answered: false,
             since: now,
             said: 0,
@@ -49,6 +52,32 @@ impl Guest {
         self.said = self.said.saturating_add(count).min(HEADER);
         if !asked && self.asks() {
             self.since = now;
+        }
+    }
+
+    /// Whether it speaks as this member.
+    pub fn speaks_for(&self, member: u8) -> bool
+        ensures { result ≡ speaks_for member self.now }
+    {
+        match self.speaks {
+            Some(own) => own == member,
+            None => false,
+        }
+    }
+
+    /// It speaks as this member.
+    pub fn speak(&mut self, member: u8)
+        ensures { self.new ≡ speaks_as member self.old }
+    {
+        self.speaks = Some(member);
+    }
+
+    /// Another stream speaks as this member.
+    pub fn yield_to(&mut self, member: u8)
+        ensures { self.new ≡ yields member self.old }
+    {
+        if self.speaks_for(member) {
+            self.speaks = None;
         }
     }
 

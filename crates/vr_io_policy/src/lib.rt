@@ -3,16 +3,22 @@
 #![tactic(auto)]
 
 mod again;
+mod cache;
+mod cached;
 mod guest;
 mod laws;
+mod page_buffer;
 mod places;
 mod ports;
 mod turn;
 mod wants;
 
 pub use again::{Again, is_passing};
+pub use cache::{Next, PAGE_SECTORS, SectorCache};
+pub use cached::Cached;
 pub use guest::Guest;
-pub use laws::place_laws;
+pub use laws::{file_laws, place_laws};
+pub use page_buffer::PageBuffer;
 pub use places::{PLACES, Places};
 pub use ports::{NOBODY, Ports, Sender, number};
 pub use turn::{Newcomer, Turn};

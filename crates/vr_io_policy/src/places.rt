@@ -1,7 +1,7 @@
 //! The places of streams that others have made, and which of them a newcomer gets.
-ghost use Rattle.std.specs.Prelude.{◌≡◌, ◌<◌, ◌∷◌, [], IfOk, None, Some, length, option_map, replicate, slice_get, slice_set};
-ghost use Rattle.vr_io_policy.specs.Guests.{answers, comes, hears};
-ghost use Rattle.vr_io_policy.specs.Places.{IsFirst, IsPlace, at_place, first_of, is_crowded, newcomer};
+ghost use Rattle.std.specs.Prelude.{◌≡◌, ◌<◌, ◌∷◌, [], IfOk, None, Some, length, map, option_map, replicate, slice_get, slice_set};
+ghost use Rattle.vr_io_policy.specs.Guests.{answers, comes, hears, speaks_as, yields};
+ghost use Rattle.vr_io_policy.specs.Places.{IsFirst, IsPlace, at_place, first_of, has_word, is_crowded, is_heard, newcomer, speaking};
 
 use crate::guest::Guest;
 use crate::turn::{Claim, Newcomer, claim_of, waits_first};
@@ -10,6 +10,9 @@ use std::marker::Model;
 
 /// The most streams at a time that others have made.
 pub const PLACES: usize = 64;
+
+/// More than the number of every member of a group.
+const MEMBERS: u8 = 6;
 
 /// The places of streams that others have made. Contracts see them as a list of what has each.
 #[derive(Drop)]
@@ -62,6 +65,43 @@ fn answer(place: &mut Option<Guest>, now: u64)
     }
 }
 
+// What has a place brought a message of this member.
+fn speak(place: &mut Option<Guest>, member: u8)
+    ensures { place.new ≡ option_map (speaks_as member) place.old }
+{
+    if let Some(guest) = place {
+        guest.speak(member);
+    }
+}
+
+// Another stream brought a message of this member.
+fn yield_to(place: &mut Option<Guest>, member: u8)
+    ensures { place.new ≡ option_map (yields member) place.old }
+{
+    if let Some(guest) = place {
+        guest.yield_to(member);
+    }
+}
+
+// None of these speaks as this member any more.
+fn all_yield(guests: &mut [Option<Guest>], member: u8)
+    ensures { guests.new ≡ map (option_map (yields member)) guests.old }
+{
+    for at in 0..guests.len() {
+        yield_to(&mut guests[at], member);
+    }
+}
+
+// Whether what has a place speaks as this member.
+fn has_word(place: &Option<Guest>, member: u8) -> bool
+    ensures { result ≡ has_word member place.now }
+{
+    match place {
+        Some(guest) => guest.speaks_for(member),
+        None => false,
+    }
+}
+
 // Which of two places is had first, the one that was found so far or this one.
 #[tactic(auto, unfolding(crate::specs::Places::first_of))]
 fn first_of(found: Option<Found>, at: usize, claim: Option<Claim>) -> Option<Found>
@@ -104,7 +144,14 @@ impl Places {
         Ok(Places { guests })
     }
 
-    /// The place that a stream gets which comes now, from the machine of a member or not; `None` where it gets none.
+    /// Whether a stream speaks as this member.
+    pub fn is_heard(&self, member: u8) -> bool
+        ensures { result ≡ is_heard member self.now }
+    {
+        self.guests.iter().any(|place| has_word(place, member))
+    }
+
+    /// The place that a stream gets which comes now, and may be that of a member (`near`) or not; `None` where it gets none.
     #[tactic(auto, using(std::proofs::lemmas::Grind::common_steps, crate::proofs::First::no_place, crate::proofs::First::this_place))]
     pub fn place_for(&self, near: bool, now: u64) -> Option<usize>
         ensures { IsPlace (newcomer near now self.now) self.now result }
@@ -142,6 +189,40 @@ impl Places {
     {
         if let Some(place) = self.guests.get_mut(at) {
             hear(place, count, now);
+        }
+    }
+
+    // No stream speaks as this member any more.
+    fn yield_all(&mut self, member: u8)
+        ensures { self.new ≡ map (option_map (yields member)) self.old }
+    {
+        all_yield(self.guests.as_mut_slice(), member);
+    }
+
+    // The stream at this place speaks as this member.
+    fn speak_at(&mut self, at: usize, member: u8)
+        ensures { self.new ≡ at_place (speaks_as member) at self.old }
+    {
+        if let Some(place) = self.guests.get_mut(at) {
+            speak(place, member);
+        }
+    }
+
+    // The stream at this place speaks as this member, and no other one does.
+    fn speak_alone(&mut self, at: usize, member: u8)
+        ensures { self.new ≡ at_place (speaks_as member) at (map (option_map (yields member)) self.old) }
+    {
+        self.yield_all(member);
+        self.speak_at(at, member);
+    }
+
+    /// The stream at this place brought a message of this member: it speaks as that one, and no other stream does. A number that no
+    /// member has counts for nothing.
+    pub fn speak(&mut self, at: usize, member: u8)
+        ensures { self.new ≡ speaking member at self.old }
+    {
+        if member < MEMBERS {
+            self.speak_alone(at, member);
         }
     }
 

@@ -1,6 +1,6 @@
 //! Whose turn it is to give a place up.
 ghost use Rattle.std.specs.Prelude.{◌≡◌};
-ghost use Rattle.vr_io_policy.specs.Turns.{claim_of, idle_turn, is_before, near_turn, rank, turn_of, waiting_turn, waits_first};
+ghost use Rattle.vr_io_policy.specs.Turns.{claim_of, first_turn, idle_turn, is_before, rank, turn_of, waiting_turn, waits_first};
 
 use crate::guest::{Guest, WAIT_MILLIS};
 
@@ -10,7 +10,7 @@ const LONG_MILLIS: u64 = 10_000;
 /// Who wants a place.
 #[derive(Clone, Copy, Debug, PartialEq, Eq)]
 pub struct Newcomer {
-    /// Whether it comes from the machine of a member.
+    /// Whether it may be that of a member.
     pub near: bool,
     /// Whether more than half of the places have strangers that wait for their first answer.
     pub crowded: bool,
@@ -18,7 +18,7 @@ pub struct Newcomer {
     pub now: u64,
 }
 
-/// Why a place may be had, those that are had first first. A stranger is a stream that doesn't come from the machine of a member.
+/// Why a place may be had, those that are had first first. A stranger is a stream that doesn't speak as a member.
 #[derive(Clone, Copy, Debug, PartialEq, Eq)]
 pub enum Turn {
     /// Nobody has it.
@@ -27,15 +27,15 @@ pub enum Turn {
     Useless,
     /// A stranger that waits for nothing, for ten seconds or more.
     Forgotten,
-    /// A stranger that waits for its first answer, where more than half of the places have such ones.
+    /// A stranger that waits for its first answer, and can't be a member's, where more than half of the places have such ones.
     Crowding,
     /// A stranger that waits for nothing, for less than ten seconds.
     Idle,
-    /// A stranger that waits for its first answer.
+    /// A stranger that waits for its first answer, and can't be a member's.
     Waiting,
-    /// A stream from the machine of a member that has brought no whole header within three seconds.
-    Mute,
-    /// A stranger that was answered and waits: only a newcomer from the machine of a member gets its place.
+    /// A stranger that may be that of a member, and waits to be heard.
+    Awaited,
+    /// A stranger that was answered and waits: only a newcomer that may be that of a member gets its place.
     Served,
 }
 
@@ -58,7 +58,7 @@ impl Turn {
             Turn::Crowding => 3,
             Turn::Idle => 4,
             Turn::Waiting => 5,
-            Turn::Mute => 6,
+            Turn::Awaited => 6,
             Turn::Served => 7,
         }
     }
@@ -75,24 +75,29 @@ impl Claim {
     }
 }
 
-/// Whether a guest is a stranger that waits for its first answer.
+/// Whether a guest is a stranger that waits for its first answer, and can't be that of a member.
 pub fn waits_first(guest: &Option<Guest>, now: u64) -> bool
     ensures { result ≡ waits_first now guest.now }
 {
     match guest {
-        Some(guest) => !guest.near && !guest.answered && guest.waits(now),
+        Some(guest) => {
+            guest.speaks.is_none() && !guest.near && !guest.answered && guest.waits(now)
+        }
         None => false,
     }
 }
 
-// The turn of a stream from the machine of a member: none, once it has brought a whole header.
-fn near_turn(guest: &Guest, now: u64) -> Option<Turn>
-    ensures { result ≡ near_turn now guest.now }
+// The turn of a stranger that waits for its first answer, or to be heard.
+fn first_turn(guest: &Guest, newcomer: Newcomer) -> Turn
+    ensures { result ≡ first_turn newcomer guest.now }
 {
-    if guest.asks() || guest.answered || guest.waits(now) {
-        None
+    if guest.near {
+        return Turn::Awaited;
+    }
+    if newcomer.crowded {
+        Turn::Crowding
     } else {
-        Some(Turn::Mute)
+        Turn::Waiting
     }
 }
 
@@ -101,11 +106,7 @@ fn waiting_turn(guest: &Guest, newcomer: Newcomer) -> Option<Turn>
     ensures { result ≡ waiting_turn newcomer guest.now }
 {
     if !guest.answered {
-        return Some(if newcomer.crowded {
-            Turn::Crowding
-        } else {
-            Turn::Waiting
-        });
+        return Some(first_turn(guest, newcomer));
     }
     if newcomer.near {
         Some(Turn::Served)
@@ -128,12 +129,12 @@ fn idle_turn(guest: &Guest, now: u64) -> Turn
     }
 }
 
-// The turn of a guest, where it may have to give its place up.
+// The turn of a guest, where it may have to give its place up: none of one that speaks as a member.
 fn turn_of(guest: &Guest, newcomer: Newcomer) -> Option<Turn>
     ensures { result ≡ turn_of newcomer guest.now }
 {
-    if guest.near {
-        return near_turn(guest, newcomer.now);
+    if guest.speaks.is_some() {
+        return None;
     }
     if guest.waits(newcomer.now) {
         return waiting_turn(guest, newcomer);

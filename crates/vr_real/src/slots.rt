@@ -211,8 +211,23 @@ pub fn is_free(slots: &Vec<Slot>, at: usize) -> bool {
     slots.get(at).is_some_and(|slot| slot.stream.is_none())
 }
 
-/// Whether an address is on the machine of a peer. Then that machine is there, and streams to peers on it may be begun at once.
-fn meet(slots: &mut Vec<Slot>, peers: &Vec<SocketAddr>, from: IpAddr) -> bool
+// Whether no stream speaks for the member at this place of the list of peers.
+fn is_silent(places: &Places, at: usize) -> bool {
+    match u8::try_from(at) {
+        Ok(member) => !places.is_heard(member),
+        Err(_) => false,
+    }
+}
+
+/// Whether a stream from an address may be that of a member other than the own one: of one on that machine for whom none speaks yet. Where a
+/// peer is on it, that machine is there, and streams to peers on it may be begun at once.
+fn meet(
+    slots: &mut Vec<Slot>,
+    peers: &Vec<SocketAddr>,
+    places: &Places,
+    own: Option<SocketAddr>,
+    from: IpAddr,
+) -> bool
     ensures { vec_len slots.new ≡ vec_len slots.old }
 {
     let mut near = false;
@@ -220,7 +235,7 @@ fn meet(slots: &mut Vec<Slot>, peers: &Vec<SocketAddr>, from: IpAddr) -> bool
         if let (Some(peer), Some(slot)) = (peers.get(at), slots.get_mut(at)) {
             if peer.ip() == from {
                 slot.begun = None;
-                near = true;
+                near = near || (own != Some(*peer) && is_silent(places, at));
             }
         }
     }
@@ -265,10 +280,11 @@ pub fn take_in(
 ) -> bool
     ensures { vec_len slots.new ≡ vec_len slots.old }
 {
+    let own = listener.local_addr().ok();
     for _ in 0..TAKEN {
         match listener.accept() {
             Ok((stream, from)) => {
-                let near = meet(slots, peers, from.ip());
+                let near = meet(slots, peers, places, own, from.ip());
                 seat(poll, slots, places, peers, stream, near, now);
             }
             Err(error) => return error.kind() != ErrorKind::WouldBlock,

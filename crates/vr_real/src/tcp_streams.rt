@@ -427,4 +427,10 @@ impl<R: Net + Clock + Drop> Streams for TcpStreams<R> {
         self.free(port);
         Ok(())
     }
+
+    fn speaks(&mut self, port: u32, member: u8) {
+        if let Some(place) = self.place(port) {
+            self.places.speak(place, member);
+        }
+    }
 }

@@ -8,6 +8,7 @@ pub mod Looked
 pub mod Messages
 pub mod Received
 pub mod Sent
+pub mod Spoken
 pub mod Standing
 pub mod Tells
 pub mod Told

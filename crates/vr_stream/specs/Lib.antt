@@ -8,3 +8,4 @@ pub mod Lines
 pub mod Looking
 pub mod Receiving
 pub mod Sending
+pub mod Speaking

@@ -2,6 +2,7 @@
 ghost use Rattle.std.specs.Prelude.{◌≡◌, ◌≤◌, ◌<◌, ◌+◌, ◌⊎◌, [], ◌∷◌, Ok, None, false, IfOk, OnErr, OnOk, replicate, take, vec_capacity, vec_len};
 
 use crate::framer::{Framer, Given};
+use crate::speaker::speaker;
 use std::alloc::{AllocError, Global};
 use vr_edge::{LinkFailed, Polled, RECEIVE_ROOM, Received, STREAM_ROOM, Streams};
 
@@ -192,9 +193,9 @@ impl<T: Streams> Framed<T> {
         Err(LinkFailed)
     }
 
-    /// A message that stands ready; else what one poll gives.
+    // A message that stands ready; else what one poll gives.
     #[tactic(auto, using(crate::proofs::Giving::received_ready, crate::proofs::Giving::received_failed, crate::proofs::Giving::received_heard))]
-    pub fn receive(&mut self, to: &mut Vec<u8>) -> Result<Received, LinkFailed>
+    fn take_in(&mut self, to: &mut Vec<u8>) -> Result<Received, LinkFailed>
         requires { RECEIVE_ROOM ≤ vec_capacity to.old }
         ensures cause { HasCause self.old.faults self.new.faults result }
         ensures written { T.written self.new.streams ≡ T.written self.old.streams }
@@ -212,5 +213,37 @@ impl<T: Streams> Framed<T> {
             return Err(LinkFailed);
         };
         Ok(self.hear(polled, to))
+    }
+
+    // Tells the streams as whom the stream at a port speaks that brought this message.
+    fn introduce(&mut self, port: u32, message: &[u8])
+        ensures framing { self.new.framer ≡ self.old.framer }
+        ensures calls { T.calls self.new.streams ≡ T.calls self.old.streams }
+        ensures polled { T.polled self.new.streams ≡ T.polled self.old.streams }
+        ensures written { T.written self.new.streams ≡ T.written self.old.streams }
+        ensures attached { (T.attaches self.new.streams ≡ T.attaches self.old.streams) × (self.new.is_over ≡ self.old.is_over) }
+        ensures most { self.new.peers ≡ self.old.peers }
+        ensures faults { (self.new.faults ≡ self.old.faults) × (self.new.send_faults ≡ self.old.send_faults) }
+    {
+        if let Some(member) = speaker(message) {
+            self.streams.speaks(port, member);
+        }
+    }
+    /// A message that stands ready; else what one poll gives. Of a message the streams are told as whom the one speaks that brought it.
+    pub fn receive(&mut self, to: &mut Vec<u8>) -> Result<Received, LinkFailed>
+        requires { RECEIVE_ROOM ≤ vec_capacity to.old }
+        ensures cause { HasCause self.old.faults self.new.faults result }
+        ensures written { T.written self.new.streams ≡ T.written self.old.streams }
+        ensures room { RECEIVE_ROOM ≤ vec_capacity to.new }
+        ensures attached { (T.attaches self.new.streams ≡ T.attaches self.old.streams) × (self.new.is_over ≡ self.old.is_over) }
+        ensures most { self.new.peers ≡ self.old.peers }
+        ensures others { self.new.send_faults ≡ self.old.send_faults }
+        ensures heard { IsReceived (framing self.old.framer) (T.calls self.old.streams) (T.polled self.old.streams) (framing self.new.framer) (T.calls self.new.streams) (T.polled self.new.streams) to.new.items result }
+    {
+        let received = self.take_in(to);
+        if let Ok(Received::Datagram(port)) = received {
+            self.introduce(port, to.as_slice());
+        }
+        received
     }
 }

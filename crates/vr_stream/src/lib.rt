@@ -9,6 +9,7 @@ mod line;
 mod link;
 mod looking;
 mod next;
+mod speaker;
 
 pub use deframer::Deframer;
 pub use laws::stream_laws;

@@ -17,8 +17,8 @@ loop-k-preserved g c =
     let b = c.args.bytes.now in
     let told = c.loop-k.invariant.told in
     record {
-      told = c.sector_reads_as.ensures.told ∙ told;
-      faults = c.sector_reads_as.ensures.faults ∙ c.loop-k.invariant.faults;
+      told = c.sector_reads_as.ensures.untouched.told ∙ told;
+      faults = c.sector_reads_as.ensures.untouched.faults ∙ c.loop-k.invariant.faults;
       reads = omega (arith, c.sector_reads_as.ensures.reads, c.loop-k.invariant.reads);
       rest = λ d e.
           let whole : IsFace d.face = some_if (λ (d : Disk). IsFace d.face) (g.D.SectorDisk.told c.args.disk.now) d (g.met.D.SectorDisk.whole c.args.disk.now) e in

@@ -1,0 +1,58 @@
+//! The bytes of pages that are to be written.
+ghost use Rattle.std.specs.Prelude.{◌≡◌, ◌≤◌, ◌*◌, length, take};
+ghost use Rattle.vr_io_policy.specs.Caches.{IsReady, bytes_of, pages};
+
+use crate::cache::SectorCache;
+use crate::cached::Cached;
+use std::alloc::{AllocError, Global};
+use std::marker::Model;
+use vr_base::put;
+use vr_disk::SECTOR_SIZE;
+
+/// The bytes of nine pages: so many have neighbors of which 64 wait.
+const MOST: usize = 72 * SECTOR_SIZE;
+
+/// Room for the bytes of nine pages.
+#[derive(Drop)]
+pub struct PageBuffer {
+    bytes: Vec<u8>,
+}
+
+impl Model for PageBuffer {
+    ghost use Rattle.std.specs.Prelude.{◌≡◌, ℕ, List, length};
+
+    ghost Value = { List ℕ };
+
+    ghost view = { λ b. b.bytes.items };
+
+    ghost invariant = { λ b. length b.bytes.items ≡ 36864 };
+}
+
+/// Puts what is written to these sectors in front.
+fn put_all(out: &mut [u8], sectors: &[Cached])
+    requires { 512 * length sectors.now ≤ length out.old }
+    ensures { take (512 * length sectors.now) out.new ≡ bytes_of sectors.now }
+{
+    for k in 0..sectors.len() {
+        put(out, SECTOR_SIZE * k, &sectors[k].bytes());
+    }
+}
+
+impl PageBuffer {
+    /// All its memory is taken here.
+    pub fn new(alloc: Global) -> Result<PageBuffer, AllocError> {
+        let mut bytes = Vec::new(alloc);
+        bytes.resize(MOST, 0)?;
+        Ok(PageBuffer { bytes })
+    }
+
+    /// The bytes of the pages in which some sectors wait.
+    pub fn gather(&mut self, cache: &SectorCache) -> &[u8]
+        requires { IsReady cache.now }
+        ensures { result.now ≡ bytes_of (pages cache.now) }
+    {
+        let pages = cache.pages();
+        put_all(self.bytes.as_mut_slice(), pages);
+        &self.bytes[..SECTOR_SIZE * pages.len()]
+    }
+}
