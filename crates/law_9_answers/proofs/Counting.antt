@@ -24,10 +24,10 @@ use Rattle.law_9_answers.specs.Heard.{Heard}
 use Rattle.law_9_answers.specs.Trials.{heard_by, heard_end, heard_steps, heard_till, heard_trial}
 use Rattle.law_9_answers.specs.Programs.{Program, ClientRuns, TrialRuns, client_of, hears_of, leaves_of, left_at, left_by, left_client, left_end, left_last, left_lines, left_run, left_till, left_trial}
 
--- these requests are of one client, one number after the other from this one on
-abbrev pub AreCounted : ℕ → ℕ → List RequestFields → Type 0
-AreCounted id i [] = ⊤
-AreCounted id i (q ∷ qs) = (q.client ≡ id) × (q.request ≡ i) × AreCounted id (i + 1) qs
+-- these requests are of one client, in its version, one number after the other from this one on
+abbrev pub AreCounted : Client → ℕ → List RequestFields → Type 0
+AreCounted c i [] = ⊤
+AreCounted c i (q ∷ qs) = ((q.client ≡ c.id) × (q.version ≡ c.version)) × (q.request ≡ i) × AreCounted c (i + 1) qs
 
 abbrev pub requests : List Heard → List RequestFields
 requests ts = map (λ (t : Heard). t.request) ts
@@ -41,37 +41,40 @@ behind xs ys left = sym (ap (λ (qs : List RequestFields). qs ++ left) (requests
 
 -- ---- two with one number are one
 
-above : (id i : ℕ) (qs : List RequestFields) → AreCounted id i qs → (q : RequestFields) → In q qs → (q.client ≡ id) × (i ≤ q.request)
-above id i [] h q n = absurd n
-above id i (x ∷ qs) h q (inl same) =
+above : (c : Client) (i : ℕ) (qs : List RequestFields) → AreCounted c i qs → (q : RequestFields) → In q qs → ((q.client ≡ c.id) × (q.version ≡ c.version)) × (i ≤ q.request)
+above c i [] h q n = absurd n
+above c i (x ∷ qs) h q (inl same) =
     let number : q.request ≡ i = ap (λ (p : RequestFields). p.request) same ∙ h.1 in
-    (ap (λ (p : RequestFields). p.client) same ∙ h.0, omega (arith, number))
-above id i (x ∷ qs) h q (inr n) = let y = above id (i + 1) qs h.2 q n in let more = y.1 in (y.0, omega (arith, more))
+    ((ap (λ (p : RequestFields). p.client) same ∙ h.0.0, ap (λ (p : RequestFields). p.version) same ∙ h.0.1), omega (arith, number))
+above c i (x ∷ qs) h q (inr n) = let y = above c (i + 1) qs h.2 q n in let more = y.1 in (y.0, omega (arith, more))
 
-pub counted_client : (id i : ℕ) (qs : List RequestFields) → AreCounted id i qs → (q : RequestFields) → In q qs → q.client ≡ id
-counted_client id i qs h q n = (above id i qs h q n).0
+pub counted_client : (c : Client) (i : ℕ) (qs : List RequestFields) → AreCounted c i qs → (q : RequestFields) → In q qs → q.client ≡ c.id
+counted_client c i qs h q n = (above c i qs h q n).0.0
 
-pub counted_one : (id i : ℕ) (qs : List RequestFields) → AreCounted id i qs → (p q : RequestFields) → In p qs → In q qs → p.request ≡ q.request → p ≡ q
-counted_one id i [] h p q m n same = absurd m
-counted_one id i (x ∷ qs) h p q (inl a) (inl b) same = a ∙ sym b
-counted_one id i (x ∷ qs) h p q (inl a) (inr n) same =
-    let more = (above id (i + 1) qs h.2 q n).1 in
+pub counted_version : (c : Client) (i : ℕ) (qs : List RequestFields) → AreCounted c i qs → (q : RequestFields) → In q qs → q.version ≡ c.version
+counted_version c i qs h q n = (above c i qs h q n).0.1
+
+pub counted_one : (c : Client) (i : ℕ) (qs : List RequestFields) → AreCounted c i qs → (p q : RequestFields) → In p qs → In q qs → p.request ≡ q.request → p ≡ q
+counted_one c i [] h p q m n same = absurd m
+counted_one c i (x ∷ qs) h p q (inl a) (inl b) same = a ∙ sym b
+counted_one c i (x ∷ qs) h p q (inl a) (inr n) same =
+    let more = (above c (i + 1) qs h.2 q n).1 in
     let number : p.request ≡ i = ap (λ (r : RequestFields). r.request) a ∙ h.1 in
     absurd (omega (arith, more, number, same))
-counted_one id i (x ∷ qs) h p q (inr m) (inl b) same =
-    let more = (above id (i + 1) qs h.2 p m).1 in
+counted_one c i (x ∷ qs) h p q (inr m) (inl b) same =
+    let more = (above c (i + 1) qs h.2 p m).1 in
     let number : q.request ≡ i = ap (λ (r : RequestFields). r.request) b ∙ h.1 in
     absurd (omega (arith, more, number, same))
-counted_one id i (x ∷ qs) h p q (inr m) (inr n) same = counted_one id (i + 1) qs h.2 p q m n same
+counted_one c i (x ∷ qs) h p q (inr m) (inr n) same = counted_one c (i + 1) qs h.2 p q m n same
 
 -- ---- a client
 
 module _ (c : Client) where
   abbrev AreIts : ℕ → List RequestFields → Type 0
-  AreIts i qs = AreCounted c.id i qs
+  AreIts i qs = AreCounted c i qs
 
   one_is : (i : ℕ) (o : Operation) → AreIts i (request_of c i o ∷ [])
-  one_is i o = (refl, refl, tt)
+  one_is i o = ((refl, refl), refl, tt)
 
   counted_last : (i : ℕ) (o : Operation) (s s' : Stand) (b m : ask.Faults) (z : Status) (h : EndsWith c i o s s' b m z) → AreIts i (requests (heard_last c i o s s' b m z h) ++ left_last c i o s s' b m z h)
   counted_last i o s s' b m status.WriteFault h = one_is i o
@@ -94,7 +97,7 @@ module _ (c : Client) where
   counted_each : (i : ℕ) (r : Reading) (s : Stand) (ys : List Exchange) (r' : Reading) (s' : Stand) (h : AreExchanged c i r s ys r' s') (rest : List RequestFields) → AreIts (length ys + i) rest → AreIts i (requests (heard_each c i r s ys r' s' h) ++ rest)
   counted_each i r s [] r' s' h rest k = subst (λ (j : ℕ). AreIts j rest) (let none : List Exchange = [] in let same : length none + i ≡ i = omega arith in same) k
   counted_each i r s (y ∷ ys) r' s' h rest k = (
-    refl,
+    (refl, refl),
     refl,
     counted_each (i + 1) h.0 h.1 ys r' s' h.3 rest (subst (λ (j : ℕ). AreIts j rest) (let same : length (y ∷ ys) + i ≡ length ys + (i + 1) = omega arith in same) k),
   )
@@ -114,7 +117,7 @@ module _ (c : Client) where
 
   counted_run : (r : Reading) (s : Stand) (r' : Reading) (s' : Stand) (b m : ask.Faults) (z : Status) (h : EndsRun c r s r' s' b m z) → AreIts 0 (requests (heard_run c r s r' s' b m z h) ++ left_run c r s r' s' b m z h)
   counted_run r s r' s' b m z (inl h) = counted_last 0 Register s s' b m z h.1
-  counted_run r s r' s' b m z (inr h) = (refl, refl, counted_lines r h.1 r' s' b m z h.3)
+  counted_run r s r' s' b m z (inr h) = ((refl, refl), refl, counted_lines r h.1 r' s' b m z h.3)
 
   counted_client_run : (peers : List (List ℕ)) (o o' : client.Outside) (b m : ask.Faults) (z : Status) (h : ClientEnds c peers o o' b m z) → AreIts 0 (requests (heard_client c peers o o' b m z h) ++ left_client c peers o o' b m z h)
   counted_client_run peers o o' b m z (inl h) = tt
@@ -125,11 +128,11 @@ module _ (c : Client) where
 
 module _ (t : Trial) where
   abbrev AreTheirs : ℕ → List RequestFields → Type 0
-  AreTheirs i qs = AreCounted t.client.id i qs
+  AreTheirs i qs = AreCounted t.client i qs
 
   counted_steps : (i : ℕ) (ys : List Step) (p p' : Place) (h : DoesAll t ys p p') → AreNext i ys → AreTheirs i (requests (heard_steps t ys p p' h))
   counted_steps i [] p p' h next = tt
-  counted_steps i (Ask q ∷ ys) p p' h next = (refl, next.0.0, counted_steps (i + 1) ys h.0 p' h.2 next.1)
+  counted_steps i (Ask q ∷ ys) p p' h next = ((refl, refl), next.0.0, counted_steps (i + 1) ys h.0 p' h.2 next.1)
   counted_steps i (Start member ∷ ys) p p' h next = counted_steps i ys h.0 p' h.2 next.1
   counted_steps i (Restart member ∷ ys) p p' h next = counted_steps i ys h.0 p' h.2 next.1
   counted_steps i (Attach ∷ ys) p p' h next = counted_steps i ys h.0 p' h.2 next.1
@@ -143,7 +146,7 @@ module _ (t : Trial) where
   counted_till i (Restart member ∷ ys) p p' b m z (inl h) next = tt
   counted_till i (Attach ∷ ys) p p' b m z (inl h) next = tt
   counted_till i (Stop member ∷ ys) p p' b m z (inl h) next = tt
-  counted_till i (Ask q ∷ ys) p p' b m z (inr h) next = (refl, next.0.0, counted_till (i + 1) ys h.0 p' b m z h.2 next.1)
+  counted_till i (Ask q ∷ ys) p p' b m z (inr h) next = ((refl, refl), next.0.0, counted_till (i + 1) ys h.0 p' b m z h.2 next.1)
   counted_till i (Start member ∷ ys) p p' b m z (inr h) next = counted_till i ys h.0 p' b m z h.2 next.1
   counted_till i (Restart member ∷ ys) p p' b m z (inr h) next = counted_till i ys h.0 p' b m z h.2 next.1
   counted_till i (Attach ∷ ys) p p' b m z (inr h) next = counted_till i ys h.0 p' b m z h.2 next.1
@@ -158,6 +161,6 @@ module _ (t : Trial) where
   counted_trial o o' b m z (inr h) = counted_by 0 (script t.client.n) (begins t o) o' b m z h (script_next t.client.n)
 
 -- of a program
-pub program_counted : (p : Program) → AreCounted (client_of p).id 0 (requests (hears_of p) ++ leaves_of p)
+pub program_counted : (p : Program) → AreCounted (client_of p) 0 (requests (hears_of p) ++ leaves_of p)
 program_counted (ClientRuns c peers o o' b m z h) = counted_client_run c peers o o' b m z h
 program_counted (TrialRuns t o o' b m z h) = counted_trial t o o' b m z h

@@ -1,10 +1,11 @@
--- Whole runs of the programs that ask, among what befalls members: what they hear is of the log, and in its order.
-use Rattle.std.proofs.Common.{ℕ, ◌^◌, ◌≤◌, ◌<◌, ◌≡◌, ◌∙◌, inl, inr, refl, sym, ap, subst, Bool, true, false, cond, eqb, List, [], ◌∷◌, ◌++◌, map, Option, Some, None}
+-- Runs of the programs that ask, to their end or cut, among what befalls members: what they hear is of the log, and in its order.
+use Rattle.std.proofs.Common.{ℕ, ◌^◌, ◌≤◌, ◌<◌, ◌≡◌, ◌∙◌, inl, inr, refl, sym, ap, subst, Bool, true, false, cond, eqb, List, [], ◌∷◌, ◌++◌, length, map, Option, Some, None}
 use Rattle.std.specs.Prelude.{Contains, slice_get}
 use Rattle.std.specs.List.{AllByRecursion}
 use Rattle.std.specs.Option.{option_map_or}
 use Rattle.std.proofs.lemmas.Bool.{cases_eq, eq-eqb, ne_eqb}
-use Rattle.std.proofs.lemmas.List.{append_assoc}
+use Rattle.std.proofs.lemmas.List.{append_assoc, length-map}
+use Rattle.vr_base.specs.Versions.{session_limit}
 use Rattle.vr_base.specs.declared.kind.Kind.{Kind}
 use Rattle.vr_client.specs.declared.answer.Answer.TheVariants as answer
 use Rattle.vr_header.specs.Names.{header_name}
@@ -16,7 +17,7 @@ use Rattle.vr_world.specs.Lying.{Lying}
 use Rattle.vr_rules.specs.Opening.{AreKinds}
 use Rattle.vr_world.specs.World.{Host}
 use Rattle.law_1_machine.specs.Basics.{In}
-use Rattle.law_3_outputs.proofs.Sets.{in_left, in_right}
+use Rattle.law_3_outputs.proofs.Sets.{get_in, in_left, in_right}
 use Rattle.law_2_chains.proofs.StoredLists.{contains_in, in_contains}
 use Rattle.law_7_members.specs.Files.{ActBy, puts_out}
 use Rattle.law_7_members.specs.Whole.{KeepOneLog, all_said, world_of}
@@ -28,11 +29,13 @@ use Rattle.law_9_answers.proofs.Asking.{IsAsk, ask_client, asks_trial}
 use Rattle.law_9_answers.proofs.Coming.{ComesFrom, comes_from}
 use Rattle.law_9_answers.proofs.Hearing.{IsGiven}
 use Rattle.law_9_asked.specs.Asked.{header_of}
-use Rattle.law_9_answers.specs.History.{Asks, Befalls, Hears, IsAlone, IsCarried, IsPutOut, Moment, acts_in}
-use Rattle.law_9_answers.specs.OrderLaws.{ProgramsAreLinearizable}
-use Rattle.law_9_answers.specs.Programs.{AreInterleaved, ClientRuns, HaveNames, IsAloneAmong, IsBrought, Program, TrialRuns, asked_in, client_of, hears_of, leaves_of, moments, moments_at, own}
+use Rattle.law_9_answers.specs.History.{AskFew, Asks, Befalls, HasAsked, HaveOwnNumbers, Hears, IsAlone, IsCarried, IsPutOut, Moment, acts_in}
+use Rattle.law_9_answers.specs.OrderLaws.{FewProgramsAreLinearizable, ProgramsAreLinearizable}
+use Rattle.law_9_answers.specs.Programs.{AreFew, AreInterleaved, ClientRuns, HaveNames, HearInOrder, IsAloneAmong, IsBrought, Program, TrialRuns, asked_in, client_of, hears_of, leaves_of, moments, moments_at, own}
 use Rattle.law_9_answers.proofs.Acting.{runs_keep_order}
-use Rattle.law_9_answers.proofs.Counting.{counted_client, counted_one, program_counted, requests}
+use Rattle.law_9_answers.proofs.Counting.{counted_client, counted_one, counted_version, program_counted, requests}
+use Rattle.law_9_answers.specs.Order.{AsksComeFirst}
+use Rattle.law_9_answers.proofs.Few.{few_keep, front_linearizes}
 use Rattle.law_9_answers.proofs.Timing.{acts_both, are_ordered, linearizes, stands}
 
 -- ---- the moments of one client
@@ -103,11 +106,32 @@ moment_hears i (u ∷ ts) left t (inl e) = absurd cc
 moment_hears i (u ∷ ts) left t (inr (inl e)) = inl (let same : t ≡ u = cc in same)
 moment_hears i (u ∷ ts) left t (inr (inr n)) = inr (moment_hears i ts left t n)
 
--- it asked what it heard an answer to
-heard_asks : (i : ℕ) (ts : List Heard) (left : List RequestFields) (t : Heard) → In t ts → In (Asks i t.request) (moments i ts left)
-heard_asks i [] left t n = absurd n
-heard_asks i (u ∷ ts) left t (inl e) = inl (ap (λ (s : Heard). Asks i s.request) e)
-heard_asks i (u ∷ ts) left t (inr n) = inr (inr (heard_asks i ts left t n))
+head_is : (x y : Moment) (xs ys : List Moment) → x ∷ xs ≡ y ∷ ys → x ≡ y
+head_is x y xs ys e = cc
+
+tail_is : (x y : Moment) (xs ys : List Moment) → x ∷ xs ≡ y ∷ ys → xs ≡ ys
+tail_is x y xs ys e = cc
+
+-- it asked what it heard an answer to, in whatever front of its moments it heard that
+front_asks : (i : ℕ) (ms rest : List Moment) (ts : List Heard) (left : List RequestFields) → ms ++ rest ≡ moments i ts left → (t : Heard) → In (Hears i t) ms → In (Asks i t.request) ms
+front_asks i [] rest ts left is t n = absurd n
+front_asks i (m ∷ ms) rest [] left is t n = absurd (left_hears i left t (subst (λ (g : List Moment). In (Hears i t) g) is (in_left (m ∷ ms) rest (Hears i t) n)))
+front_asks i (m ∷ []) rest (u ∷ ts) left is t n =
+    let first : m ≡ Asks i u.request = head_is m (Asks i u.request) rest (Hears i u ∷ moments i ts left) is in
+    elim n [ inl e ↦ absurd (let no : Hears i t ≡ Asks i u.request = e ∙ first in cc) | inr k ↦ absurd k ]
+front_asks i (m ∷ g ∷ gs) rest (u ∷ ts) left is t n =
+    let first : m ≡ Asks i u.request = head_is m (Asks i u.request) (g ∷ gs ++ rest) (Hears i u ∷ moments i ts left) is in
+    let later : g ∷ gs ++ rest ≡ Hears i u ∷ moments i ts left = tail_is m (Asks i u.request) (g ∷ gs ++ rest) (Hears i u ∷ moments i ts left) is in
+    elim n [
+      | inl e ↦ absurd (let no : Hears i t ≡ Asks i u.request = e ∙ first in cc)
+      | inr j ↦ elim j [
+        | inl e ↦
+            let both : Hears i t ≡ Hears i u = e ∙ head_is g (Hears i u) (gs ++ rest) (moments i ts left) later in
+            let same : t ≡ u = cc in
+            inl (ap (λ (s : Heard). Asks i s.request) same ∙ sym first)
+        | inr k ↦ inr (inr (front_asks i gs rest ts left (tail_is g (Hears i u) (gs ++ rest) (moments i ts left) later) t k))
+      ]
+    ]
 
 heard_request : (ts : List Heard) (left : List RequestFields) (t : Heard) → In t ts → In t.request (requests ts ++ left)
 heard_request [] left t n = absurd n
@@ -136,6 +160,16 @@ of_program ps i m n =
     ] in
     by (slice_get ps i) refl n
 
+-- ---- their client numbers
+
+abbrev number_of : Program → ℕ
+number_of p = (client_of p).id
+
+in_map : (ps : List Program) (p : Program) → In p ps → In (number_of p) (map number_of ps)
+in_map [] p n = n
+in_map (q ∷ ps) p (inl e) = inl (ap number_of e)
+in_map (q ∷ ps) p (inr n) = inr (in_map ps p n)
+
 -- ---- a history
 
 pub said_both : (xs ys : List ActBy) → all_said (xs ++ ys) ≡ all_said xs ++ all_said ys
@@ -151,9 +185,15 @@ module _ (ps : List Program) (h : List Moment) (runs : AreInterleaved ps h) wher
     ask : IsAsk (client_of program) t
     asked : In t.request (asked_in h)
 
+  -- what is of a client is of its whole program
+  of_front : (i : ℕ) (m : Moment) → In m (own i h) → In m (moments_at ps i)
+  of_front i m n = let f = runs.each i in subst (λ (g : List Moment). In m g) f.is (in_left (own i h) f.rest m n)
+
   told : (i : ℕ) (t : Heard) → Contains h (Hears i t) → IsTold i t
   told i t c =
-      let p = of_program ps i (Hears i t) (subst (λ (g : List Moment). In (Hears i t) g) (runs.each i) (hears_own i h t (contains_in (Hears i t) h c))) in
+      let mine : In (Hears i t) (own i h) = hears_own i h t (contains_in (Hears i t) h c) in
+      let f = runs.each i in
+      let p = of_program ps i (Hears i t) (of_front i (Hears i t) mine) in
       let among = moment_hears i (hears_of p.program) (leaves_of p.program) t p.among in
       let there : moments_at ps i ≡ moments i (hears_of p.program) (leaves_of p.program) = ap (λ o. option_map_or (λ p. moments i (hears_of p) (leaves_of p)) o []) p.at in
       record {
@@ -161,7 +201,7 @@ module _ (ps : List Program) (h : List Moment) (runs : AreInterleaved ps h) wher
         at = p.at;
         among = among;
         ask = all_in (IsAsk (client_of p.program)) (hears_of p.program) t (program_asks p.program (runs.numbered i p.program p.at)) among;
-        asked = own_asks i h t.request (subst (λ (g : List Moment). In (Asks i t.request) g) (sym (runs.each i ∙ there)) (heard_asks i (hears_of p.program) (leaves_of p.program) t among));
+        asked = own_asks i h t.request (front_asks i (own i h) f.rest (hears_of p.program) (leaves_of p.program) (f.is ∙ there) t mine);
       }
 
   -- one whose client number no other has alone asks under it
@@ -169,15 +209,44 @@ module _ (ps : List Program) (h : List Moment) (runs : AreInterleaved ps h) wher
   alone i single t c p asked client number =
       let x = told i t c in
       let j : ℕ = asked.by in
-      let y = of_program ps j (Asks j p) (subst (λ (g : List Moment). In (Asks j p) g) (runs.each j) (asks_own j h p (contains_in (Asks j p) h asked.moment))) in
+      let y = of_program ps j (Asks j p) (of_front j (Asks j p) (asks_own j h p (contains_in (Asks j p) h asked.moment))) in
       let q = y.program in
       let among = moment_asks j (hears_of q) (leaves_of q) p y.among in
-      let id : p.client ≡ (client_of q).id = counted_client (client_of q).id 0 (requests (hears_of q) ++ leaves_of q) (program_counted q) p among in
+      let id : p.client ≡ (client_of q).id = counted_client (client_of q) 0 (requests (hears_of q) ++ leaves_of q) (program_counted q) p among in
       let here : j ≡ i = single j x.program q x.at y.at (sym id ∙ (client ∙ x.ask.id)) in
       let both : Some q ≡ Some x.program = sym y.at ∙ (ap (λ (k : ℕ). slice_get ps k) here ∙ x.at) in
       let same : q ≡ x.program = cc in
       let its : In p (requests (hears_of x.program) ++ leaves_of x.program) = subst (λ (z : Program). In p (requests (hears_of z) ++ leaves_of z)) same among in
-      counted_one (client_of x.program).id 0 (requests (hears_of x.program) ++ leaves_of x.program) (program_counted x.program) p t.request its (heard_request (hears_of x.program) (leaves_of x.program) t x.among) number
+      counted_one (client_of x.program) 0 (requests (hears_of x.program) ++ leaves_of x.program) (program_counted x.program) p t.request its (heard_request (hears_of x.program) (leaves_of x.program) t x.among) number
+
+  own_numbers : ((i : ℕ) → IsAloneAmong ps i) → HaveOwnNumbers h
+  own_numbers single q a x = subst (λ (p : RequestFields). IsAlone h p) x.request (alone x.by (single x.by) x.heard x.moment)
+
+  -- a request that was asked is of one of these programs' clients, in its version
+  record IsOfProgram (q : RequestFields) : Type 0 where
+    place : ℕ
+    program : Program
+    at : slice_get ps place ≡ Some program
+    client : q.client ≡ (client_of program).id
+    version : q.version ≡ (client_of program).version
+
+  asked_by_program : (q : RequestFields) → HasAsked h q → IsOfProgram q
+  asked_by_program q asked =
+      let i : ℕ = asked.by in
+      let x = of_program ps i (Asks i q) (of_front i (Asks i q) (asks_own i h q (contains_in (Asks i q) h asked.moment))) in
+      let p = x.program in
+      let all : List RequestFields = requests (hears_of p) ++ leaves_of p in
+      let among = moment_asks i (hears_of p) (leaves_of p) q x.among in
+      record { place = i; program = p; at = x.at; client = counted_client (client_of p) 0 all (program_counted p) q among; version = counted_version (client_of p) 0 all (program_counted p) q among }
+
+  -- few programs ask under few numbers
+  pub few_ask : AreFew ps → AskFew h
+  few_ask few = record {
+    clients = map number_of ps;
+    theirs = λ q a. let x = asked_by_program q a in subst (λ (c : ℕ). Contains (map number_of ps) c) (sym x.client) (in_contains (number_of x.program) (map number_of ps) (in_map ps x.program (get_in ps x.place x.program x.at)));
+    few = λ q a. let x = asked_by_program q a in
+        subst (λ (v : ℕ). length (map number_of ps) ≤ session_limit v) (sym x.version) (subst (λ (k : ℕ). k ≤ session_limit (client_of x.program).version) (sym (length-map ps number_of)) (few x.place x.program x.at));
+  }
 
   -- ---- with members that keep one log
 
@@ -219,17 +288,27 @@ module _ (ps : List Program) (h : List Moment) (runs : AreInterleaved ps h) wher
         let later : IsGiven (acts_in h) (header_name (header_of t.request)) t.answer = record { fields = g.fields; put_out = said_later s.before s.after (Hears i t) s.is (output.Reply g.fields) g.put_out; name_is = g.name_is; kind = g.kind } in
         is_of_log kinds cluster n first (acts_in h) are number few many one (asked_in h) names t x.ask.asked x.ask.range x.asked later
 
+    pub hear_in_order : AsksComeFirst one.log.safe.log (acts_in h) → HearInOrder kinds cluster n first ps h one
+    hear_in_order order =
+        let log = one.log.safe.log in
+        let ordered = are_ordered log h carried order in
+        record {
+          ordered = ordered;
+          answers = of_log;
+          own = λ i single t a there outcome. ordered.own t.request a (record { by = i; heard = t; moment = there; request = refl; outcome = outcome }) (alone i single t there);
+          linearizable = λ single. linearizes log h carried order one.log.once (own_numbers single);
+        }
+
 pub programs_linearize : ProgramsAreLinearizable
 programs_linearize kinds cluster n first ps h are number few many short r never runs brought names =
     let k = runs_keep_order kinds cluster n first (acts_in h) are number few many short r never in
-    let log = k.one.log.safe.log in
-    let c = carried ps h runs kinds cluster n first are number few many brought names k.one in
-    let ordered = are_ordered log h c k.order in (
-      k.one,
-      record {
-        ordered = ordered;
-        answers = of_log ps h runs kinds cluster n first are number few many brought names k.one;
-        own = λ i single t a there outcome. ordered.own t.request a (record { by = i; heard = t; moment = there; request = refl; outcome = outcome }) (alone ps h runs i single t there);
-        linearizable = λ single. linearizes log h c k.order k.one.log.once (λ q a x. subst (λ (p : RequestFields). IsAlone h p) x.request (alone ps h runs x.by (single x.by) x.heard x.moment));
-      },
-    )
+    (k.one, hear_in_order ps h runs kinds cluster n first are number few many brought names k.one k.order)
+
+-- ---- few of them
+
+pub few_programs_linearize : FewProgramsAreLinearizable
+few_programs_linearize kinds cluster n first ps h are number some many short r never runs brought names single few =
+    let k = runs_keep_order kinds cluster n first (acts_in h) are number some many short r never in
+    let hear = hear_in_order ps h runs kinds cluster n first are number some many brought names k.one k.order in
+    let kept = few_keep k.one.log.safe.log h hear.ordered (few_ask ps h runs few) in
+    (k.one, kept, hear, front_linearizes k.one.log.safe.log h kept.upto kept.all hear.ordered k.one.log.once (own_numbers ps h runs single) kept.single)

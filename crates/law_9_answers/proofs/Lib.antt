@@ -9,6 +9,9 @@ pub mod Acting
 pub mod Sessions
 pub mod Timing
 pub mod Counting
+pub mod Few
+pub mod Outcomes
+mod Lasting
 pub mod Interleaving
 pub mod OrderInstance
 mod Started

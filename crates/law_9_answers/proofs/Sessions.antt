@@ -115,7 +115,7 @@ begun_since client (e ∷ entries) s h =
     ]
 
 -- more entries begin no fewer
-more_begin : (client : ℕ) (s : State) (xs ys : List Whole) → begins_session client s xs ≡ true → begins_session client s (xs ++ ys) ≡ true
+pub more_begin : (client : ℕ) (s : State) (xs ys : List Whole) → begins_session client s xs ≡ true → begins_session client s (xs ++ ys) ≡ true
 unfolding begins_session begins
 more_begin client s [] ys h = absurd (true≢false (sym h))
 more_begin client s (x ∷ xs) ys h =

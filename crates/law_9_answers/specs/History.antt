@@ -1,13 +1,18 @@
 -- What clients ask and hear, and what befalls members meanwhile, in the order of time; and when the log has that order.
-use Rattle.std.specs.Prelude.{ℕ, ◌-◌, ◌<◌, ◌≤◌, ◌≡◌, IsTrue, List, [], ◌∷◌, ◌++◌, Contains, Some, slice_get}
+use Rattle.std.specs.Prelude.{ℕ, ◌-◌, ◌<◌, ◌≤◌, ◌≡◌, IsTrue, List, [], ◌∷◌, ◌++◌, Contains, Some, is_some, length, slice_get, take}
+use Rattle.std.specs.FinMap.Entries.{find}
+use Rattle.std.specs.Ordering.{nat_cmp}
+use Rattle.vr_base.specs.Versions.{session_limit}
 use Rattle.vr_state.specs.Folds.{begins_session, empty, state_after}
 use Rattle.vr_client.specs.declared.answer.Answer.TheVariants as answer
 use Rattle.vr_header.specs.Made.{Whole}
+use Rattle.vr_msg.specs.declared.output.Output.{Output}
 use Rattle.vr_msg.specs.declared.output.Output.TheVariants as output
 use Rattle.vr_msg.specs.declared.reply.Answered.{Answered}
 use Rattle.vr_msg.specs.declared.reply.ReplyFields.{ReplyFields}
 use Rattle.vr_msg.specs.declared.reply.ReplyKind.TheVariants as reply
 use Rattle.vr_msg.specs.declared.request.RequestFields.{RequestFields}
+use Rattle.vr_world.specs.Safe.{KeepsEntry}
 use Rattle.law_7_members.specs.Files.{ActBy}
 use Rattle.law_7_members.specs.Whole.{all_said}
 use Rattle.law_9_answers.specs.Heard.{Heard}
@@ -88,11 +93,31 @@ pub record IsOrdered (log : List Whole) (h : List Moment) : Type 0 where
   pub asked : (before after : List Moment) → h ≡ before ++ after → (q : RequestFields) (a : Answered) → HasHeard before q a → (op : ℕ) → 0 < op → op ≤ a.op → IsOfAsked log before op
   pub real_time : (before after : List Moment) → h ≡ before ++ after → (q p : RequestFields) (a b : Answered) → HasHeard before q a → IsNew before p → IsExecuted log p b → a.op < b.op
 
+-- ---- what was heard lasts
+
+-- An outcome was put out in a reply to this client and number. In every later view than the reply's the entry of its op keeps its number, in all that
+-- members put out. And each outcome that is heard of what nobody had asked when this one was heard is of entries of the log that have that entry.
+pub record Lasts (log : List Whole) (h : List Moment) (q : RequestFields) (a : Answered) : Type 0 where
+  pub put_out : IsPutOut h q a
+  pub executed : IsExecuted log q a
+  pub kept : (o : Output) → Contains (all_said (acts_in h)) o → KeepsEntry put_out.given.view executed.entry.header o
+  pub later : (before after : List Moment) → h ≡ before ++ after → HasHeard before q a → (p : RequestFields) (b : Answered) → IsNew before p → HasHeard h p b → slice_get (take (b.op - 1) log) (a.op - 1) ≡ Some executed.entry
+
 -- ---- linearizable
 
 -- no client's number begins a second session in the log
 abbrev pub HasOneSessionEach : List Whole → Type 0
 HasOneSessionEach log = (client : ℕ) (before later : List Whole) → log ≡ before ++ later → IsTrue (begins_session client empty before) → IsTrue (begins_session client (state_after before) later) → ⊥
+
+-- no client's session is ever given up: once it has begun, it is there after each longer front of the log
+abbrev pub KeepsSessions : List Whole → Type 0
+KeepsSessions log = (client : ℕ) (before later : List Whole) → log ≡ before ++ later → IsTrue (begins_session client empty before) → IsTrue (is_some (find nat_cmp client (state_after before).sessions))
+
+-- all that was ever asked was asked under so few client numbers that there is a session for each: 32 at most, or 64 if all asked in version 2
+pub record AskFew (h : List Moment) : Type 0 where
+  pub clients : List ℕ
+  pub theirs : (q : RequestFields) → HasAsked h q → Contains clients q.client
+  pub few : (q : RequestFields) → HasAsked h q → length clients ≤ session_limit q.version
 
 -- whoever heard an outcome asked under a client's number and a request's that nobody else asked anything else under
 abbrev pub HaveOwnNumbers : List Moment → Type 0

@@ -1,12 +1,13 @@
--- Whole runs of the programs that ask, `client` and `trial`, among what befalls members, in the order of time.
+-- Runs of the programs that ask, `client` and `trial`, to their end or cut, among what befalls members, in the order of time.
 use Rattle.std.proofs.Common.{inl, inr}
-use Rattle.std.specs.Prelude.{ℕ, ◌+◌, ◌≡◌, ◌==◌, ◌⊎◌, List, [], ◌∷◌, ◌++◌, Contains, length, map, slice_get, Some, if◌then◌else◌}
+use Rattle.std.specs.Prelude.{ℕ, ◌+◌, ◌≤◌, ◌≡◌, ◌==◌, ◌⊎◌, List, [], ◌∷◌, ◌++◌, Contains, length, map, slice_get, Some, if◌then◌else◌}
 use Rattle.std.specs.List.{AllByRecursion}
 use Rattle.std.specs.Option.{option_map_or}
 use Rattle.cmd_client.specs.Asking as ask
 use Rattle.cmd_client.specs.Asking.{Client, EndsWith, Stand, request_of}
 use Rattle.cmd_client.specs.Run as client
 use Rattle.cmd_client.specs.Run.{ClientEnds, EndsAt, EndsLines, EndsRun, Reading, StopsAt, reading_of, standing}
+use Rattle.vr_base.specs.Versions.{session_limit}
 use Rattle.vr_base.specs.declared.kind.Kind.{Kind}
 use Rattle.vr_client.specs.declared.answer.Answer.TheVariants as answer
 use Rattle.vr_header.specs.NoCollision.{NoCollision}
@@ -120,9 +121,14 @@ asked_in (Asks by q ∷ h) = q ∷ asked_in h
 asked_in (Hears by t ∷ h) = asked_in h
 asked_in (Befalls x ∷ h) = asked_in h
 
--- each client of the history is one of these programs, from its start to its end
+-- these are the first moments of those, or all of them
+pub record IsFront (ms all : List Moment) : Type 0 where
+  pub rest : List Moment
+  pub is : ms ++ rest ≡ all
+
+-- Each client of the history is one of these programs, from its start on: to its end, or to where it was cut, so that nothing more of it happens.
 pub record AreInterleaved (ps : List Program) (h : List Moment) : Type 0 where
-  pub each : (i : ℕ) → own i h ≡ moments_at ps i
+  pub each : (i : ℕ) → IsFront (own i h) (moments_at ps i)
   pub numbered : (i : ℕ) (p : Program) → slice_get ps i ≡ Some p → IsNumbered (client_of p)
 
 -- Of the network: it brings no request to a member that nobody asked, and no reply to a client that no member put out. Whatever isn't a reply may
@@ -138,6 +144,10 @@ HaveNames h = NoCollision (IsNamed (acts_in h) (asked_in h))
 -- no other of these programs has its client's number
 abbrev pub IsAloneAmong : List Program → ℕ → Type 0
 IsAloneAmong ps i = (j : ℕ) (p q : Program) → slice_get ps i ≡ Some p → slice_get ps j ≡ Some q → (client_of q).id ≡ (client_of p).id → j ≡ i
+
+-- there is a session for each of these programs: 32 at most, or 64 if all ask in version 2
+abbrev pub AreFew : List Program → Type 0
+AreFew ps = (i : ℕ) (p : Program) → slice_get ps i ≡ Some p → length ps ≤ session_limit (client_of p).version
 
 -- ---- what they hear is the log's, and in its order
 

@@ -1,7 +1,7 @@
 //! The order of the log is the order of time: what clients of a running group hear is linearizable. Each function is a law: its contract is the
 //! statement, and it does nothing.
 
-ghost use Rattle.law_9_answers.specs.OrderLaws.{HistoriesAreLinearizable, ProgramsAreLinearizable, RunsKeepOrder, SomeHistoryMay};
+ghost use Rattle.law_9_answers.specs.OrderLaws.{FewClientsAreLinearizable, FewProgramsAreLinearizable, HeardOutcomesLast, HistoriesAreLinearizable, ProgramsAreLinearizable, RunsKeepOrder, SomeHistoryMay};
 ghost use Rattle.law_9_answers.specs.Started.{TrialsStartMembers};
 
 /// Whole runs of the programs of a group's members, interleaved anyhow, keep one log; what clients hear is of it; and what each reply rests on of it
@@ -19,11 +19,30 @@ pub fn histories_are_linearizable()
     ensures { HistoriesAreLinearizable }
 {}
 
-/// Whole runs of `client` and of `trial`, among those of the members, have the order of the log too: over a network that brings no request that
-/// nobody asked and no reply that no member put out. Where a program's client number is its own, each outcome that it hears is of the operation that it asked; where each one's
+/// Runs of `client` and of `trial`, to their end or cut, among those of the members, have the order of the log too: over a network that brings no
+/// request that nobody asked and no reply that no member put out. Where a program's client number is its own, each outcome that it hears is of the operation that it asked; where each one's
 /// is, and none begins a second session, it is linearizable.
 pub fn programs_are_linearizable()
     ensures { ProgramsAreLinearizable }
+{}
+
+/// What a client heard as executed lasts: in every later view than that of the reply its entry keeps its number, and each outcome that is heard of
+/// what was first asked later is what the machine makes after entries of the log that have it.
+pub fn heard_outcomes_last()
+    ensures { HeardOutcomesLast }
+{}
+
+/// Where no more client numbers ever ask than there are sessions (32, or 64 if all ask in version 2), no session is given up in the log up to the last
+/// outcome that is heard, and no number begins a second one, whatever registers come again. So where each client has a number of its own, what they
+/// ask and hear is linearizable.
+pub fn few_clients_are_linearizable()
+    ensures { FewClientsAreLinearizable }
+{}
+
+/// So it is with runs of `client` and of `trial`, to their end or cut, each under a number of its own: while there are no more of them than there are
+/// sessions, what they ask and hear is linearizable.
+pub fn few_programs_are_linearizable()
+    ensures { FewProgramsAreLinearizable }
 {}
 
 /// What is asked of the network is so where two clients ask, the one of a member that is ended in the midst of it, the other of one that replies after
