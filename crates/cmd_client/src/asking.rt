@@ -77,7 +77,11 @@ pub fn exchange<K: Sink, L: Link>(
     ensures { Exchanged K.Sink L.Link operation.now turns core.old core.new link.old link.new sink.old sink.new result }
 {
     match core.ask(link, operation, turns) {
-        Ok(answer) => put_answer(alloc, sink, &answer),
+        Ok(answer) => {
+            let put = put_answer(alloc, sink, &answer);
+            drop(answer);
+            put
+        }
         Err(fault) => Err(status_of(fault)),
     }
 }

@@ -19,6 +19,9 @@ const LIMIT: u32 = 1_000_000;
 /// The most bytes of a line in front of a value: `put KEY ` with a key of 64 bytes.
 const PUT_KEY: usize = 69;
 
+// The longest line of the contracts is said by it.
+const _: () = prove!(PUT_KEY == 69);
+
 /// The most bytes of a line of this version, without its end: 69, and those of the longest value. It is at most that of version 2.
 fn line_limit(version: Version) -> usize
     ensures value { result ≡ longest version }
@@ -81,7 +84,11 @@ fn take_line<S: Source, K: Sink, L: Link>(
     ensures { TakesLine S.Source K.Sink L.Link number turns core.old core.new lines.old lines.new source.old source.new link.old link.new sink.old sink.new result }
 {
     match next_operation(alloc, lines, source, number, core.version()) {
-        Ok(operation) => exchange(alloc, core, link, sink, &operation, turns),
+        Ok(operation) => {
+            let asked = exchange(alloc, core, link, sink, &operation, turns);
+            drop(operation);
+            asked
+        }
         Err(status) => Err(status),
     }
 }

@@ -37,8 +37,3 @@ pub record Keeps {T E : Type 0} (r r' : Replica) (result : Result T E) : Type 0 
 pub record Spends (saves : ℕ) (r r' : Replica) (result : Result (Unit {0}) Halt) : Type 0 where
   pub view : OnOk result (r'.view ≡ r.view)
   pub spent : OnOk result (r'.saved.fields.sequence ≤ r.saved.fields.sequence + saves)
-
--- The disk was at most read: what it tells is as it was, and no write or sync of it failed.
-pub record Untouched {D : Type 0} (d : of_disk.Ghosts D) (disk disk' : D) : Type 0 where
-  pub told : d.told disk' ≡ d.told disk
-  pub faults : d.faults disk' ≡ d.faults disk

@@ -186,7 +186,7 @@ fn apply_next<D: SectorDisk>(
 /// each: commit line, reply where the replica leads, state; at a multiple of 32 also the checkpoint, written and saved before the next op.
 /// One that is `Here` and doesn't read becomes `Lost`, and ends it. After an `Err` the disk has had its calls up to the stop; of replica
 /// and outputs nothing is said.
-#[tactic(auto, using(vr_rules::proofs::Stepping::loops, vr_volatile::proofs::Memory::few_to_apply), unfolding(vr_rules::specs::Words::apply))]
+#[tactic(auto, using(vr_rules::proofs::Stepping::looping_begins, vr_volatile::proofs::Memory::few_to_apply))]
 pub fn apply<D: SectorDisk>(
     replica: &mut Replica,
     alloc: Global,

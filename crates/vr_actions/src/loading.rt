@@ -4,7 +4,8 @@ ghost use Rattle.vr_rules.specs.Replica.{version};
 ghost use Rattle.vr_rules.specs.Words.{load, checkpoint_at};
 ghost use Rattle.vr_rules.specs.Does.{Finds};
 ghost use Rattle.vr_volatile.specs.Ready.{MayLoad};
-ghost use Rattle.vr_actions.specs.Acts.{Acts, Keeps, Untouched};
+ghost use Rattle.vr_actions.specs.Acts.{Acts, Keeps};
+ghost use Rattle.vr_disk.specs.Untouched.{Untouched};
 
 use std::alloc::Global;
 use vr_base::NoMemory;

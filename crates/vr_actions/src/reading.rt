@@ -6,7 +6,8 @@ ghost use Rattle.vr_volatile.specs.Ready.{IsReady};
 ghost use Rattle.vr_rules.specs.Replica.{part_at, version};
 ghost use Rattle.vr_rules.specs.Words.{entry_of};
 ghost use Rattle.vr_rules.specs.Does.{Finds};
-ghost use Rattle.vr_actions.specs.Acts.{Keeps, Untouched};
+ghost use Rattle.vr_actions.specs.Acts.{Keeps};
+ghost use Rattle.vr_disk.specs.Untouched.{Untouched};
 
 use std::alloc::Global;
 use vr_base::NoMemory;

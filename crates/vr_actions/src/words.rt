@@ -104,7 +104,7 @@ pub fn accept<D: SectorDisk>(
 // In this order: this is the view, with acknowledgements and statements dropped, only itself heard, and idle 0; the replica saves; a
 // start_view_change goes to each other replica, ascending. Its log view and its log stay. After an `Err` the disk has had its calls up to
 // the stop; of replica and outputs nothing is said.
-#[tactic(auto, using(vr_rules::proofs::Stepping::steps, vr_rules::proofs::Versions::entered_stays, vr_volatile::proofs::Memory::readies, vr_volatile::proofs::Memory::window_of))]
+#[tactic(auto, using(vr_volatile::proofs::Memory::readies, vr_volatile::proofs::Memory::window_of))]
 fn enter_now<D: SectorDisk>(
     replica: &mut Replica,
     alloc: Global,

@@ -7,6 +7,7 @@ ghost use Rattle.vr_header.specs.Names.{header_name};
 ghost use Rattle.vr_header.specs.Same.{same_header};
 ghost use Rattle.vr_header.specs.Spelling.{decoded};
 ghost use Rattle.vr_ckpt.specs.Blocks.{block_header, is_block, is_kind, named};
+ghost use Rattle.vr_disk.specs.Untouched.{Untouched};
 
 use crate::block::header_over;
 use crate::{BLOCK_SIZE, Name, PAYLOAD_AT};
@@ -25,8 +26,7 @@ fn is_kind(kind: u8) -> bool
 fn is_over<D: SectorDisk>(disk: &mut D, h: &Header, payload: &[u8]) -> bool
     requires { length payload.now ≤ 3968 }
     ensures value { result ≡ same_header h.now (block_header (record { cluster = h.now.cluster; address = h.now.aux; op = h.now.op; kind = h.now.kind; payload = payload.now })) }
-    ensures told { D.told disk.new ≡ D.told disk.old }
-    ensures faults { D.faults disk.new ≡ D.faults disk.old }
+    ensures untouched { Untouched D.SectorDisk disk.old disk.new }
     ensures reads { D.read_faults disk.new ≡ D.read_faults disk.old }
 {
     let body = disk.name_of(Room::Payload(h.aux), payload);
@@ -38,8 +38,7 @@ fn is_over<D: SectorDisk>(disk: &mut D, h: &Header, payload: &[u8]) -> bool
 fn is_block<D: SectorDisk>(disk: &mut D, h: &Header, bytes: &[u8]) -> bool
     requires { length bytes.now ≡ 4096 }
     ensures value { result ≡ is_block h.now bytes.now }
-    ensures told { D.told disk.new ≡ D.told disk.old }
-    ensures faults { D.faults disk.new ≡ D.faults disk.old }
+    ensures untouched { Untouched D.SectorDisk disk.old disk.new }
     ensures reads { D.read_faults disk.new ≡ D.read_faults disk.old }
 {
     let size = h.size.get();
@@ -73,8 +72,7 @@ fn payload_behind<D: SectorDisk>(
     requires size { length bytes.now ≡ 4096 }
     requires read { decoded bytes.now ≡ Ok h }
     ensures value { result ≡ option_map (λ c. length c.payload) (named name.now bytes.now) }
-    ensures told { D.told disk.new ≡ D.told disk.old }
-    ensures faults { D.faults disk.new ≡ D.faults disk.old }
+    ensures untouched { Untouched D.SectorDisk disk.old disk.new }
     ensures reads { D.read_faults disk.new ≡ D.read_faults disk.old }
 {
     if is_block(disk, &h, bytes) && has_name(&h, bytes, name) {
@@ -89,8 +87,7 @@ fn payload_behind<D: SectorDisk>(
 pub fn payload_of<D: SectorDisk>(disk: &mut D, bytes: &[u8], name: &Name) -> Option<usize>
     requires { length bytes.now ≡ 4096 }
     ensures value { result ≡ option_map (λ c. length c.payload) (named name.now bytes.now) }
-    ensures told { D.told disk.new ≡ D.told disk.old }
-    ensures faults { D.faults disk.new ≡ D.faults disk.old }
+    ensures untouched { Untouched D.SectorDisk disk.old disk.new }
     ensures reads { D.read_faults disk.new ≡ D.read_faults disk.old }
 {
     let front = disk.name_of(

@@ -4,6 +4,7 @@ ghost use Rattle.vr_ckpt.specs.Blocks.{Content};
 ghost use Rattle.vr_ckpt.specs.Loads.{HasSome, behind, data_at, data_of, gathered, gathered_both, loaded, root_at, text_of, with_data};
 ghost use Rattle.vr_ckpt.specs.declared.loading.Gathered.{Gathered};
 ghost use Rattle.vr_ckpt.specs.declared.found.Load.TheVariants as Load;
+ghost use Rattle.vr_disk.specs.Untouched.{Untouched};
 
 use crate::root::{Root, read_root};
 use crate::{
@@ -22,8 +23,7 @@ fn load_root<D: SectorDisk>(
     name: &Name,
     buffer: &mut Buffer,
 ) -> Result<Option<Root>, NoMemory>
-    ensures told { D.told disk.new ≡ D.told disk.old }
-    ensures faults { D.faults disk.new ≡ D.faults disk.old }
+    ensures untouched { Untouched D.SectorDisk disk.old disk.new }
     ensures reads { D.read_faults disk.old ≤ D.read_faults disk.new }
     ensures value { IfSome (D.told disk.old) (λ d. IfOk result (λ root. root ≡ root_at d.face name.now)) }
 {
@@ -42,8 +42,7 @@ fn load_payload<D: SectorDisk>(
     size: usize,
     buffer: &mut Buffer,
 ) -> Result<Option<ByteList>, NoMemory>
-    ensures told { D.told disk.new ≡ D.told disk.old }
-    ensures faults { D.faults disk.new ≡ D.faults disk.old }
+    ensures untouched { Untouched D.SectorDisk disk.old disk.new }
     ensures reads { D.read_faults disk.old ≤ D.read_faults disk.new }
     ensures value { IfSome (D.told disk.old) (λ d. IfOk result (λ bytes. bytes ≡ data_at d.face name.now size)) }
 {
@@ -95,8 +94,7 @@ fn gather<D: SectorDisk>(
     names: &[Name],
     buffer: &mut Buffer,
 ) -> Result<Gathered, NoMemory>
-    ensures told { D.told disk.new ≡ D.told disk.old }
-    ensures faults { D.faults disk.new ≡ D.faults disk.old }
+    ensures untouched { Untouched D.SectorDisk disk.old disk.new }
     ensures reads { D.read_faults disk.old ≤ D.read_faults disk.new }
     ensures value { IfSome (D.told disk.old) (λ d. IfOk result (λ g. g ≡ gathered d.face size names.now)) }
 {
@@ -153,8 +151,7 @@ fn load_named<D: SectorDisk>(
     root: &Root,
     buffer: &mut Buffer,
 ) -> Result<Load, NoMemory>
-    ensures told { D.told disk.new ≡ D.told disk.old }
-    ensures faults { D.faults disk.new ≡ D.faults disk.old }
+    ensures untouched { Untouched D.SectorDisk disk.old disk.new }
     ensures reads { D.read_faults disk.old ≤ D.read_faults disk.new }
     ensures value { IfSome (D.told disk.old) (λ d. IfOk result (λ load. load ≡ gathered_both (gathered d.face root.now.sessions_size root.now.sessions) (gathered d.face root.now.keys_size root.now.keys))) }
     ensures some { IfOk result HasSome }
@@ -189,8 +186,7 @@ fn only(alloc: Global, name: &Name) -> Result<Load, NoMemory>
 /// The texts and the table of the checkpoint with this root, or the names of the faulty blocks: the root alone, or data blocks in order.
 #[tactic(auto, unfolding(crate::specs::Loads::loaded))]
 pub fn load<D: SectorDisk>(alloc: Global, disk: &mut D, root: &Name) -> Result<Load, NoMemory>
-    ensures told { D.told disk.new ≡ D.told disk.old }
-    ensures faults { D.faults disk.new ≡ D.faults disk.old }
+    ensures untouched { Untouched D.SectorDisk disk.old disk.new }
     ensures reads { D.read_faults disk.old ≤ D.read_faults disk.new }
     ensures value { IfSome (D.told disk.old) (λ d. IfOk result (λ load. load ≡ loaded d.face root.now)) }
     ensures some { IfOk result HasSome }

@@ -1,6 +1,7 @@
 //! Whether bytes are the block of a name, as a caller tests it.
 ghost use Rattle.std.specs.Prelude.{length, ◌≡◌, is_some};
 ghost use Rattle.vr_ckpt.specs.Blocks.{named};
+ghost use Rattle.vr_disk.specs.Untouched.{Untouched};
 
 use crate::Name;
 use crate::block::BLOCK_SIZE;
@@ -19,8 +20,7 @@ pub fn is_block_of(bytes: &[u8], name: &Name) -> bool
 pub fn is_block_on<D: SectorDisk>(disk: &mut D, bytes: &[u8], name: &Name) -> bool
     requires { length bytes.now ≡ 4096 }
     ensures value { result ≡ is_some (named name.now bytes.now) }
-    ensures told { D.told disk.new ≡ D.told disk.old }
-    ensures faults { D.faults disk.new ≡ D.faults disk.old }
+    ensures untouched { Untouched D.SectorDisk disk.old disk.new }
     ensures reads { D.read_faults disk.new ≡ D.read_faults disk.old }
 {
     payload_of(disk, bytes, name).is_some()

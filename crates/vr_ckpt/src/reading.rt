@@ -2,6 +2,7 @@
 ghost use Rattle.std.specs.Prelude.{◌≡◌, ◌<◌, ◌≤◌, Some, None, length, if◌then◌else◌, IfOk, IfSome, OnErr, is_ok};
 ghost use Rattle.vr_ckpt.specs.Blocks.{named};
 ghost use Rattle.vr_ckpt.specs.Grid.{IsWhole, block_reading, named_at};
+ghost use Rattle.vr_disk.specs.Untouched.{Untouched};
 
 use crate::check::payload_of;
 use crate::{BLOCK_SIZE, Name};
@@ -12,8 +13,7 @@ use vr_disk::{BLOCK_SECTORS, BLOCKS, Buffer, Faulty, SectorDisk, block_place, re
 fn fill<D: SectorDisk>(disk: &mut D, address: u32, to: &mut [u8]) -> bool
     requires address { address < BLOCKS }
     requires size { length to.old ≡ 4096 }
-    ensures told { D.told disk.new ≡ D.told disk.old }
-    ensures faults { D.faults disk.new ≡ D.faults disk.old }
+    ensures untouched { Untouched D.SectorDisk disk.old disk.new }
     ensures reads { D.read_faults disk.old ≤ D.read_faults disk.new }
     ensures value { IfSome (D.told disk.old) (λ d. block_reading d.face address ≡ (if result then Some to.new else None)) }
 {
@@ -27,8 +27,7 @@ pub fn read_block<D: SectorDisk>(
     name: &Name,
     to: &mut Buffer,
 ) -> Result<usize, Faulty>
-    ensures told { D.told disk.new ≡ D.told disk.old }
-    ensures faults { D.faults disk.new ≡ D.faults disk.old }
+    ensures untouched { Untouched D.SectorDisk disk.old disk.new }
     ensures reads { D.read_faults disk.old ≤ D.read_faults disk.new }
     ensures exact { IfSome (D.told disk.old) (λ d. named_at d.face name.now ≡ (if is_ok result then named name.now to.new else None)) }
     ensures whole { IfOk result (λ size. IsWhole name.now to.new size) }

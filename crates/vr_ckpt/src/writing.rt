@@ -6,6 +6,7 @@ ghost use Rattle.vr_disk.specs.DiskState.{Runs};
 ghost use Rattle.vr_ckpt.specs.Blocks.{block_bytes, block_name, content_of, is_kind, named};
 ghost use Rattle.vr_ckpt.specs.Grid.{Leaves, block_calls, put_calls};
 ghost use Rattle.vr_ckpt.specs.GridLaws.{PutLeaves};
+ghost use Rattle.vr_disk.specs.Untouched.{Untouched};
 
 use crate::{Block, Name, PAYLOAD_AT};
 use std::alloc::Global;
@@ -31,8 +32,7 @@ pub fn write_at<D: SectorDisk>(disk: &mut D, address: u64, bytes: &[u8]) -> Resu
 /// The disk takes note of the names of the header and the payload of a whole block, which stand in its bytes.
 pub(crate) fn note_block<D: SectorDisk>(disk: &mut D, address: u64, block: &[u8])
     requires { is_some (content_of block.now) ≡ true }
-    ensures told { D.told disk.new ≡ D.told disk.old }
-    ensures faults { D.faults disk.new ≡ D.faults disk.old }
+    ensures untouched { Untouched D.SectorDisk disk.old disk.new }
     ensures reads { D.read_faults disk.new ≡ D.read_faults disk.old }
 {
     let end = u32_at(block, SIZE_AT) as usize;

@@ -21,6 +21,9 @@ use vr_msg::{Message, Request, RequestFields};
 /// The turns without an answer after which a client goes on to the next member.
 pub const PATIENCE: u64 = 50;
 
+// When a client goes on, the contracts say by it.
+const _: () = prove!(PATIENCE == 50);
+
 /// Puts the bytes of a request in the place of what is there. After an `Err`, want of memory, nothing is said of them.
 fn spell(fields: RequestFields, bytes: &mut Vec<u8>) -> Result<(), AllocError>
     requires { IsRequest fields }

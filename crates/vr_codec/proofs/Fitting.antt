@@ -12,6 +12,7 @@ use Rattle.vr_base.specs.declared.sum.Sum.{Sum}
 use Rattle.vr_header.specs.declared.header.HeaderFault.{HeaderFault}
 use Rattle.vr_header.specs.Spelling.{decoded, fault_of, decoded_header}
 use Rattle.vr_header.specs.declared.outcome.Outcome.{Outcome}
+use Rattle.vr_header.specs.declared.part.Part.{Part}
 use Rattle.vr_header.proofs.Faults.{no_fault}
 use Rattle.std.specs.Int.{w16, w64}
 use Rattle.vr_base.specs.Bytes.{bytes16, number}
@@ -135,6 +136,16 @@ pub headers_read : (count i : ℕ) (rest : List ℕ) (before all : List Header) 
     → (before ++ decoded_header rest ∷ []) ++ headers_at (count - (i + 1)) (drop 128 rest) ≡ all
 headers_read count i rest before all l e =
     append_assoc before (decoded_header rest ∷ []) (headers_at (count - (i + 1)) (drop 128 rest)) ∙ (ap (λ hs. before ++ hs) (sym (headers_at_more count i rest l)) ∙ e)
+
+pub parts_next : (tags : List ℕ) (i : ℕ) (rest : List ℕ) → i < length tags → are_parts (drop i tags) rest ≡ true
+    → ((not (knows (get_or tags i 0)) || is_ok (decoded rest)) ≡ true) × (are_parts (drop (i + 1) tags) (rest_at (get_or tags i 0) rest) ≡ true)
+parts_next tags i rest l e = both _ _ (sym (are_parts_more i tags rest l) ∙ e)
+
+pub parts_read : (tags : List ℕ) (i : ℕ) (rest : List ℕ) (before all : List Part) → i < length tags → before ++ parts_at (drop i tags) rest ≡ all
+    → (before ++ part_of_tag (get_or tags i 0) rest ∷ []) ++ parts_at (drop (i + 1) tags) (rest_at (get_or tags i 0) rest) ≡ all
+parts_read tags i rest before all l e =
+    let part = part_of_tag (get_or tags i 0) rest in
+    append_assoc before (part ∷ []) (parts_at (drop (i + 1) tags) (rest_at (get_or tags i 0) rest)) ∙ (ap (λ ps. before ++ ps) (sym (parts_at_more i tags rest l)) ∙ e)
 
 pub one_byte : (version : ℕ) (o : Operation) → IsOperation version o → (o ≡ Register) ↔ (length (operation_bytes o) ≡ 1)
 unfolding operation_bytes

@@ -109,14 +109,23 @@ fn write_parts(body: &DvcBody, to: &mut Vec<u8>) -> Result<(), AllocError>
     Ok(())
 }
 
+#[tactic(auto, unfolding(vr_base::specs::Bytes::bytes64))]
+fn write_number(number: u64, to: &mut Vec<u8>) -> Result<(), AllocError>
+    ensures bytes { OnOk result (to.new.items ≡ to.old.items ++ bytes64 number) }
+    ensures front { OnErr result (KeepsFront to.old.items to.new.items) }
+{
+    to.extend_from_slice(&number.to_be_bytes())?;
+    Ok(())
+}
+
 // A checkpoint's number, and the address of its root.
-#[tactic(auto, using(std::proofs::lemmas::Grind::common_steps, vr_base::proofs::Writing::kept_before), unfolding(vr_base::specs::Bytes::bytes64))]
+#[tactic(auto, using(std::proofs::lemmas::Grind::common_steps, vr_base::proofs::Writing::kept_before))]
 fn write_place(checkpoint: u64, address: u64, to: &mut Vec<u8>) -> Result<(), AllocError>
     ensures bytes { OnOk result (to.new.items ≡ to.old.items ++ (bytes64 checkpoint ++ bytes64 address)) }
     ensures front { OnErr result (KeepsFront to.old.items to.new.items) }
 {
-    to.extend_from_slice(&checkpoint.to_be_bytes())?;
-    to.extend_from_slice(&address.to_be_bytes())?;
+    write_number(checkpoint, to)?;
+    write_number(address, to)?;
     Ok(())
 }
 

@@ -6,7 +6,6 @@ use Rattle.vr_base.specs.declared.memory.NoMemory.{NoMemory as WantsMemory}
 use Rattle.vr_base.specs.declared.table.Config.{Config}
 use Rattle.vr_disk.specs.DiskState.{Disk, Face, Fate, Runs}
 use Rattle.vr_disk.specs.Regions.{sectors}
-use Rattle.vr_super.specs.declared.recovering.CopyVerdict.{CopyVerdict}
 use Rattle.vr_mem.specs.Seen.{copies, zero_cell}
 use Rattle.vr_msg.specs.declared.event.Event.{Event}
 use Rattle.vr_msg.specs.declared.output.Output.{Output}
@@ -23,9 +22,9 @@ use Rattle.vr_disk.specs.declared.fault.Halt.{Halt}
 use Rattle.vr_disk.specs.declared.fault.Halt.TheVariants.{DiskFault}
 use Rattle.vr_opening.specs.Making.{Made}
 use Rattle.vr_rules.specs.Opening.{blank, fresh, opening}
-use Rattle.vr_opening.specs.Recovering.{RecoveredAny}
-use Rattle.vr_opening.specs.declared.reopen.Refusal.{Refusal}
-use Rattle.vr_opening.specs.declared.reopen.Refusal.TheVariants.{Halted, Lost}
+use Rattle.vr_opening.specs.Recovering.{RecoveredAny, opens_as}
+use Rattle.vr_opening.specs.declared.reopen.NoValue.{NoValue}
+use Rattle.vr_opening.specs.declared.reopen.NoValue.TheVariants.{Halted}
 use Rattle.vr_rules.specs.Replica.{Replica, version}
 use Rattle.vr_rules.specs.Rules.{react}
 use Rattle.vr_replica.specs.Running.{Running}
@@ -117,7 +116,7 @@ never_idle act r r' q d d' o e f m s =
 
 -- ---- a replica that is found again
 
-record RecoveredOn (d e : Disk) (held : List (Option (List ℕ))) (o : List Output) (result : Result Replica Refusal) : Type 0 where
+record RecoveredOn (d e : Disk) (held : List (Option (List ℕ))) (o : List Output) (result : Result Replica NoValue) : Type 0 where
   left : Disk
   recovered : RecoveredAny 2 (Some (with_held d held)) (Some left) [] o result
   alike : AreAlike e left
@@ -140,9 +139,9 @@ recover_acts index q d e o h runs m s =
     subst (λ (m : Host Lying). ShowsActed (Some q) e o (starts hazards index m)) (sym s.host)
     (acted_shown (starts hazards index (host_by 2 None x)) (Some q) e l.left o l.alike p.1 p.0)
 
-pub recover_halts : (index : ℕ) (d e : Disk) (o : List Output) (y : Refusal) (x : Halt) → y ≡ Halted x → x ≡ DiskFault → RecoveredAny 2 (Some d) (Some e) [] o (Err y) → Acts (starts hazards index) None d None (revived e) (output.Halted index ∷ [])
+pub recover_halts : (index : ℕ) (d e : Disk) (o : List Output) (y : NoValue) (x : Halt) → y ≡ Halted x → x ≡ DiskFault → RecoveredAny 2 (Some d) (Some e) [] o (Err y) → Acts (starts hazards index) None d None (revived e) (output.Halted index ∷ [])
 recover_halts index d e o y x j k h m s =
-    let g : RecoveredAny 2 (Some d) (Some e) [] o (Err (Halted DiskFault)) = subst (λ (y : Refusal). RecoveredAny 2 (Some d) (Some e) [] o (Err y)) (j ∙ ap Halted k) h in
+    let g : RecoveredAny 2 (Some d) (Some e) [] o (Err (Halted DiskFault)) = subst (λ (y : NoValue). RecoveredAny 2 (Some d) (Some e) [] o (Err y)) (j ∙ ap Halted k) h in
     let l = recovered_cut d e s.held o g in
     let on = with_held d s.held in
     let p = recovery_halted 2 index on l.left o (Halted DiskFault) DiskFault refl refl s.is.told l.recovered in
@@ -150,16 +149,13 @@ recover_halts index d e o y x j k h m s =
     (acted_shown (starts hazards index (host_by 2 None on)) None (revived e) (revived l.left) (output.Halted index ∷ []) (revived_alike e l.left l.alike) p.1 p.0)
 
 -- its disk doesn't open
-pub recover_loses : (index : ℕ) (d e : Disk) (o o' : List Output) (y : Refusal) (verdicts : List CopyVerdict) → y ≡ Lost verdicts → o' ≡ [] → RecoveredAny 2 (Some d) (Some e) o o' (Err y) → Acts (starts hazards index) None d None e o'
-recover_loses index d e o o' y verdicts k none h m s =
-    let g : RecoveredAny 2 (Some d) (Some e) o o' (Err (Lost verdicts)) = subst (λ (y : Refusal). RecoveredAny 2 (Some d) (Some e) o o' (Err y)) k h in
-    let t = g.told d refl in
-    let same : e ≡ d = let x = t.1 in cc in
+pub recover_loses : (index : ℕ) (d e : Disk) (o : List Output) → o ≡ [] → (opens_as (Some 2) d.face ≡ None) × (e ≡ d) → Acts (starts hazards index) None d None e o
+recover_loses index d e o none h m s =
     let on = with_held d s.held in
-    let quiet = start_none 2 index on (sym (opens_in 2 d.face) ∙ t.0) in
-    subst (λ (m : Host Lying). ShowsActed None e o' (starts hazards index m)) (sym s.host)
+    let quiet = start_none 2 index on (sym (opens_in 2 d.face) ∙ h.0) in
+    subst (λ (m : Host Lying). ShowsActed None e o (starts hazards index m)) (sym s.host)
     (subst (λ (o : List Output). ShowsActed None e o (starts hazards index (host_by 2 None on))) (sym none)
-    (subst (λ (e : Disk). ShowsActed None e [] (starts hazards index (host_by 2 None on))) (sym same)
+    (subst (λ (e : Disk). ShowsActed None e [] (starts hazards index (host_by 2 None on))) (sym h.1)
     (acted_shown (starts hazards index (host_by 2 None on)) None d on [] (record { face = refl; fate = refl }) s.is quiet)))
 
 -- one that runs isn't found again

@@ -151,11 +151,11 @@ went_on_ok xs old mid new (Ok r) h e k l m z = subst (λ n. GoesOn xs n old new)
 went_on_ok xs old mid new (Err r) h e k l m z = tt
 
 -- after a letter that is lost
-pub went_behind_ok : (xs : List Happening) (old mid lost new : Group) (result : Result (Unit {0}) NoMemory) → Goes xs old mid → mid.link.next ≡ old.link.next → Goes [] mid lost → lost.link.next ≤ mid.link.next + 1 → OnOk result (Goes (letters lost.link.next new.link.next) lost new)
+pub went_behind_ok : (xs : List Happening) (old mid lost new : Group) (result : Result (Unit {0}) NoMemory) → Goes xs old mid → mid.link.next ≡ old.link.next → Goes [] mid lost → mid.link.next ≤ lost.link.next → lost.link.next ≤ mid.link.next + 1 → OnOk result (Goes (letters lost.link.next new.link.next) lost new)
     → lost.link.next ≤ new.link.next → new.link.next ≤ lost.link.next + 1000 → OnOk result (new.link.next < lost.link.next + 1000 → length new.link.letters ≤ new.link.next) → OnOk result (GoesOnBehind xs old new)
-went_behind_ok xs old mid lost new (Ok r) h e k l g m o z =
-    record { kept = lost.link.next; lost = omega (arith, e, l); goes = went_on xs lost.link.next old mid new h (goes_then [] (letters lost.link.next new.link.next) mid lost new k g) m o z }
-went_behind_ok xs old mid lost new (Err r) h e k l g m o z = tt
+went_behind_ok xs old mid lost new (Ok r) h e k b l g m o z =
+    record { kept = lost.link.next; least = omega (arith, e, b); lost = omega (arith, e, l); goes = went_on xs lost.link.next old mid new h (goes_then [] (letters lost.link.next new.link.next) mid lost new k g) m o z }
+went_behind_ok xs old mid lost new (Err r) h e k b l g m o z = tt
 
 -- first this, whereby the link stands as it stood, and then that
 pub went_first_ok : (xs ys : List Happening) (old mid new : Group) (result : Result (Unit {0}) NoMemory) → Goes xs old mid → mid.link.next ≡ old.link.next → OnOk result (GoesOn ys mid.link.next mid new) → OnOk result (GoesOn (xs ++ ys) old.link.next old new)
@@ -181,8 +181,8 @@ ticks_from a b c e h = subst (λ (g : Group). GoesOn ticks g.link.next g c) e h
 -- ---- the whole story
 
 -- none was left in the group, so none in its world
-all_at : (xs : List Happening) (from : ℕ) (a g : Group) → Goes xs a g → ShowsWorld a (fresh_world hazards kind 3) → (g.link.next < from + 1000 → length g.link.letters ≤ g.link.next) → IsAll xs from g.link.next
-all_at xs from a g h shows z l = subst (λ (s : List Sent). length s ≤ g.link.next) (h (fresh_world hazards kind 3) shows).world.sent (z l)
+all_at : (xs ys : List Happening) (from : ℕ) (a b g : Group) → Goes xs a g → ShowsWorld a (fresh_world hazards kind 3) → GoesOn ys from b g → IsAll xs from g.link.next
+all_at xs ys from a b g h shows o = record { least = o.least; most = o.most; all = λ l. subst (λ (s : List Sent). length s ≤ g.link.next) (h (fresh_world hazards kind 3) shows).world.sent (o.all l) }
 
 pub whole : (a b c d e f g h i : Group) → ShowsWorld a (fresh_world hazards kind 3) → a.link.next ≡ 0 → a.text ≡ [] → GoesOn (asks 0 Register ∷ []) a.link.next a b → GoesOnBehind (asks 1 (Put color green) ∷ []) b c → GoesOn ticks c.link.next c d
     → GoesOn (Fuses 1 2 0 ∷ asks 2 (Put shape round) ∷ []) d.link.next d e → GoesOn (Starts 1 ∷ []) e.link.next e f → GoesOn ticks f.link.next f g → GoesOn (asks 3 (Get shape) ∷ []) g.link.next g h → GoesOn ticks h.link.next h i → IsTold i.text
@@ -190,7 +190,7 @@ whole a b c d e f g h i shows first none session put tick cut found second read 
     let from : GoesOn (asks 0 Register ∷ []) 0 a b = subst (λ n. GoesOn (asks 0 Register ∷ []) n a b) first session in
     let kept = put.kept in
     let bound : kept ≤ b.link.next + 1 = put.lost in
-    let ends : Ends = record { session = b.link.next; kept = kept; put = c.link.next; tick = d.link.next; cut = e.link.next; found = f.link.next; second = g.link.next; read = h.link.next; last = i.link.next; lost = bound } in
+    let ends : Ends = record { session = b.link.next; kept = kept; put = c.link.next; tick = d.link.next; cut = e.link.next; found = f.link.next; second = g.link.next; read = h.link.next; last = i.link.next; least = put.least; lost = bound } in
     let short : AreShort ends = record { session = from.most; put = put.goes.most; tick = tick.most; cut = cut.most; found = found.most; second = second.most; read = read.most; last = last.most } in
     let one : Goes (asks 0 Register ∷ letters 0 b.link.next) a b = from.goes in
     let two : Goes (asks 1 (Put color green) ∷ letters kept c.link.next) b c = put.goes.goes in
@@ -207,14 +207,14 @@ whole a b c d e f g h i shows first none session put tick cut found second read 
     let w = fresh_world hazards kind 3 in
     let told = (all w shows).text in
     let each : AreAll ends = record {
-      session = all_at (to_session ends) 0 a b one shows from.all;
-      put = all_at (to_put ends) kept a c to_c shows put.goes.all;
-      tick = all_at (to_tick ends) c.link.next a d to_d shows tick.all;
-      cut = all_at (to_cut ends) d.link.next a e to_e shows cut.all;
-      found = all_at (to_found ends) e.link.next a f to_f shows found.all;
-      second = all_at (to_second ends) f.link.next a g to_g shows second.all;
-      read = all_at (to_read ends) g.link.next a h to_h shows read.all;
-      last = all_at (story ends) h.link.next a i all shows last.all;
+      session = all_at (to_session ends) _ 0 a a b one shows from;
+      put = all_at (to_put ends) _ kept a b c to_c shows put.goes;
+      tick = all_at (to_tick ends) _ c.link.next a c d to_d shows tick;
+      cut = all_at (to_cut ends) _ d.link.next a d e to_e shows cut;
+      found = all_at (to_found ends) _ e.link.next a e f to_f shows found;
+      second = all_at (to_second ends) _ f.link.next a f g to_g shows second;
+      read = all_at (to_read ends) _ g.link.next a g h to_h shows read;
+      last = all_at (story ends) _ h.link.next a h i all shows last;
     } in
     record { ends = ends; all = each; told = told ∙ ap (λ t. t ++ told_lines (happen hazards w (story ends)).outputs) none; one_log = one_log_of (story ends) (few_all ends short) }
 

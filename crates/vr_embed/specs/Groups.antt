@@ -66,5 +66,6 @@ pub record GoesOn (xs : List Happening) (kept : ℕ) (old new : Group) : Type 0 
 -- the same after a letter that is lost, if there is one
 pub record GoesOnBehind (xs : List Happening) (old new : Group) : Type 0 where
   pub kept : ℕ
+  pub least : old.link.next ≤ kept
   pub lost : kept ≤ old.link.next + 1
   pub goes : GoesOn xs kept old new

@@ -58,6 +58,7 @@ pub record Ends : Type 0 where
   pub second : ℕ
   pub read : ℕ
   pub last : ℕ
+  pub least : session ≤ kept
   pub lost : kept ≤ session + 1
 
 -- a session, a put of which a letter is lost, a tick; a put in the midst of which the second member's power fails, at the third call of its
@@ -86,9 +87,11 @@ to_read e = to_second e ++ (asks 3 (Get shape) ∷ letters e.second e.read)
 abbrev pub story : Ends → List Happening
 story e = to_read e ++ (ticks ++ letters e.read e.last)
 
--- letters were delivered from one number up to another, and these happenings left none to deliver: or a thousand were
-abbrev pub IsAll : List Happening → ℕ → ℕ → Type 0
-IsAll xs from to = to < from + 1000 → length (happen hazards (fresh_world hazards kind 3) xs).world.sent ≤ to
+-- letters were delivered from one number up to another, a thousand at most; if fewer were, these happenings left none to deliver
+pub record IsAll (xs : List Happening) (from to : ℕ) : Type 0 where
+  pub least : from ≤ to
+  pub most : to ≤ from + 1000
+  pub all : to < from + 1000 → length (happen hazards (fresh_world hazards kind 3) xs).world.sent ≤ to
 
 -- so each time
 pub record AreAll (e : Ends) : Type 0 where

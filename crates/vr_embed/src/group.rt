@@ -90,6 +90,7 @@ impl Group {
     /// The next letter is lost.
     pub fn lose(&mut self)
         ensures goes { Goes [] self.old self.new }
+        ensures least { self.old.link.next ≤ self.new.link.next }
         ensures next { self.new.link.next ≤ self.old.link.next + 1 }
     {
         self.link.lose();

@@ -73,6 +73,7 @@ impl Link {
     pub fn lose(&mut self)
         ensures letters { self.new.letters ≡ self.old.letters }
         ensures next { self.new.next ≡ min (self.old.next + 1) (length self.old.letters) }
+        ensures least { self.old.next ≤ self.new.next }
     {
         if self.next < self.letters.len() {
             self.next += 1;

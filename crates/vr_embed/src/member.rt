@@ -10,7 +10,7 @@ ghost use Rattle.vr_embed.specs.Told.{told_by};
 use crate::shelf::Shelf;
 use std::alloc::Global;
 use vr_replica::{
-    Config, Event, Halt, Kind, Mode, NoMemory, Outbox, Output, Refusal, Replica, Version,
+    Config, Event, Halt, Kind, Mode, NoMemory, NoValue, Outbox, Output, Replica, Version,
 };
 
 /// The number of the group.
@@ -95,10 +95,10 @@ fn recover_stopped(
             drop(replica.replace(recovered));
             Ok(())
         }
-        Err(Refusal::Halted(Halt::NoMemory)) => Err(NoMemory),
-        Err(Refusal::Halted(Halt::DiskFault)) => halt(replica, disk, index, out),
-        Err(Refusal::Lost(_)) => Ok(()),
-        Err(Refusal::OtherMember(_)) => Ok(()),
+        Err(NoValue::Halted(Halt::NoMemory)) => Err(NoMemory),
+        Err(NoValue::Halted(Halt::DiskFault)) => halt(replica, disk, index, out),
+        Err(NoValue::Lost(_)) => Ok(()),
+        Err(NoValue::OtherVersion) => Ok(()),
     }
 }
 

@@ -3,7 +3,6 @@ use Rattle.std.proofs.Common.{ℕ, ◌≡◌, ◌≤◌, ◌<◌, inl, inr, refl
 use Rattle.std.specs.Option.{option_and_then, option_map_or}
 use Rattle.std.specs.Prelude.{IfSome}
 use Rattle.std.proofs.lemmas.Bool.{le-leb, lt-leb}
-use Rattle.vr_base.specs.declared.table.Config.{Config}
 use Rattle.vr_disk.specs.DiskState.{Call, Disk, Face, Fate, Fuse, RunsFrom, runs}
 use Rattle.vr_msg.specs.declared.output.Output.{Output}
 use Rattle.vr_msg.specs.declared.output.Output.TheVariants as output
@@ -12,8 +11,9 @@ use Rattle.vr_disk.specs.declared.fault.Halt.TheVariants.{DiskFault, NoMemory}
 use Rattle.vr_rules.specs.Migrating.{migration_calls}
 use Rattle.vr_opening.specs.Migration.{MigratedAny, StopsMigration}
 use Rattle.vr_opening.specs.Recovering.{opens_as}
-use Rattle.vr_opening.specs.declared.reopen.Refusal.{Refusal}
-use Rattle.vr_opening.specs.declared.reopen.Refusal.TheVariants.{Halted, Lost, OtherMember}
+use Rattle.vr_opening.proofs.Recovers.{alone_stays, lost_stays}
+use Rattle.vr_opening.specs.declared.reopen.NoValue.{NoValue}
+use Rattle.vr_opening.specs.declared.reopen.NoValue.TheVariants.{Halted, Lost, OtherVersion}
 use Rattle.vr_replica.specs.Running.{Running}
 use Rattle.vr_rules.specs.Sectors.{sectors_by}
 use Rattle.vr_opening.proofs.Opens.{opens_in}
@@ -146,17 +146,17 @@ pub migrated_acted : (n : ℕ) (index : ℕ) (d : Disk) (mid new : HostDisk) →
 migrated_acted n index d mid new e t h left fate =
     subst (λ k. HasActed (migrates hazards index (host_on k None d)) (host_of None new) (output.Migrated index ∷ [])) (sym e) (went_well index d mid new (subst (λ n. IsTold n d) e t) h left fate)
 
-halted_as : (d e : Disk) (y : Refusal) (x : Halt) → y ≡ Halted x → x ≡ DiskFault → MigratedAny (Some d) (Some e) (Err y) → MigratedAny (Some d) (Some e) (Err (Halted DiskFault))
+halted_as : (d e : Disk) (y : NoValue) (x : Halt) → y ≡ Halted x → x ≡ DiskFault → MigratedAny (Some d) (Some e) (Err y) → MigratedAny (Some d) (Some e) (Err (Halted DiskFault))
 halted_as d e y x j k h = subst (λ y. MigratedAny (Some d) (Some e) (Err y)) (j ∙ ap Halted k) h
 
-pub halted_told : (n : ℕ) (d e : Disk) (mid : HostDisk) (y : Refusal) (x : Halt) → y ≡ Halted x → x ≡ DiskFault → n ≡ 1 → IsTold n d → MigratedAny (Some d) (Some e) (Err y) → told_by mid ≡ revived e → IsTold (version_by mid.lie) (told_by mid)
+pub halted_told : (n : ℕ) (d e : Disk) (mid : HostDisk) (y : NoValue) (x : Halt) → y ≡ Halted x → x ≡ DiskFault → n ≡ 1 → IsTold n d → MigratedAny (Some d) (Some e) (Err y) → told_by mid ≡ revived e → IsTold (version_by mid.lie) (told_by mid)
 halted_told n d e mid y x j k one t h again =
     let g = halted_as d e y x j k h in
     let cs = migration_calls g.value d.face in
     let told : IsTold 1 (told_by mid) = subst (IsTold 1) (sym again) (revived_told cs d e (was_cut cs d e (subst (λ n. IsTold n d) one t) g.step)) in
     subst (λ k. IsTold k (told_by mid)) (sym (version_told 1 mid one_two told)) told
 
-pub halted_acted : (n : ℕ) (index : ℕ) (d e : Disk) (mid new : HostDisk) (y : Refusal) (x : Halt) → y ≡ Halted x → x ≡ DiskFault → n ≡ 1 → IsTold n d → MigratedAny (Some d) (Some e) (Err y) → told_by mid ≡ revived e
+pub halted_acted : (n : ℕ) (index : ℕ) (d e : Disk) (mid new : HostDisk) (y : NoValue) (x : Halt) → y ≡ Halted x → x ≡ DiskFault → n ≡ 1 → IsTold n d → MigratedAny (Some d) (Some e) (Err y) → told_by mid ≡ revived e
     → lying_of new ≡ settled (lying_of mid) → (told_by new).fate ≡ (told_by mid).fate → HasActed (migrates hazards index (host_by n None d)) (host_of None new) (output.Halted index ∷ [])
 halted_acted n index d e mid new y x j k one t h again left fate =
     subst (λ k. HasActed (migrates hazards index (host_on k None d)) (host_of None new) (output.Halted index ∷ [])) (sym one)
@@ -167,37 +167,32 @@ wanting : (v : SuperValue) (d e : Disk) → IsTold 1 d → StopsMigration v (Som
 wanting v d e t (inl same) = let is : e ≡ d = cc in subst (IsTold 1) (sym is) t
 wanting v d e t (inr ran) = (went (mend_calls v d.face) d e t ran).told
 
-pub wanting_told : (n : ℕ) (d : Disk) (mid : HostDisk) (y : Refusal) (x : Halt) → y ≡ Halted x → x ≡ NoMemory → n ≡ 1 → IsTold n d → MigratedAny (Some d) (Some (told_by mid)) (Err y) → IsTold (version_by mid.lie) (told_by mid)
+pub wanting_told : (n : ℕ) (d : Disk) (mid : HostDisk) (y : NoValue) (x : Halt) → y ≡ Halted x → x ≡ NoMemory → n ≡ 1 → IsTold n d → MigratedAny (Some d) (Some (told_by mid)) (Err y) → IsTold (version_by mid.lie) (told_by mid)
 wanting_told n d mid y x j k one t h =
     let g : MigratedAny (Some d) (Some (told_by mid)) (Err (Halted NoMemory)) = subst (λ y. MigratedAny (Some d) (Some (told_by mid)) (Err y)) (j ∙ ap Halted k) h in
     let told = wanting g.value d (told_by mid) (subst (λ n. IsTold n d) one t) g.step in
     subst (λ k. IsTold k (told_by mid)) (sym (version_told 1 mid one_two told)) told
 
 -- the disk doesn't open
-lost_same : (d e : Disk) (y : Refusal) (verdicts : List CopyVerdict) → y ≡ Lost verdicts → MigratedAny (Some d) (Some e) (Err y) → (e ≡ d) × (opens_as (Some 1) d.face ≡ None)
-lost_same d e y verdicts j h =
-    let g : MigratedAny (Some d) (Some e) (Err (Lost verdicts)) = subst (λ y. MigratedAny (Some d) (Some e) (Err y)) j h in
-    let x = g.told d refl in
-    ((let s = x.1 in cc), x.0)
+pub lost_unopened : (d e : Disk) (y : NoValue) (verdicts : List CopyVerdict) → y ≡ Lost verdicts → MigratedAny (Some d) (Some e) (Err y) → (opens_as (Some 1) d.face ≡ None) × (e ≡ d)
+lost_unopened d e y verdicts k h = lost_stays (Some 1) verdicts d e (subst (λ y. MigratedAny (Some d) (Some e) (Err y)) k h)
 
-pub lost_told : (n : ℕ) (d : Disk) (mid : HostDisk) (y : Refusal) (verdicts : List CopyVerdict) → y ≡ Lost verdicts → n ≡ 1 → IsTold n d → MigratedAny (Some d) (Some (told_by mid)) (Err y) → IsTold (version_by mid.lie) (told_by mid)
-lost_told n d mid y verdicts j one t h =
-    let x = lost_same d (told_by mid) y verdicts j h in
-    let told : IsTold 1 (told_by mid) = subst (IsTold 1) (sym x.0) (subst (λ n. IsTold n d) one t) in
+pub other_unopened : (d e : Disk) (y : NoValue) → y ≡ OtherVersion → MigratedAny (Some d) (Some e) (Err y) → (opens_as (Some 1) d.face ≡ None) × (e ≡ d)
+other_unopened d e y k h = alone_stays (Some 1) d e (subst (λ y. MigratedAny (Some d) (Some e) (Err y)) k h)
+
+pub unopened_told : (n : ℕ) (d : Disk) (mid : HostDisk) → n ≡ 1 → IsTold n d → (opens_as (Some 1) d.face ≡ None) × (told_by mid ≡ d) → IsTold (version_by mid.lie) (told_by mid)
+unopened_told n d mid one t x =
+    let told : IsTold 1 (told_by mid) = subst (IsTold 1) (sym x.1) (subst (λ n. IsTold n d) one t) in
     subst (λ k. IsTold k (told_by mid)) (sym (version_told 1 mid one_two told)) told
 
-pub lost_acted : (n : ℕ) (index : ℕ) (d : Disk) (mid : HostDisk) (o : List Output) (y : Refusal) (verdicts : List CopyVerdict) → y ≡ Lost verdicts → n ≡ 1 → o ≡ [] → IsTold n d → MigratedAny (Some d) (Some (told_by mid)) (Err y)
+pub unopened_acted : (n : ℕ) (index : ℕ) (d : Disk) (mid : HostDisk) (o : List Output) → n ≡ 1 → o ≡ [] → IsTold n d → (opens_as (Some 1) d.face ≡ None) × (told_by mid ≡ d)
     → HasActed (migrates hazards index (host_by n None d)) (host_of None mid) o
-lost_acted n index d mid o y verdicts j one none t h =
-    let x = lost_same d (told_by mid) y verdicts j h in
-    let told : IsTold 1 (told_by mid) = subst (IsTold 1) (sym x.0) (subst (λ n. IsTold n d) one t) in
-    let host : host_of None mid ≡ host_on 1 None d = ap (λ k. host_by k None (told_by mid)) (version_told 1 mid one_two told) ∙ ap (host_by 1 None) x.0 in
-    let quiet : HasActed (migrates hazards index (host_on 1 None d)) (host_on 1 None d) [] = stays_so index (host_on 1 None d) (ap (option_and_then if_first) (sym (opens_in 1 d.face) ∙ x.1)) in
+unopened_acted n index d mid o one none t x =
+    let told : IsTold 1 (told_by mid) = subst (IsTold 1) (sym x.1) (subst (λ n. IsTold n d) one t) in
+    let host : host_of None mid ≡ host_on 1 None d = ap (λ k. host_by k None (told_by mid)) (version_told 1 mid one_two told) ∙ ap (host_by 1 None) x.1 in
+    let quiet : HasActed (migrates hazards index (host_on 1 None d)) (host_on 1 None d) [] = stays_so index (host_on 1 None d) (ap (option_and_then if_first) (sym (opens_in 1 d.face) ∙ x.0)) in
     subst (λ (o : List Output). HasActed (migrates hazards index (host_by n None d)) (host_of None mid) o) (sym none)
     (subst (λ (m : Host Lying). HasActed (migrates hazards index (host_by n None d)) m []) (sym host) (subst (λ k. HasActed (migrates hazards index (host_on k None d)) (host_on 1 None d) []) (sym one) quiet))
-
-pub never_other : (found : Config) (d e : Disk) (y : Refusal) → y ≡ OtherMember found → MigratedAny (Some d) (Some e) (Err y) → ⊥
-never_other found d e y k h = subst (λ y. MigratedAny (Some d) (Some e) (Err y)) k h
 
 -- a stopped host, and what it put out
 pub stopped_host : (a : Acted Lying) (r : Option Running) (m : HostDisk) (o : List Output) → r ≡ None → HasActed a (host_of None m) o → HasActed a (host_of r m) o

@@ -16,8 +16,9 @@ use Rattle.vr_msg.specs.declared.request.RequestFields.{RequestFields}
 use Rattle.vr_opening.specs.Making.{Made}
 use Rattle.vr_opening.specs.Recovering.{RecoveredAny, opens_as}
 use Rattle.vr_opening.proofs.Opens.{opens_in}
-use Rattle.vr_opening.specs.declared.reopen.Refusal.{Refusal}
-use Rattle.vr_opening.specs.declared.reopen.Refusal.TheVariants.{Halted, Lost, OtherMember}
+use Rattle.vr_opening.proofs.Recovers.{alone_stays, lost_stays}
+use Rattle.vr_opening.specs.declared.reopen.NoValue.{NoValue}
+use Rattle.vr_opening.specs.declared.reopen.NoValue.TheVariants.{Halted, Lost, OtherVersion}
 use Rattle.vr_rules.specs.Does.{Does, LeftBy}
 use Rattle.vr_disk.specs.declared.fault.Halt.{Halt}
 use Rattle.vr_disk.specs.declared.fault.Halt.TheVariants.{DiskFault, NoMemory}
@@ -103,12 +104,9 @@ start_halts n index d e o t h =
     (subst (λ (a : Acted Lying). HasActed a (host_on n None (revived e)) (output.Halted index ∷ [])) (sym (starts_by n index d v (opens_so n d v h.opens))) x.0, x.1)
 
 -- the disk doesn't open
-pub start_lost : (n : ℕ) (index : ℕ) (d e : Disk) (o o' : List Output) (verdicts : List CopyVerdict) → RecoveredAny n (Some d) (Some e) o o' (Err (Lost verdicts))
-    → (HasActed (starts hazards index (host_on n None d)) (host_on n None e) []) × (e ≡ d)
-start_lost n index d e o o' verdicts h =
-    let x = h.told d refl in
-    let same : e ≡ d = let y = x.1 in cc in
-    (subst (λ (e : Disk). HasActed (starts hazards index (host_on n None d)) (host_on n None e) []) (sym same) (start_none n index d (sym (opens_in n d.face) ∙ x.0)), same)
+start_unopened : (n : ℕ) (index : ℕ) (d e : Disk) → opens_as (Some n) d.face ≡ None → e ≡ d → HasActed (starts hazards index (host_on n None d)) (host_on n None e) []
+start_unopened n index d e none same =
+    subst (λ (e : Disk). HasActed (starts hazards index (host_on n None d)) (host_on n None e) []) (sym same) (start_none n index d (sym (opens_in n d.face) ∙ none))
 
 -- ---- a new member
 
@@ -171,13 +169,13 @@ host_recovered n index q d e o t h k =
     let version = h.step.same refl ∙ blank_by n h.value (opens_by n d.face h.value (opens_so n d h.value h.opens)) in
     (p.0, record { running = k; version = version; told = p.1 })
 
-pub recovery_halted : (n : ℕ) (index : ℕ) (d e : Disk) (o : List Output) (y : Refusal) (x : Halt) → y ≡ Halted x → x ≡ DiskFault → IsTold n d → RecoveredAny n (Some d) (Some e) [] o (Err y)
+pub recovery_halted : (n : ℕ) (index : ℕ) (d e : Disk) (o : List Output) (y : NoValue) (x : Halt) → y ≡ Halted x → x ≡ DiskFault → IsTold n d → RecoveredAny n (Some d) (Some e) [] o (Err y)
     → HasActed (starts hazards index (host_by n None d)) (host_by n None (revived e)) (output.Halted index ∷ []) × IsHostBy n None (revived e)
 recovery_halted n index d e o y x j k t h =
     let g : RecoveredAny n (Some d) (Some e) [] o (Err (Halted DiskFault)) = subst (λ y. RecoveredAny n (Some d) (Some e) [] o (Err y)) (j ∙ ap Halted k) h in
     let p = start_halts n index d e o t g in (p.0, record { running = tt; version = tt; told = p.1 })
 
-pub recovery_wanting : (n : ℕ) (d e : Disk) (o : List Output) (y : Refusal) (x : Halt) → y ≡ Halted x → x ≡ NoMemory → IsTold n d → RecoveredAny n (Some d) (Some e) [] o (Err y) → IsHostBy n None e
+pub recovery_wanting : (n : ℕ) (d e : Disk) (o : List Output) (y : NoValue) (x : Halt) → y ≡ Halted x → x ≡ NoMemory → IsTold n d → RecoveredAny n (Some d) (Some e) [] o (Err y) → IsHostBy n None e
 recovery_wanting n d e o y x j k t h =
     let g : RecoveredAny n (Some d) (Some e) [] o (Err (Halted NoMemory)) = subst (λ y. RecoveredAny n (Some d) (Some e) [] o (Err y)) (j ∙ ap Halted k) h in
     record { running = tt; version = tt; told = front_told n _ d e t (g.step.told d refl) }
@@ -225,20 +223,20 @@ fresh_host_made kind config r d m l t zeros fate h none k =
 
 -- ---- the goals of the code
 
-pub lost_acted : (n : ℕ) (index : ℕ) (r : Option Running) (d e : Disk) (o o' : List Output) (y : Refusal) (verdicts : List CopyVerdict) → y ≡ Lost verdicts → r ≡ None → o' ≡ [] → RecoveredAny n (Some d) (Some e) o o' (Err y)
-    → HasActed (starts hazards index (host_by n None d)) (host_by n r e) o'
-lost_acted n index r d e o o' y verdicts k none z h =
-    let g : RecoveredAny n (Some d) (Some e) o o' (Err (Lost verdicts)) = subst (λ y. RecoveredAny n (Some d) (Some e) o o' (Err y)) k h in
+pub lost_unopened : (n : ℕ) (d e : Disk) (o o' : List Output) (y : NoValue) (verdicts : List CopyVerdict) → y ≡ Lost verdicts → RecoveredAny n (Some d) (Some e) o o' (Err y) → (opens_as (Some n) d.face ≡ None) × (e ≡ d)
+lost_unopened n d e o o' y verdicts k h = lost_stays (Some n) verdicts d e (subst (λ y. RecoveredAny n (Some d) (Some e) o o' (Err y)) k h)
+
+pub other_unopened : (n : ℕ) (d e : Disk) (o o' : List Output) (y : NoValue) → y ≡ OtherVersion → RecoveredAny n (Some d) (Some e) o o' (Err y) → (opens_as (Some n) d.face ≡ None) × (e ≡ d)
+other_unopened n d e o o' y k h = alone_stays (Some n) d e (subst (λ y. RecoveredAny n (Some d) (Some e) o o' (Err y)) k h)
+
+pub unopened_acted : (n : ℕ) (index : ℕ) (r : Option Running) (d e : Disk) (o : List Output) → r ≡ None → o ≡ [] → (opens_as (Some n) d.face ≡ None) × (e ≡ d) → HasActed (starts hazards index (host_by n None d)) (host_by n r e) o
+unopened_acted n index r d e o none z h =
     subst (λ (o : List Output). HasActed (starts hazards index (host_by n None d)) (host_by n r e) o) (sym z)
-    (subst (λ (r : Option Running). HasActed (starts hazards index (host_by n None d)) (host_by n r e) []) (sym none) (start_lost n index d e o o' verdicts g).0)
+    (subst (λ (r : Option Running). HasActed (starts hazards index (host_by n None d)) (host_by n r e) []) (sym none) (start_unopened n index d e h.0 h.1))
 
-pub lost_told : (n : ℕ) (r : Option Running) (d e : Disk) (o o' : List Output) (y : Refusal) (verdicts : List CopyVerdict) → y ≡ Lost verdicts → r ≡ None → IsTold n d → RecoveredAny n (Some d) (Some e) o o' (Err y) → IsHostBy n r e
-lost_told n r d e o o' y verdicts k none t h =
-    let g : RecoveredAny n (Some d) (Some e) o o' (Err (Lost verdicts)) = subst (λ y. RecoveredAny n (Some d) (Some e) o o' (Err y)) k h in
-    subst (λ (r : Option Running). IsHostBy n r e) (sym none) (record { running = tt; version = tt; told = subst (IsTold n) (sym (start_lost n 0 d e o o' verdicts g).1) t })
-
-pub never_other : (n : ℕ) (found : Config) (d e : Disk) (o o' : List Output) (y : Refusal) → y ≡ OtherMember found → RecoveredAny n (Some d) (Some e) o o' (Err y) → ⊥
-never_other n found d e o o' y k h = subst (λ y. RecoveredAny n (Some d) (Some e) o o' (Err y)) k h
+pub unopened_told : (n : ℕ) (r : Option Running) (d e : Disk) → r ≡ None → IsTold n d → (opens_as (Some n) d.face ≡ None) × (e ≡ d) → IsHostBy n r e
+unopened_told n r d e none t h =
+    subst (λ (r : Option Running). IsHostBy n r e) (sym none) (record { running = tt; version = tt; told = subst (IsTold n) (sym h.1) t })
 
 pub gone_told : (n : ℕ) (r : Option Running) (d e : Disk) → r ≡ None → d ≡ revived e → IsHostBy n None (revived e) → IsHostBy n r d
 gone_told n r d e k f h = subst (λ (r : Option Running). IsHostBy n r d) (sym k) (subst (λ (d : Disk). IsHostBy n None d) (sym f) h)

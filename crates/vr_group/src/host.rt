@@ -22,7 +22,7 @@ use vr_base::{Config, Kind, NoMemory, Version};
 use vr_host_disk::HostDisk;
 use vr_lie::{Faulted, opens};
 use vr_msg::{Event, Outbox, Output};
-use vr_replica::{Halt, Refusal, Replica};
+use vr_replica::{Halt, NoValue, Replica};
 
 /// A member's replica, none while it is stopped, and its disk.
 #[derive(Drop)]
@@ -108,10 +108,10 @@ fn recover_on(
             drop(replica.replace(recovered));
             Ok(())
         }
-        Err(Refusal::Halted(Halt::NoMemory)) => Err(NoMemory),
-        Err(Refusal::Halted(Halt::DiskFault)) => halt(replica, disk, index, out),
-        Err(Refusal::Lost(_)) => Ok(()),
-        Err(Refusal::OtherMember(_)) => Ok(()),
+        Err(NoValue::Halted(Halt::NoMemory)) => Err(NoMemory),
+        Err(NoValue::Halted(Halt::DiskFault)) => halt(replica, disk, index, out),
+        Err(NoValue::Lost(_)) => Ok(()),
+        Err(NoValue::OtherVersion) => Ok(()),
     }
 }
 
@@ -180,14 +180,14 @@ fn migrate_on(
             out.push(Output::Migrated(index))?;
             Ok(())
         }
-        Err(Refusal::Halted(Halt::NoMemory)) => Err(NoMemory),
-        Err(Refusal::Halted(Halt::DiskFault)) => {
+        Err(NoValue::Halted(Halt::NoMemory)) => Err(NoMemory),
+        Err(NoValue::Halted(Halt::DiskFault)) => {
             halt(replica, disk, index, out)?;
             settle(disk);
             Ok(())
         }
-        Err(Refusal::Lost(_)) => Ok(()),
-        Err(Refusal::OtherMember(_)) => Ok(()),
+        Err(NoValue::Lost(_)) => Ok(()),
+        Err(NoValue::OtherVersion) => Ok(()),
     }
 }
 

@@ -13,7 +13,7 @@ use vr_base::{Kind, NoMemory};
 use vr_msg::Outbox;
 
 /// The members of a new group, each on a new file of this kind.
-#[tactic(auto, using(std::proofs::lemmas::Grind::common_steps, crate::proofs::Acts::hosts_more))]
+#[tactic(auto, using(crate::proofs::Acts::hosts_more))]
 pub fn make_hosts(alloc: Global, n: u8, kind: &Kind) -> Result<Vec<Host>, NoMemory>
     requires { is_size kind.now.version n ≡ true }
     ensures { IfOk result (λ v. v.items ≡ map (fresh_host hazards kind.now n) (range_with_len 0 n)) }

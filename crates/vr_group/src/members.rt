@@ -46,6 +46,16 @@ impl Members {
         })
     }
 
+    // A new group takes the place of this one, which is let go of here.
+    fn renew(&mut self, alloc: Global, n: u8, kind: &Kind) -> Result<(), NoMemory>
+        requires { is_size kind.now.version n ≡ true }
+        ensures world { OnOk result (world_of self.new ≡ fresh_world hazards kind.now n) }
+        ensures out { OnOk result (self.new.out ≡ []) }
+    {
+        *self = Members::begin(alloc, n, kind)?;
+        Ok(())
+    }
+
     // Something is done to a member.
     #[tactic(auto, using(crate::proofs::Acts::happened_as, vr_text::proofs::Fronts::front_same))]
     fn act(
@@ -96,7 +106,7 @@ impl Members {
     {
         match line {
             Line::Cluster { n, kind } => {
-                *self = Members::begin(alloc, *n, kind)?;
+                self.renew(alloc, *n, kind)?;
                 Ok(())
             }
             Line::Request { replica, request } => {

@@ -1,5 +1,5 @@
 -- Prepares: which rule applies, and what it is.
-use Rattle.std.proofs.Common.{arith, ◌≡◌, ◌≤◌, ◌<◌, ◌∙◌, ◌⊎◌, inl, inr, refl, sym, ap, subst, false, not, List, ◌++◌, Option, Result, Ok}
+use Rattle.std.proofs.Common.{arith, ◌≡◌, ◌≤◌, ◌<◌, ◌∙◌, ◌⊎◌, inl, inr, refl, sym, ap, subst, true, false, not, List, ◌++◌, Option, Result, Ok}
 use Rattle.std.specs.Prelude.{nat_lt, nat_le}
 use Rattle.std.proofs.lemmas.Bool.{ltb-false, leb-false}
 use Rattle.vr_base.specs.Bytes.{name_of}
@@ -20,6 +20,7 @@ use Rattle.vr_rules.proofs.Ruling.{by_rows, group_of_primary, IsFor}
 use Rattle.vr_rules.specs.Does.{Does}
 use Rattle.vr_rules.proofs.Stepping.{does_by, does_naming, does_quiet, says_by, change_by}
 use Rattle.vr_volatile.specs.Ready.{MayStore}
+use Rattle.vr_actions.specs.Waits.{passes}
 use Rattle.vr_normal.specs.declared.storing.PrepareRule.{PrepareRule}
 use Rattle.vr_normal.specs.declared.storing.PrepareRule.TheVariants as rule
 use Rattle.vr_normal.specs.Messages.{IsPreparing}
@@ -96,8 +97,6 @@ may_known p r x e k m h n = fits_may p r m h n (fits_by p r (inl (e ∙ ap prepa
 pub may_next : (p : Prepare) (r : Replica) (x : PrepareRule) → first_of (prepare_table name_of p r) ≡ prepare_rule x → x ≡ rule.Next → IsPreparing p → IsHeader p.entry.header → IsEntryHeader p.entry.header → MayStore p.entry r
 may_next p r x e k m h n = fits_may p r m h n (fits_by p r (inr (e ∙ ap prepare_rule k)))
 
-pub ruleset may_store = (may_known, may_next)
-
 -- ---- the rules
 
 module _ (p : Prepare) (r r' : Replica) (d d' : Option Disk) (o o' : List Output) where
@@ -134,4 +133,6 @@ module _ (p : Prepare) (r : Replica) (d : Option Disk) (o : List Output) (x : Pr
   pub prepare_other : (q : Replica) → x ≡ rule.Other → q ≡ rested r → Does (on_prepare p) r q d d o o (Ok tt)
   prepare_other q k i = obeyed p r q d d o o Other (Ok tt) (e ∙ ap prepare_rule k) (change_by rested r q d o i refl)
 
-pub ruleset rules = (prepare_past, prepare_known, prepare_next, prepare_ahead, prepare_ignored, prepare_before, prepare_later, prepare_beyond, prepare_other)
+-- a prepare that its rule doesn't leave be
+pub not_passed : (z : Rule) (x y : PrepareRule) → z ≡ prepare_rule x → x ≡ y → passes (prepare_rule y) ≡ false → passes z ≡ true → ⊥
+not_passed z x y e k f t = let both : true ≡ false = sym t ∙ (ap passes e ∙ (ap (λ w. passes (prepare_rule w)) k ∙ f)) in absurd cc

@@ -19,7 +19,7 @@ use vr_disk::SectorDisk;
 use vr_msg::{Outbox, PrepareOk};
 
 /// What a prepare_ok leads to.
-#[derive(Clone, Copy, Debug, PartialEq, Eq)]
+#[derive(Clone, Copy)]
 pub enum CountRule {
     /// It isn't from another replica of the group, or of no open entry of the view that this replica leads.
     Ignored,

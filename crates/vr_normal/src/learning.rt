@@ -18,7 +18,7 @@ use vr_disk::SectorDisk;
 use vr_msg::{Commit, GetView, Message, Outbox};
 
 /// What a commit leads to.
-#[derive(Clone, Copy, Debug, PartialEq, Eq)]
+#[derive(Clone, Copy)]
 pub enum CommitRule {
     /// It isn't from the primary of its view, another replica of the group.
     Ignored,

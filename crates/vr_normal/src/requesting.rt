@@ -30,7 +30,7 @@ use vr_msg::{Answered, Outbox, ReplyKind, Request, RequestFields};
 const PIPELINE: u64 = 8;
 
 /// What a request leads to.
-#[derive(Debug, Drop, PartialEq, Eq)]
+#[derive(Drop)]
 pub enum RequestRule {
     /// It is of another group.
     Ignored,

@@ -24,7 +24,7 @@ use vr_header::Header;
 use vr_msg::{Outbox, Prepare};
 
 /// What a prepare leads to.
-#[derive(Clone, Copy, Debug, PartialEq, Eq)]
+#[derive(Clone, Copy)]
 pub enum PrepareRule {
     /// It isn't from the primary of its view, another replica of the group.
     Ignored,
@@ -131,7 +131,7 @@ fn hear<D: SectorDisk>(
 // Rule 11, in this order: idle is 0; the entry is written, unless the Part of its op is `Here`; a prepare_ok of it goes to the view's
 // primary. Then the prepare's commit number is learned, at most up to the head, and what is committed is applied. After an `Err` the disk
 // has had its calls up to the stop; of replica and outputs nothing is said.
-#[tactic(auto, using(vr_rules::proofs::Stepping::steps, vr_volatile::proofs::Memory::readies))]
+#[tactic(auto, using(vr_volatile::proofs::Memory::readies))]
 fn store_known<D: SectorDisk>(
     replica: &mut Replica,
     alloc: Global,
@@ -152,7 +152,7 @@ fn store_known<D: SectorDisk>(
 // Rule 12, in this order: idle is 0; the entry is written, and `Here`; a prepare_ok of it goes to the view's primary. Then the prepare's
 // commit number is learned, at most up to the head, and what is committed is applied. After an `Err` the disk has had its calls up to the
 // stop; of replica and outputs nothing is said.
-#[tactic(auto, using(vr_rules::proofs::Stepping::steps, vr_volatile::proofs::Memory::readies))]
+#[tactic(auto, using(vr_volatile::proofs::Memory::readies))]
 fn store_next<D: SectorDisk>(
     replica: &mut Replica,
     alloc: Global,
@@ -195,7 +195,7 @@ fn ask_ahead<D: SectorDisk>(
 /// a place (`Other`), its commit number is learned, and what is committed applied. Where it is ignored, before the view or `Other`
 /// (`passes`), it answers `Ok` and leaves the very same disk. After an `Err` the disk has had its calls up to the stop; of replica and
 /// outputs nothing is said.
-#[tactic(auto, using(crate::proofs::Prepares::rules, crate::proofs::Prepares::may_store, crate::proofs::Prepares::view_fits, vr_volatile::proofs::Memory::readies, vr_rules::proofs::Stepping::wants))]
+#[tactic(auto, using(crate::proofs::Prepares::view_fits))]
 pub fn handle_prepare<D: SectorDisk>(
     replica: &mut Replica,
     alloc: Global,

@@ -15,9 +15,9 @@ use Rattle.vr_rules.specs.Migrating.{migrated, migration_calls, slot_calls}
 use Rattle.vr_opening.specs.declared.reopen.NoValue.{NoValue}
 use Rattle.vr_opening.specs.declared.reopen.NoValue.TheVariants as none
 use Rattle.vr_opening.specs.declared.reopen.Refusal.{Refusal}
-use Rattle.vr_opening.specs.Recovering.{FindsValue, MendsValue, StopsMending, config_of, refusal_of}
+use Rattle.vr_opening.specs.Recovering.{FindsValue, MendsValue, StopsMending, config_of, IsRefusal}
 use Rattle.vr_opening.specs.Migration.{IsMigrated, IsMigratedAny, Migrated, MigratedAny, MovesOver, StopsMigrating, StopsMigratingAny, StopsMigration, moving_calls, over_calls}
-use Rattle.vr_opening.proofs.Recovers.{lost_alone, lost_copies, opens_of, runs_of}
+use Rattle.vr_opening.proofs.Recovers.{opens_of, runs_of}
 
 -- the value that is saved in the end makes a good copy
 pub saved_good : (v : SuperValue) (f : Fields) (hs : List Header) → IsGood v → f ≡ (migrated v).fields → hs ≡ v.headers → IsGood (record { fields = f; headers = hs })
@@ -75,14 +75,12 @@ migration_halted asked found v d d1 d2 halt e i m h = record {
   other = λ not. absurd (not (sym e ∙ i));
 }
 
-none_migrated : (asked : Config) (d d' : Option Disk) (x : NoValue) → FindsValue None d d' (Err x) → Migrated asked d d' (Err (refusal_of x))
-unfolding refusal_of
-none_migrated asked d d' (none.Lost vs) h = lost_copies None vs d d' h
-none_migrated asked d d' none.OtherVersion h = lost_alone None d d' h
-none_migrated asked d d' (none.Halted halt) h = record { value = h.value; opens = h.opens; step = λ e. stops_mending h.value d d' halt h.stops; other = λ not. h.stops }
-
-pub migration_refused : (asked : Config) (d d' : Option Disk) (x : NoValue) (y : Refusal) → y ≡ refusal_of x → FindsValue None d d' (Err x) → Migrated asked d d' (Err y)
-migration_refused asked d d' x y e h = rw e (none_migrated asked d d' x h)
+pub migration_refused : (asked : Config) (d d' : Option Disk) (x : NoValue) (y : Refusal) → IsRefusal x y → FindsValue None d d' (Err x) → Migrated asked d d' (Err y)
+migration_refused asked d d' (none.Lost vs) y e h = rw e h
+migration_refused asked d d' none.OtherVersion y e h = absurd e
+migration_refused asked d d' (none.Halted halt) y e h =
+    let stops : StopsMigrating asked d d' halt = record { value = h.value; opens = h.opens; step = λ e. stops_mending h.value d d' halt h.stops; other = λ not. h.stops } in
+    rw e stops
 
 -- ---- of any member
 
@@ -92,11 +90,10 @@ any_well v d d1 d2 m h = record { value = v; opens = opens_of (Some 1) v d d1 m;
 pub any_halted : (v : SuperValue) (d d1 d2 : Option Disk) (halt : Halt) → MendsValue (Some 1) v d d1 → MovesOver v d1 d2 (Err halt) → StopsMigratingAny d d2 halt
 any_halted v d d1 d2 halt m h = record { value = v; opens = opens_of (Some 1) v d d1 m; step = stops v d d1 d2 halt (runs_of (Some 1) v d d1 m) h }
 
-none_any : (d d' : Option Disk) (x : NoValue) → FindsValue (Some 1) d d' (Err x) → MigratedAny d d' (Err (refusal_of x))
-unfolding refusal_of
-none_any d d' (none.Lost vs) h = lost_copies (Some 1) vs d d' h
-none_any d d' none.OtherVersion h = lost_alone (Some 1) d d' h
-none_any d d' (none.Halted halt) h = record { value = h.value; opens = h.opens; step = stops_mending h.value d d' halt h.stops }
+unfound : (d d' : Option Disk) (x : NoValue) → FindsValue (Some 1) d d' (Err x) → MigratedAny d d' (Err x)
+unfound d d' (none.Lost vs) h = h
+unfound d d' none.OtherVersion h = h
+unfound d d' (none.Halted halt) h = record { value = h.value; opens = h.opens; step = stops_mending h.value d d' halt h.stops }
 
-pub any_refused : (n : ℕ) (d d' : Option Disk) (x : NoValue) (y : Refusal) → n ≡ 1 → y ≡ refusal_of x → FindsValue (Some n) d d' (Err x) → MigratedAny d d' (Err y)
-any_refused n d d' x y i e h = rw e (none_any d d' x (subst (λ k. FindsValue (Some k) d d' (Err x)) i h))
+pub any_refused : (n : ℕ) (d d' : Option Disk) (x : NoValue) → n ≡ 1 → FindsValue (Some n) d d' (Err x) → MigratedAny d d' (Err x)
+any_refused n d d' x i h = unfound d d' x (subst (λ k. FindsValue (Some k) d d' (Err x)) i h)

@@ -24,9 +24,9 @@ use Rattle.vr_disk.specs.declared.fault.Halt.TheVariants.{DiskFault, NoMemory}
 use Rattle.vr_opening.specs.declared.reopen.NoValue.{NoValue}
 use Rattle.vr_opening.specs.declared.reopen.NoValue.TheVariants as none
 use Rattle.vr_opening.specs.declared.reopen.Refusal.{Refusal}
-use Rattle.vr_opening.specs.declared.reopen.Refusal.TheVariants.{Halted}
+use Rattle.vr_opening.specs.declared.reopen.Refusal.TheVariants.{Halted, Lost}
 use Rattle.vr_rules.specs.Does.{Does, Performs}
-use Rattle.vr_opening.specs.Recovering.{after_mend, all_good, DoesTo, config_of, is_left, is_other, not_found, opens_as, refusal_of, runs_as, LosesCopies, LeavesAlone, LosesValue, MendsValue, BeginsWith, StopsMending, LeavesUnmended, FindsValue, IsOther, IsAsked, StopsAsked, Recovered, RecoveredAny}
+use Rattle.vr_opening.specs.Recovering.{after_mend, DoesTo, config_of, is_left, is_other, not_found, opens_as, runs_as, IsRefusal, LosesCopies, LeavesAlone, MendsValue, BeginsWith, StopsMending, LeavesUnmended, FindsValue, IsOther, IsAsked, StopsAsked, Recovered, RecoveredAny}
 use Rattle.vr_rules.proofs.Stepping.{does_no_memory, effect_then, effect_stopped}
 
 pub begun_wanted : (v : SuperValue) (d : Option Disk) (o : List Output) → DoesTo (after_mend v) (blank v) d d o o (Err NoMemory)
@@ -78,39 +78,43 @@ opens_so wanted o v e n = rw (e, n) refl
 opens_not : (wanted : Option ℕ) (o : Option SuperValue) (v : SuperValue) → o ≡ Some v → is_left wanted v ≡ true → option_and_then (runs_as wanted) o ≡ None
 opens_not wanted o v e n = rw (e, n) refl
 
-verdicts_of : (b c : Bool) (f : Face) → b ≡ c → cond c all_good (map copy_verdict (good_copies f)) ≡ cond b all_good (map copy_verdict (good_copies f))
-verdicts_of b c f e = ap (λ (t : Bool). cond t all_good (map copy_verdict (good_copies f))) (sym e)
+-- for a version that is asked for
+asked_for : (wanted : Option ℕ) (version : ℕ) → is_other wanted version ≡ true → is_some wanted ≡ true
+asked_for None version e = absurd cc
+asked_for (Some w) version e = refl
 
 leaves : (wanted : Option ℕ) (v : SuperValue) (y : Disk) (d' : Option Disk) → superblock.opens y.face ≡ Some v → is_left wanted v ≡ true → d' ≡ Some y → LeavesAlone wanted (Some y) d'
 leaves wanted v y d' o e s = record {
+  asked = asked_for wanted v.fields.version e;
   untold = λ x. absurd cc;
   told = λ x i. let same : y ≡ x = search rules in subst (λ (z : Disk). (is_some (superblock.opens z.face) ≡ true) × (opens_as wanted z.face ≡ None) × (d' ≡ Some z)) same
       (ap is_some o, opens_not wanted (superblock.opens y.face) v o e, s);
 }
 
-untold : (wanted : Option ℕ) (d' : Option Disk) → d' ≡ None → LeavesAlone wanted None d'
-untold wanted d' s = record { untold = λ x. s; told = λ x e. absurd cc }
+untold : (wanted : Option ℕ) (version : ℕ) (d' : Option Disk) → is_other wanted version ≡ true → d' ≡ None → LeavesAlone wanted None d'
+untold wanted version d' e s = record { asked = asked_for wanted version e; untold = λ x. s; told = λ x e. absurd cc }
 
--- without a value all copies are called good, or each as it is
-pub lost_alone : (wanted : Option ℕ) (d d' : Option Disk) → LeavesAlone wanted d d' → LosesValue wanted d d' all_good
-lost_alone wanted d d' h = record {
-  untold = h.untold;
-  told = λ x e. let t = h.told x e in (t.1, t.2, verdicts_of (is_some (superblock.opens x.face)) true x.face t.0);
-}
+-- where no two good copies agree, no value opens in a file of any version
+pub none_as : (wanted : Option ℕ) (f : Face) → superblock.opens f ≡ None → opens_as wanted f ≡ None
+none_as wanted f e = ap (option_and_then (runs_as wanted)) e
 
-pub lost_copies : (wanted : Option ℕ) (vs : List CopyVerdict) (d d' : Option Disk) → LosesCopies d d' vs → LosesValue wanted d d' vs
-lost_copies wanted vs d d' h = record {
-  untold = h.untold;
-  told = λ x e.
-      let t = h.told x e in
-      let lost : is_some (superblock.opens x.face) ≡ false = ap is_some t.0 in
-      (ap (option_and_then (runs_as wanted)) t.0, t.1, t.2 ∙ verdicts_of (is_some (superblock.opens x.face)) false x.face lost);
-}
+-- without a value of the version the disk stays as it is
+pub lost_stays : (wanted : Option ℕ) (vs : List CopyVerdict) (d e : Disk) → LosesCopies (Some d) (Some e) vs → (opens_as wanted d.face ≡ None) × (e ≡ d)
+lost_stays wanted vs d e h =
+    let t = h.told d refl in
+    let same : e ≡ d = let s = t.1 in cc in
+    (none_as wanted d.face t.0, same)
+
+pub alone_stays : (wanted : Option ℕ) (d e : Disk) → LeavesAlone wanted (Some d) (Some e) → (opens_as wanted d.face ≡ None) × (e ≡ d)
+alone_stays wanted d e h =
+    let t = h.told d refl in
+    let same : e ≡ d = let s = t.2 in cc in
+    (t.1, same)
 
 -- ---- what is found of the superblock
 
 pub left_alone : (wanted : Option ℕ) (found : FoundValue) (b : Bool) (d : Option Disk) → IfSome d (λ x. IsFound x.face found) → b ≡ is_left wanted found.value → b ≡ true → LeavesAlone wanted d d
-left_alone wanted found b None h e t = untold wanted None refl
+left_alone wanted found b None h e t = untold wanted found.value.fields.version None (sym e ∙ t) refl
 left_alone wanted found b (Some y) h e t = leaves wanted found.value y (Some y) h.opens (sym e ∙ t) refl
 
 pub mended : (wanted : Option ℕ) (found : FoundValue) (v : SuperValue) (b : Bool) (d d' : Option Disk) → IfSome d (λ x. IsFound x.face found) → b ≡ is_left wanted found.value → b ≡ false → RunsFrom (mend_calls found.value) d d' true → v ≡ found.value
@@ -139,7 +143,7 @@ lost vs (Some y) d' h s = record {
 
 -- a value that there was no memory for is left alone by its version
 left_unread : (wanted : Option ℕ) (version : ℕ) (b : Bool) (d d' : Option Disk) → IfSome d (λ x. Finds x.face (Err (fault.NoMemory version))) → d' ≡ d → b ≡ is_other wanted version → b ≡ true → LeavesAlone wanted d d'
-left_unread wanted version b None d' h s e t = untold wanted d' s
+left_unread wanted version b None d' h s e t = untold wanted version d' (sym e ∙ t) s
 left_unread wanted version b (Some y) d' h s e t = leaves wanted h.value y d' h.opens (ap (is_other wanted) h.named ∙ (sym e ∙ t)) s
 
 wanted_memory : (wanted : Option ℕ) (version : ℕ) (b : Bool) (d d' : Option Disk) → IfSome d (λ x. Finds x.face (Err (fault.NoMemory version))) → d' ≡ d → b ≡ is_other wanted version → b ≡ false → LeavesUnmended wanted d d' NoMemory
@@ -164,24 +168,30 @@ no_fault wanted (fault.NoMemory version) e = elim (is_other wanted version) as (
 pub counts_none : {T : Type 0} (wanted : Option ℕ) (e : FindFault) (before now : ℕ) → now ≡ before → CountsFault {T = T} {E = NoValue} (none.Halted DiskFault) before now (Err (not_found wanted e))
 counts_none wanted e before now s = record { later = omega arith; kept = tt; failed = λ x. absurd (no_fault wanted e x); spared = λ n. s }
 
+-- where no version is asked for, no file is of another one
+pub never_alone : (d d' : Option Disk) (x : NoValue) → FindsValue None d d' (Err x) → x ≡ none.OtherVersion → ⊥
+never_alone d d' (none.Lost vs) h e = absurd cc
+never_alone d d' none.OtherVersion h e = let never : false ≡ true = h.asked in absurd cc
+never_alone d d' (none.Halted halt) h e = absurd cc
+
 -- a fault of the disk is answered as one, and nothing else is
-faulted : (x : NoValue) → refusal_of x ≡ Halted DiskFault → x ≡ none.Halted DiskFault
-unfolding refusal_of
-faulted (none.Lost vs) e = absurd cc
-faulted none.OtherVersion e = absurd cc
-faulted (none.Halted halt) e = let same : halt ≡ DiskFault = cc in ap none.Halted same
-
-fault_same : refusal_of (none.Halted DiskFault) ≡ Halted DiskFault
-unfolding refusal_of
-fault_same = refl
-
-pub refused_cause : {T U : Type 0} (x : NoValue) (y : Refusal) (before now : ℕ) → y ≡ refusal_of x → CountsFault {T = T} {E = NoValue} (none.Halted DiskFault) before now (Err x) → CountsFault {T = U} {E = Refusal} (Halted DiskFault) before now (Err y)
-refused_cause x y before now e h = record {
+pub refused_cause : {T U : Type 0} (x : NoValue) (y : Refusal) (before now : ℕ) → IsRefusal x y → CountsFault {T = T} {E = NoValue} (none.Halted DiskFault) before now (Err x) → CountsFault {T = U} {E = Refusal} (Halted DiskFault) before now (Err y)
+refused_cause (none.Lost vs) y before now e h = record {
   later = h.later;
   kept = tt;
-  failed = λ i. h.failed (faulted x (sym e ∙ i));
-  spared = λ n. h.spared (λ i. n (e ∙ (ap refusal_of i ∙ fault_same)));
+  failed = λ i. absurd (let never : Lost vs ≡ Halted DiskFault = sym e ∙ i in cc);
+  spared = λ n. h.spared (λ i. absurd cc);
 }
+refused_cause none.OtherVersion y before now e h = absurd e
+refused_cause (none.Halted halt) y before now e h = record {
+  later = h.later;
+  kept = tt;
+  failed = λ i. h.failed (let fault : Halted halt ≡ Halted DiskFault = sym e ∙ i in let same : halt ≡ DiskFault = cc in ap none.Halted same);
+  spared = λ n. h.spared (λ i. let same : halt ≡ DiskFault = cc in n (e ∙ ap Halted same));
+}
+
+pub unfound_cause : {T U : Type 0} (x : NoValue) (before now : ℕ) → CountsFault {T = T} {E = NoValue} (none.Halted DiskFault) before now (Err x) → CountsFault {T = U} {E = NoValue} (none.Halted DiskFault) before now (Err x)
+unfound_cause x before now h = record { later = h.later; kept = tt; failed = h.failed; spared = h.spared }
 
 -- a stop in the mending is one of the whole opening
 stopped_mending : (v : SuperValue) (d d' : Option Disk) (o : List Output) (halt : Halt) → StopsMending v d d' halt → DoesTo (opening v) (blank v) d d' o o (Err halt)
@@ -208,23 +218,17 @@ halted_any version v d d1 d2 o o' halt m h = record { value = v; opens = opens_o
 pub other_member : (asked found : Config) (v : SuperValue) (d d' : Option Disk) → found ≡ config_of v → (found ≡ asked → ⊥) → MendsValue None v d d' → IsOther asked found d d'
 other_member asked found v d d' e n m = record { value = v; mended = m; named = e; other = n }
 
-none_recovered : (asked : Config) (d d' : Option Disk) (o : List Output) (x : NoValue) → FindsValue None d d' (Err x) → Recovered asked d d' o o (Err (refusal_of x))
-unfolding refusal_of
-none_recovered asked d d' o (none.Lost vs) h = lost_copies None vs d d' h
-none_recovered asked d d' o none.OtherVersion h = lost_alone None d d' h
-none_recovered asked d d' o (none.Halted halt) h = record { value = h.value; opens = h.opens; step = λ e. stopped_mending h.value d d' o halt h.stops; other = λ not. h.stops }
-
-pub refused : (asked : Config) (d d' : Option Disk) (o : List Output) (x : NoValue) (y : Refusal) → y ≡ refusal_of x → FindsValue None d d' (Err x) → Recovered asked d d' o o (Err y)
-refused asked d d' o x y e h = rw e (none_recovered asked d d' o x h)
+pub refused : (asked : Config) (d d' : Option Disk) (o : List Output) (x : NoValue) (y : Refusal) → IsRefusal x y → FindsValue None d d' (Err x) → Recovered asked d d' o o (Err y)
+refused asked d d' o (none.Lost vs) y e h = rw e h
+refused asked d d' o none.OtherVersion y e h = absurd e
+refused asked d d' o (none.Halted halt) y e h =
+    let stops : StopsAsked asked d d' o o halt = record { value = h.value; opens = h.opens; step = λ e. stopped_mending h.value d d' o halt h.stops; other = λ not. h.stops } in
+    rw e stops
 
 pub recovered_any : (version : ℕ) (v : SuperValue) (q : Replica) (d d1 d2 : Option Disk) (o o' : List Output) → MendsValue (Some version) v d d1 → DoesTo (after_mend v) (blank v) d1 d2 o o' (Ok q) → BeginsWith (Some version) opening d d2 o o' (Ok q)
 recovered_any version v q d d1 d2 o o' m h = record { value = v; opens = opens_of (Some version) v d d1 m; step = mended_then (Some version) v q d d1 d2 o o' (Ok tt) m h }
 
-none_any : (version : ℕ) (d d' : Option Disk) (o : List Output) (x : NoValue) → FindsValue (Some version) d d' (Err x) → RecoveredAny version d d' o o (Err (refusal_of x))
-unfolding refusal_of
-none_any version d d' o (none.Lost vs) h = lost_copies (Some version) vs d d' h
-none_any version d d' o none.OtherVersion h = lost_alone (Some version) d d' h
-none_any version d d' o (none.Halted halt) h = record { value = h.value; opens = h.opens; step = stopped_mending h.value d d' o halt h.stops }
-
-pub refused_any : (version : ℕ) (d d' : Option Disk) (o : List Output) (x : NoValue) (y : Refusal) → y ≡ refusal_of x → FindsValue (Some version) d d' (Err x) → RecoveredAny version d d' o o (Err y)
-refused_any version d d' o x y e h = rw e (none_any version d d' o x h)
+pub refused_any : (version : ℕ) (d d' : Option Disk) (o : List Output) (x : NoValue) → FindsValue (Some version) d d' (Err x) → RecoveredAny version d d' o o (Err x)
+refused_any version d d' o (none.Lost vs) h = h
+refused_any version d d' o none.OtherVersion h = h
+refused_any version d d' o (none.Halted halt) h = record { value = h.value; opens = h.opens; step = stopped_mending h.value d d' o halt h.stops }

@@ -1,5 +1,5 @@
 -- The file of a member becomes one of version 2.
-use Rattle.std.specs.Prelude.{◌≡◌, ◌≢◌, ◌⊎◌, ◌==◌, ◌++◌, true, false, if◌then◌else◌, List, [], Option, Some, IfSome, Result, Ok, Err, None}
+use Rattle.std.specs.Prelude.{◌≡◌, ◌≢◌, ◌⊎◌, ◌==◌, ◌++◌, true, false, if◌then◌else◌, List, [], Option, Some, IfSome, Result, Ok, Err}
 use Rattle.vr_base.specs.declared.table.Config.{Config}
 use Rattle.vr_disk.specs.DiskState.{Call, Disk, Face, RunsFrom, after_all}
 use Rattle.vr_disk.specs.declared.fault.Halt.{Halt}
@@ -7,7 +7,9 @@ use Rattle.vr_disk.specs.declared.fault.Halt.TheVariants.{DiskFault, NoMemory}
 use Rattle.vr_super.specs.Calls.{mend_calls, write_calls}
 use Rattle.vr_super.specs.Copies.{SuperValue}
 use Rattle.vr_rules.specs.Migrating.{migrated, migration_calls, slot_calls}
-use Rattle.vr_opening.specs.Recovering.{IsOther, LosesValue, StopsMending, config_of, opens, opens_as}
+use Rattle.vr_opening.specs.Recovering.{IsOther, LeavesAlone, LosesCopies, StopsMending, config_of, opens, opens_as}
+use Rattle.vr_opening.specs.declared.reopen.NoValue.{NoValue}
+use Rattle.vr_opening.specs.declared.reopen.NoValue.TheVariants as none
 use Rattle.vr_opening.specs.declared.reopen.Refusal.{Refusal}
 use Rattle.vr_opening.specs.declared.reopen.Refusal.TheVariants.{Lost, OtherMember, Halted}
 
@@ -45,7 +47,7 @@ pub record StopsMigrating (asked : Config) (d d' : Option Disk) (halt : Halt) : 
 
 abbrev pub Migrated : Config → Option Disk → Option Disk → Result (Unit {0}) Refusal → Type 0
 Migrated asked d d' (Ok done) = IsMigrated asked d d'
-Migrated asked d d' (Err (Lost verdicts)) = LosesValue None d d' verdicts
+Migrated asked d d' (Err (Lost verdicts)) = LosesCopies d d' verdicts
 Migrated asked d d' (Err (OtherMember found)) = IsOther asked found d d'
 Migrated asked d d' (Err (Halted halt)) = StopsMigrating asked d d' halt
 
@@ -61,8 +63,8 @@ pub record StopsMigratingAny (d d' : Option Disk) (halt : Halt) : Type 0 where
   pub opens : IfSome d (λ x. opens_as (Some 1) x.face ≡ Some value)
   pub step : StopsMigration value d d' halt
 
-abbrev pub MigratedAny : Option Disk → Option Disk → Result (Unit {0}) Refusal → Type 0
+abbrev pub MigratedAny : Option Disk → Option Disk → Result (Unit {0}) NoValue → Type 0
 MigratedAny d d' (Ok done) = IsMigratedAny d d'
-MigratedAny d d' (Err (Lost verdicts)) = LosesValue (Some 1) d d' verdicts
-MigratedAny d d' (Err (OtherMember found)) = ⊥
-MigratedAny d d' (Err (Halted halt)) = StopsMigratingAny d d' halt
+MigratedAny d d' (Err (none.Lost verdicts)) = LosesCopies d d' verdicts
+MigratedAny d d' (Err none.OtherVersion) = LeavesAlone (Some 1) d d'
+MigratedAny d d' (Err (none.Halted halt)) = StopsMigratingAny d d' halt

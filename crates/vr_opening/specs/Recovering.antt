@@ -1,5 +1,5 @@
 -- A replica is recovered from its disk.
-use Rattle.std.specs.Prelude.{ℕ, ◌≡◌, ◌≢◌, ◌==◌, not, Bool, true, false, if◌then◌else◌, List, [], ◌∷◌, map, Option, Some, None, IfSome, is_some, Result, Ok, Err}
+use Rattle.std.specs.Prelude.{ℕ, ◌≡◌, ◌≢◌, ◌==◌, not, Bool, true, false, if◌then◌else◌, List, map, Option, Some, None, IfSome, is_some, Result, Ok, Err}
 use Rattle.std.specs.Option.{option_and_then}
 use Rattle.vr_base.specs.declared.table.Config.{Config}
 use Rattle.vr_disk.specs.DiskState.{Disk, Face, Runs, RunsFrom}
@@ -10,7 +10,6 @@ use Rattle.vr_super.specs.Opens as superblock
 use Rattle.vr_super.specs.Opens.{good_copies}
 use Rattle.vr_super.specs.Recovers.{copy_verdict}
 use Rattle.vr_super.specs.declared.recovering.CopyVerdict.{CopyVerdict}
-use Rattle.vr_super.specs.declared.recovering.CopyVerdict.TheVariants.{Good}
 use Rattle.vr_super.specs.declared.recovering.FindFault.{FindFault}
 use Rattle.vr_super.specs.declared.recovering.FindFault.TheVariants as find
 use Rattle.vr_rules.specs.Replica.{Replica}
@@ -57,25 +56,14 @@ opens_as wanted f = option_and_then (runs_as wanted) (superblock.opens f)
 abbrev pub opens : Face → Option SuperValue
 opens f = opens_as None f
 
-abbrev pub all_good : List CopyVerdict
-all_good = Good ∷ Good ∷ Good ∷ Good ∷ []
-
--- which copies are good, where no two good ones agree; those of a value that is left alone are all called so
-abbrev pub lost_verdicts : Face → List CopyVerdict
-lost_verdicts f = if is_some (superblock.opens f) then all_good else map copy_verdict (good_copies f)
-
--- no value opens, and no call is made
-pub record LosesValue (wanted : Option ℕ) (d d' : Option Disk) (verdicts : List CopyVerdict) : Type 0 where
-  pub untold : d ≡ None → d' ≡ None
-  pub told : (x : Disk) → d ≡ Some x → (opens_as wanted x.face ≡ None) × (d' ≡ Some x) × (verdicts ≡ lost_verdicts x.face)
-
--- no two good copies agree, and no call is made
+-- no two good copies agree, and no call is made: which of the four are good
 pub record LosesCopies (d d' : Option Disk) (verdicts : List CopyVerdict) : Type 0 where
   pub untold : d ≡ None → d' ≡ None
   pub told : (x : Disk) → d ≡ Some x → (superblock.opens x.face ≡ None) × (d' ≡ Some x) × (verdicts ≡ map copy_verdict (good_copies x.face))
 
--- there is a value, but its file is of another version, and no call is made
+-- a version is asked for, and there is a value, but its file is of another version; no call is made
 pub record LeavesAlone (wanted : Option ℕ) (d d' : Option Disk) : Type 0 where
+  pub asked : is_some wanted ≡ true
   pub untold : d ≡ None → d' ≡ None
   pub told : (x : Disk) → d ≡ Some x → (is_some (superblock.opens x.face) ≡ true) × (opens_as wanted x.face ≡ None) × (d' ≡ Some x)
 
@@ -112,11 +100,11 @@ unfoldable pub not_found : Option ℕ → FindFault → NoValue
 not_found wanted (find.Lost verdicts) = none.Lost verdicts
 not_found wanted (find.NoMemory version) = if is_other wanted version then none.OtherVersion else none.Halted NoMemory
 
--- and so there is no replica: of a file of another version all copies are called good
-unfoldable pub refusal_of : NoValue → Refusal
-refusal_of (none.Lost verdicts) = Lost verdicts
-refusal_of none.OtherVersion = Lost all_good
-refusal_of (none.Halted halt) = Halted halt
+-- and so there is no replica, for the same cause; where no version is asked for, no file is of another one
+abbrev pub IsRefusal : NoValue → Refusal → Type 0
+IsRefusal (none.Lost verdicts) refusal = refusal ≡ Lost verdicts
+IsRefusal none.OtherVersion refusal = ⊥
+IsRefusal (none.Halted halt) refusal = refusal ≡ Halted halt
 
 -- the value is that of another member
 pub record IsOther (asked found : Config) (d d' : Option Disk) : Type 0 where
@@ -141,13 +129,13 @@ pub record StopsAsked (asked : Config) (d d' : Option Disk) (o o' : List Output)
 
 abbrev pub Recovered : Config → Option Disk → Option Disk → List Output → List Output → Result Replica Refusal → Type 0
 Recovered asked d d' o o' (Ok r) = IsAsked asked d d' o o' r
-Recovered asked d d' o o' (Err (Lost verdicts)) = LosesValue None d d' verdicts
+Recovered asked d d' o o' (Err (Lost verdicts)) = LosesCopies d d' verdicts
 Recovered asked d d' o o' (Err (OtherMember found)) = IsOther asked found d d'
 Recovered asked d d' o o' (Err (Halted halt)) = StopsAsked asked d d' o o' halt
 
 -- a recovery of whatever member, in a file of this version: the replica is that of the value that opens
-abbrev pub RecoveredAny : ℕ → Option Disk → Option Disk → List Output → List Output → Result Replica Refusal → Type 0
+abbrev pub RecoveredAny : ℕ → Option Disk → Option Disk → List Output → List Output → Result Replica NoValue → Type 0
 RecoveredAny version d d' o o' (Ok r) = BeginsWith (Some version) opening d d' o o' (Ok r)
-RecoveredAny version d d' o o' (Err (Lost verdicts)) = LosesValue (Some version) d d' verdicts
-RecoveredAny version d d' o o' (Err (OtherMember found)) = ⊥
-RecoveredAny version d d' o o' (Err (Halted halt)) = BeginsWith (Some version) opening d d' o o' (Err halt)
+RecoveredAny version d d' o o' (Err (none.Lost verdicts)) = LosesCopies d d' verdicts
+RecoveredAny version d d' o o' (Err none.OtherVersion) = LeavesAlone (Some version) d d'
+RecoveredAny version d d' o o' (Err (none.Halted halt)) = BeginsWith (Some version) opening d d' o o' (Err halt)

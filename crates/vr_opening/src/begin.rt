@@ -3,7 +3,7 @@ ghost use Rattle.std.specs.Prelude.{◌≡◌, ◌<◌, ◌≤◌, ◌+◌, ◌+
 ghost use Rattle.vr_rules.specs.Opening.{announce, going_on, leave_view, recover_parts, resuming};
 ghost use Rattle.vr_rules.specs.Outputs.{send_to_all, start_view_change};
 ghost use Rattle.vr_rules.specs.Replica.{last_view};
-ghost use Rattle.vr_rules.specs.Words.{apply, load, save};
+ghost use Rattle.vr_rules.specs.Words.{apply, load};
 ghost use Rattle.vr_rules.specs.Steps.{◌⨾◌};
 ghost use Rattle.vr_rules.specs.Does.{Does};
 ghost use Rattle.vr_disk.specs.Counts.{Caused};
@@ -17,34 +17,11 @@ use vr_actions::{Halt, LAST_VIEW, Replica, apply, load, save};
 use vr_disk::SectorDisk;
 use vr_msg::Outbox;
 
-// Saves what the replica now is: the old value is mended on the disk, the new one written, with the next sequence number, and kept as its saved one.
-// Nothing is put out. After `Ok` it is ready, with nothing applied above its checkpoint, and its sequence number is one more at most. After an `Err`
-// the disk got these calls up to the one that failed, or a front of them; of the replica nothing is said.
-#[tactic(auto, using(crate::proofs::Begins::opened_saved, vr_actions::proofs::Loads::ready_opened))]
-fn save_opened<D: SectorDisk>(
-    replica: &mut Replica,
-    alloc: Global,
-    disk: &mut D,
-    out: &mut Outbox,
-) -> Result<(), Halt>
-    requires opened { MayLoad replica.old }
-    requires room { replica.old.saved.fields.sequence + 1 < 2 ^ 64 }
-    ensures opened { OnOk result (MayLoad replica.new) }
-    ensures spent { OnOk result (replica.new.saved.fields.sequence ≤ replica.old.saved.fields.sequence + 1) }
-    ensures cause { Caused (D.faults disk.old) (D.faults disk.new) result }
-    ensures step { Does save replica.old replica.new (D.told disk.old) (D.told disk.new) out.old out.new result }
-{
-    match save(replica, alloc, disk, out) {
-        Ok(()) => Ok(()),
-        Err(halt) => Err(halt),
-    }
-}
-
 // A replica that leads, the primary of a started view, goes to the next view and saves that: it doesn't lead its old view again. Any other replica
 // stays as it is, and makes no call of the disk. Nothing is put out. After `Ok` it is ready, with nothing applied above its checkpoint, and its
 // sequence number is one more at most. After an `Err` the disk got the save's calls up to the one that failed, or a front of them; of the replica
 // nothing is said.
-#[tactic(auto, using(crate::proofs::Begins::leave_then, crate::proofs::Begins::leave_none, crate::proofs::Begins::next_fits, crate::proofs::Begins::opened_next, crate::proofs::Begins::opened_member))]
+#[tactic(auto, using(crate::proofs::Begins::leave_then, crate::proofs::Begins::leave_none, crate::proofs::Begins::next_fits, crate::proofs::Begins::opened_next, crate::proofs::Begins::opened_member, vr_actions::proofs::Loads::ready_opened))]
 fn leave_view<D: SectorDisk>(
     replica: &mut Replica,
     alloc: Global,
@@ -60,7 +37,8 @@ fn leave_view<D: SectorDisk>(
 {
     if replica.leads() {
         replica.to_next_view();
-        save_opened(replica, alloc, disk, out)
+        save(replica, alloc, disk, out)?;
+        Ok(())
     } else {
         Ok(())
     }
@@ -103,7 +81,7 @@ fn announce<D: SectorDisk>(
 // In this order: the checkpoint, where there is one, is loaded; committed entries are applied and put out, with a checkpoint where one is due. Of a
 // view that isn't started the others are told at last. While blocks of the checkpoint can't be read, they count as missing, and nothing is applied.
 // After `Ok` it is ready.
-#[tactic(auto, using(vr_rules::proofs::Stepping::steps, vr_actions::proofs::Loads::ready_opened))]
+#[tactic(auto, using(vr_actions::proofs::Loads::ready_opened))]
 fn load_on<D: SectorDisk>(
     replica: &mut Replica,
     alloc: Global,

@@ -19,4 +19,4 @@ mod wanted;
 
 pub use migrating::{migrate, migrate_any};
 pub use new_member::{FreshFault, fresh};
-pub use reopen::{Refusal, recover, recover_any};
+pub use reopen::{NoValue, Refusal, recover, recover_any};

@@ -6,9 +6,10 @@ ghost use Rattle.vr_disk.specs.DiskState.{RunsFrom};
 ghost use Rattle.vr_disk.specs.declared.fault.Halt.TheVariants as Halt;
 ghost use Rattle.vr_rules.specs.Migrating.{migrated};
 ghost use Rattle.vr_opening.specs.Migration.{Migrated, MigratedAny, MovesOver, moving_calls};
+ghost use Rattle.vr_opening.specs.declared.reopen.NoValue.TheVariants as NoValue;
 ghost use Rattle.vr_opening.specs.declared.reopen.Refusal.TheVariants as Refusal;
 
-use crate::reopen::{Refusal, config_of, find_value, is_same, refusal_of};
+use crate::reopen::{NoValue, Refusal, config_of, find_value, is_same, refusal_of};
 use std::alloc::Global;
 use vr_actions::Halt;
 use vr_base::{Config, NoMemory, Seq, Version};
@@ -96,20 +97,20 @@ pub fn migrate<D: SectorDisk>(alloc: Global, disk: &mut D, asked: &Config) -> Re
     }
 }
 
-/// The file of a disk, of version 1, becomes one of version 2, whatever member's disk it is: `OtherMember` never comes. Its superblock is mended,
-/// each slot's prepare written at its new place, and then the value saved as one of version 2. `Lost`: no two good copies agree, or the file is of
-/// version 2, and all copies are called good; no call is made. `Halted`: the calls were made up to the one that failed, which alone adds one to the
-/// disk's faults; for want of memory none was, or the mending's alone.
+/// The file of a disk, of version 1, becomes one of version 2, whatever member's disk it is. Its superblock is mended, each slot's prepare written at
+/// its new place, and then the value saved as one of version 2. `Lost`: no two good copies agree; `OtherVersion`: they do, but the file is of version
+/// 2. Neither makes a call. `Halted`: the calls were made up to the one that failed, which alone adds one to the disk's faults; for want of memory
+/// none was, or the mending's alone.
 #[tactic(auto, using(crate::proofs::Moves::any_well, crate::proofs::Moves::any_halted))]
-pub fn migrate_any<D: SectorDisk>(alloc: Global, disk: &mut D) -> Result<(), Refusal>
-    ensures cause { CountsFault (Refusal.Halted Halt.DiskFault) (D.faults disk.old) (D.faults disk.new) result }
+pub fn migrate_any<D: SectorDisk>(alloc: Global, disk: &mut D) -> Result<(), NoValue>
+    ensures cause { CountsFault (NoValue.Halted Halt.DiskFault) (D.faults disk.old) (D.faults disk.new) result }
     ensures step { MigratedAny (D.told disk.old) (D.told disk.new) result }
 {
     match find_value(alloc, disk, &Some(Version::new(1))) {
-        Err(why) => Err(refusal_of(why)),
+        Err(why) => Err(why),
         Ok(value) => match migrate_mended(alloc, disk, &value) {
             Ok(()) => Ok(()),
-            Err(halt) => Err(Refusal::Halted(halt)),
+            Err(halt) => Err(NoValue::Halted(halt)),
         },
     }
 }

@@ -10,7 +10,7 @@ ghost use Rattle.vr_rules.specs.Opening.{fresh};
 ghost use Rattle.vr_super.specs.Opens.{file_kind, good_copies, opened};
 ghost use Rattle.vr_opening.specs.Making.{Made};
 ghost use Rattle.vr_opening.specs.declared.new_member.FreshFault.TheVariants as FreshFault;
-ghost use Rattle.vr_actions.specs.Acts.{Untouched};
+ghost use Rattle.vr_disk.specs.Untouched.{Untouched};
 
 use crate::formatting::format;
 use crate::new_value::first_value;
@@ -72,7 +72,6 @@ fn write_format<D: SectorDisk>(
 /// Formats the disk for a file of this kind, and makes the replica of a member of a new group, which is ready. `Occupied` exactly where two good
 /// copies of a superblock agree, and then nothing is written. `NoMemory`: nothing was written, either. `DiskFault`: the calls of the format were made
 /// up to the one that failed, and it alone adds one to the disk's faults.
-#[tactic(auto, using(crate::proofs::Makes::occupied, crate::proofs::Makes::wanted, crate::proofs::Makes::fresh_so))]
 pub fn fresh<D: SectorDisk>(
     alloc: Global,
     disk: &mut D,

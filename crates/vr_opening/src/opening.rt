@@ -188,7 +188,7 @@ fn recover_nth<D: SectorDisk>(
 // Finds the 64 ops above the checkpoint, ascending. One is `Here` where its slot's prepare is its entry; a header sector that doesn't fit beside that
 // is first written again, and synced. Else it is `Lost`, `Wanted`, `Nothing` or `Unknown`, by the table of `verdict`. Nothing is put out; a fault
 // ends it, and no slot after it is written. After `Ok` all Parts of the window are found, and the saved value is as it was.
-#[tactic(auto, using(vr_rules::proofs::Stepping::going_begins, vr_rules::proofs::Stepping::going_ends, crate::proofs::Olds::ops_at, crate::proofs::Olds::ops_stopped, crate::proofs::Olds::ops_begin, crate::proofs::Olds::window_length))]
+#[tactic(auto, using(vr_rules::proofs::Stepping::going_begins, vr_rules::proofs::Stepping::going_ends, crate::proofs::Olds::ops_begin, crate::proofs::Olds::window_length))]
 fn recover_window<D: SectorDisk>(
     replica: &mut Replica,
     disk: &mut D,

@@ -6,7 +6,7 @@ ghost use Rattle.vr_opening.specs.declared.reopen.Refusal.TheVariants as Refusal
 ghost use Rattle.vr_volatile.specs.Ready.{IsReady};
 ghost use Rattle.vr_opening.specs.Finding.{IsOpeningOld};
 ghost use Rattle.vr_rules.specs.Opening.{blank};
-ghost use Rattle.vr_opening.specs.Recovering.{after_mend, DoesTo, config_of, FindsValue, not_found, refusal_of, Recovered, RecoveredAny};
+ghost use Rattle.vr_opening.specs.Recovering.{after_mend, DoesTo, config_of, FindsValue, IsRefusal, not_found, Recovered, RecoveredAny};
 ghost use Rattle.vr_disk.specs.declared.fault.Halt.TheVariants as Halt;
 ghost use Rattle.vr_super.specs.Recovers.{IsFound};
 
@@ -36,7 +36,6 @@ fn begun(alloc: Global, value: Super) -> Result<Replica, Halt>
 // Opens the replica of a value whose copies are mended. Its Parts are found; then, unless sequence numbers are at their end, it goes on: a view that
 // it led is left, the start line put out, the checkpoint loaded. Committed entries are applied, and the others told. After `Ok` it is ready. After a
 // fault, which adds one to the disk's faults, the disk got these calls up to the one that failed; after want of memory a front of them.
-#[tactic(auto, using(crate::proofs::Recovers::begun_wanted, crate::proofs::Recovers::begun_stopped, crate::proofs::Recovers::begun_then))]
 fn open_value<D: SectorDisk>(
     alloc: Global,
     disk: &mut D,
@@ -59,11 +58,10 @@ fn open_value<D: SectorDisk>(
     }
 }
 
-/// Why a disk gives no replica.
+/// Why a disk gives no replica of the member that is asked for.
 #[derive(Clone, Copy, Debug, PartialEq, Eq)]
 pub enum Refusal {
-    /// No two good copies of the superblock agree; or its value is left alone, its file being of another version than is asked for, and then all are
-    /// called good.
+    /// No two good copies of the superblock agree. The verdicts are those of copies 0 to 3.
     Lost([CopyVerdict; 4]),
     /// The disk is that of another member: of this one.
     OtherMember(Config),
@@ -71,12 +69,12 @@ pub enum Refusal {
     Halted(Halt),
 }
 
-/// Why a disk gives no value.
+/// Why a disk gives no value of a version, and so no replica of whatever member.
 #[derive(Clone, Copy, Debug, PartialEq, Eq)]
 pub enum NoValue {
-    /// No two good copies of the superblock agree.
+    /// No two good copies of the superblock agree. The verdicts are those of copies 0 to 3.
     Lost([CopyVerdict; 4]),
-    /// It has one, but its file is of another version than is asked for.
+    /// It has a value, but its file is of another version than is asked for.
     OtherVersion,
     /// A call of the disk failed, or there was no memory.
     Halted(Halt),
@@ -134,14 +132,14 @@ fn not_found(fault: FindFault, wanted: &Option<Version>) -> NoValue
     }
 }
 
-// `Lost` and `Halted` stay what they are. A value whose file is of another version is `Lost`, too, with all four copies called good.
-#[tactic(auto, unfolding(crate::specs::Recovering::refusal_of))]
+// `Lost` and `Halted` stay what they are. No version was asked for, so no file is of another one.
 pub(crate) fn refusal_of(why: NoValue) -> Refusal
-    ensures { result ≡ refusal_of why }
+    requires { why ≢ NoValue.OtherVersion }
+    ensures { IsRefusal why result }
 {
     match why {
         NoValue::Lost(verdicts) => Refusal::Lost(verdicts),
-        NoValue::OtherVersion => Refusal::Lost([CopyVerdict::Good; 4]),
+        NoValue::OtherVersion => unreachable!(),
         NoValue::Halted(halt) => Refusal::Halted(halt),
     }
 }
@@ -203,26 +201,26 @@ pub fn recover<D: SectorDisk>(
     }
 }
 
-/// The replica of a disk whose file is of this version, whatever member's disk it is: `OtherMember` never comes. Its superblock is mended and its
-/// Parts found; then, unless sequence numbers are at their end, it leaves a view that it led, loads, applies, and tells the others. After `Ok` it is
-/// ready. `Lost`: no two good copies agree, or the file is of another version, and all copies are called good; no call is made. `Halted`: the calls
-/// were made up to the one that failed, which alone adds one to the disk's faults; or a front of them, for want of memory.
-#[tactic(auto, using(crate::proofs::Recovers::recovered_any, crate::proofs::Recovers::halted_any, crate::proofs::Recovers::refused_any))]
+/// The replica of a disk whose file is of this version, whatever member's disk it is. Its superblock is mended and its Parts found; then, unless
+/// sequence numbers are at their end, it leaves a view that it led, loads, applies, and tells the others. After `Ok` it is ready. `Lost`: no two good
+/// copies agree; `OtherVersion`: they do, but the file is of another version. Neither makes a call. `Halted`: the calls were made up to the one that
+/// failed, which alone adds one to the disk's faults; or a front of them, for want of memory.
+#[tactic(auto, using(crate::proofs::Recovers::recovered_any, crate::proofs::Recovers::halted_any))]
 pub fn recover_any<D: SectorDisk>(
     alloc: Global,
     disk: &mut D,
     version: Version,
     out: &mut Outbox,
-) -> Result<Replica, Refusal>
+) -> Result<Replica, NoValue>
     ensures ready { IfOk result IsReady }
-    ensures cause { CountsFault (Refusal.Halted Halt.DiskFault) (D.faults disk.old) (D.faults disk.new) result }
+    ensures cause { CountsFault (NoValue.Halted Halt.DiskFault) (D.faults disk.old) (D.faults disk.new) result }
     ensures step { RecoveredAny version (D.told disk.old) (D.told disk.new) out.old out.new result }
 {
     match find_value(alloc, disk, &Some(version)) {
-        Err(why) => Err(refusal_of(why)),
+        Err(why) => Err(why),
         Ok(value) => match open_value(alloc, disk, value, out) {
             Ok(replica) => Ok(replica),
-            Err(halt) => Err(Refusal::Halted(halt)),
+            Err(halt) => Err(NoValue::Halted(halt)),
         },
     }
 }

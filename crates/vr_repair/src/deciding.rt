@@ -13,7 +13,7 @@ use vr_header::Part;
 use vr_msg::{GetBlock, GetPrepare, GivePrepare};
 
 /// What a message of repair leads to, by the name of its rule.
-#[derive(Clone, Copy, Debug, PartialEq, Eq)]
+#[derive(Clone, Copy)]
 pub enum Repair {
     /// Nothing is done.
     Ignored,

@@ -58,7 +58,7 @@ pub fn handle_get_prepare<D: SectorDisk>(
 // The entry is written into its slot, and `Here`. Then, where the view is started and its op is above the commit number, it is told of;
 // then what is committed is applied. Told of: the primary sends its prepare to each other replica, a backup a prepare_ok to the primary.
 // The commit number stays. After an `Err` the disk has had its calls up to the stop; of replica and outputs nothing is said.
-#[tactic(auto, using(vr_rules::proofs::Stepping::steps, crate::proofs::Rules::entry_made))]
+#[tactic(auto, using(crate::proofs::Rules::entry_made))]
 fn take_entry<D: SectorDisk>(
     replica: &mut Replica,
     alloc: Global,

@@ -2,7 +2,7 @@
 ghost use Rattle.std.specs.Prelude.{ℕ, ◌≡◌, IfOk, IfSome, None, Some, length, if◌then◌else◌};
 ghost use Rattle.vr_rules.specs.Rules.{block_at};
 ghost use Rattle.vr_rules.specs.Does.{Finds};
-ghost use Rattle.vr_actions.specs.Acts.{Untouched};
+ghost use Rattle.vr_disk.specs.Untouched.{Untouched};
 
 use std::alloc::{AllocError, Global};
 use vr_base::{ByteList, NoMemory, Seq};

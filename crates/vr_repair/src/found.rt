@@ -2,7 +2,7 @@
 
 /// What a visit of a slot finds, and does. It is for whoever visits single slots; `visit`, which goes
 /// round, has no use of it.
-#[derive(Clone, Copy, Debug, PartialEq, Eq)]
+#[derive(Clone, Copy, PartialEq, Eq)]
 pub enum Visit {
     /// No entry of the op is known to be stored.
     Nothing,

@@ -11,7 +11,8 @@ ghost use Rattle.vr_rules.specs.Steps.{reading};
 ghost use Rattle.vr_rules.specs.Words.{entry_of, header_read, mend_header, op_of_slot, place_now, visit, visit_block, visit_place, visit_slot};
 ghost use Rattle.vr_rules.specs.Does.{Performs, done};
 ghost use Rattle.vr_disk.specs.declared.fault.Halt.TheVariants as halt;
-ghost use Rattle.vr_actions.specs.Acts.{Acts, Untouched};
+ghost use Rattle.vr_actions.specs.Acts.{Acts};
+ghost use Rattle.vr_disk.specs.Untouched.{Untouched};
 
 use crate::found::Visit;
 use vr_actions::{Halt, Replica, rewrite_header};

@@ -3,6 +3,8 @@ use Rattle.std.proofs.Common.{ℕ, List, Option, Err}
 use Rattle.vr_base.specs.declared.table.Config.{Config}
 use Rattle.vr_disk.specs.DiskState.{Disk, Face}
 use Rattle.vr_msg.specs.declared.output.Output.{Output}
+use Rattle.vr_opening.specs.declared.reopen.NoValue.{NoValue}
+use Rattle.vr_opening.specs.declared.reopen.NoValue.TheVariants as none
 use Rattle.vr_opening.specs.declared.reopen.Refusal.{Refusal}
 use Rattle.vr_opening.specs.declared.reopen.Refusal.TheVariants.{Lost, OtherMember, Halted}
 use Rattle.vr_opening.specs.Recovering.{Recovered, RecoveredAny}
@@ -27,10 +29,10 @@ cleared asked d d' o o' p (Halted halt) h = record {
   other = h.other;
 }
 
-pub cleared_any : (version : ℕ) (d d' : Option Disk) (o o' p : List Output) (x : Refusal) → RecoveredAny version d d' o o' (Err x) → RecoveredAny version d d' o p (Err x)
-cleared_any version d d' o o' p (Lost verdicts) h = h
-cleared_any version d d' o o' p (OtherMember found) h = absurd h
-cleared_any version d d' o o' p (Halted halt) h = record {
+pub cleared_any : (version : ℕ) (d d' : Option Disk) (o o' p : List Output) (x : NoValue) → RecoveredAny version d d' o o' (Err x) → RecoveredAny version d d' o p (Err x)
+cleared_any version d d' o o' p (none.Lost verdicts) h = h
+cleared_any version d d' o o' p none.OtherVersion h = h
+cleared_any version d d' o o' p (none.Halted halt) h = record {
   value = h.value;
   opens = h.opens;
   step = halted (opening h.value) (blank h.value) (blank h.value) (blank h.value) d d' o o' p halt h.step;

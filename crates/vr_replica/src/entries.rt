@@ -4,7 +4,7 @@ ghost use Rattle.vr_header.specs.declared.part.Part.TheVariants.{Here};
 ghost use Rattle.vr_volatile.specs.Ready.{IsReady};
 ghost use Rattle.vr_rules.specs.Replica.{part_at, version};
 ghost use Rattle.vr_replica.specs.Entries.{after_reading, entry_by};
-ghost use Rattle.vr_actions.specs.Acts.{Untouched};
+ghost use Rattle.vr_disk.specs.Untouched.{Untouched};
 
 use std::alloc::Global;
 use vr_actions::{Replica, find_entry};

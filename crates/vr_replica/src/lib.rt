@@ -34,5 +34,5 @@ pub use vr_msg::{Event, Message, Request, RequestFields};
 /// What a step puts out, in order: messages to members, replies to clients, and what is told of the rest.
 pub use vr_msg::{Outbox, Output, Reply, Sent};
 
-/// Why there is no replica of a disk: of a new one, and of one that was found again.
-pub use vr_opening::{FreshFault, Refusal};
+/// Why there is no replica of a disk: of a new one, of one that is the asked member's, and of one that is whatever member's.
+pub use vr_opening::{FreshFault, NoValue, Refusal};

@@ -12,7 +12,7 @@ ghost use Rattle.vr_actions.specs.Waits.{EndsAtOnce};
 ghost use Rattle.vr_replica.specs.AtOnce.{IsAtOnce};
 ghost use Rattle.vr_replica.specs.Entries.{after_reading, entry_by};
 ghost use Rattle.vr_replica.specs.Running.{memory_of};
-ghost use Rattle.vr_actions.specs.Acts.{Untouched};
+ghost use Rattle.vr_disk.specs.Untouched.{Untouched};
 
 use crate::entries::look_up;
 use crate::reacting::react;
@@ -23,7 +23,7 @@ use vr_base::{Config, Kind, NoMemory, Version};
 use vr_disk::SectorDisk;
 use vr_header::Entry;
 use vr_msg::{Event, Outbox};
-use vr_opening::{FreshFault, Refusal};
+use vr_opening::{FreshFault, NoValue, Refusal};
 
 /// A replica of a group. Contracts see what it has in memory, and whether it runs: a step that stops ends that, for good.
 #[derive(Drop)]
@@ -101,18 +101,18 @@ impl Replica {
 
     /// Where the superblock opens as a value of this version, the opening is done: value mended, Parts recovered, a primary's view left,
     /// `start` line, checkpoint loaded, what is committed applied. Then, where its view isn't started, start_view_change goes to all. The
-    /// replica, of whatever member, runs, and the outputs are those of the opening alone. `Lost`: no two good copies agree, or the file is
-    /// of another version, and nothing is written. `Halted`: the calls of the opening were made up to the stop. `OtherMember` never comes,
-    /// and after every `Err` the outputs are empty.
+    /// replica, of whatever member, runs, and the outputs are those of the opening alone. `Lost`: no two good copies agree; `OtherVersion`:
+    /// they do, but the file is of another version. Neither writes anything. `Halted`: the calls of the opening were made up to the stop.
+    /// After every `Err` the outputs are empty.
     #[tactic(auto, using(crate::proofs::Stopped::cleared_any))]
     pub fn recover_any<D: SectorDisk>(
         alloc: Global,
         disk: &mut D,
         version: Version,
         out: &mut Outbox,
-    ) -> Result<Replica, Refusal>
+    ) -> Result<Replica, NoValue>
         ensures running { IfOk result (λ r. r.running ≡ true) }
-        ensures cause { CountsFault (Refusal.Halted Halt.DiskFault) (D.faults disk.old) (D.faults disk.new) result }
+        ensures cause { CountsFault (NoValue.Halted Halt.DiskFault) (D.faults disk.old) (D.faults disk.new) result }
         ensures halt { OnErr result (out.new ≡ []) }
         ensures recovered { RecoveredAny version (D.told disk.old) (D.told disk.new) [] out.new (memory_of result) }
     {
@@ -122,9 +122,9 @@ impl Replica {
                 memory,
                 running: true,
             }),
-            Err(refusal) => {
+            Err(why) => {
                 out.clear();
-                Err(refusal)
+                Err(why)
             }
         }
     }
@@ -146,11 +146,11 @@ impl Replica {
     }
 
     /// Where the superblock opens as a value of version 1, of whatever member, it is mended. Then each slot's prepare is written at its new
-    /// place, and the value is saved with version 2 and the next sequence number. `Lost`: no two good copies agree, or the file is of
-    /// version 2, and nothing is written. `Halted`: `DiskFault` after the calls up to the one that failed, `NoMemory` before any, or once
-    /// the value is mended. `OtherMember` never comes.
-    pub fn migrate_any<D: SectorDisk>(alloc: Global, disk: &mut D) -> Result<(), Refusal>
-        ensures cause { CountsFault (Refusal.Halted Halt.DiskFault) (D.faults disk.old) (D.faults disk.new) result }
+    /// place, and the value is saved with version 2 and the next sequence number. `Lost`: no two good copies agree; `OtherVersion`: they do,
+    /// but the file is of version 2. Neither writes anything. `Halted`: `DiskFault` after the calls up to the one that failed, `NoMemory`
+    /// before any, or once the value is mended.
+    pub fn migrate_any<D: SectorDisk>(alloc: Global, disk: &mut D) -> Result<(), NoValue>
+        ensures cause { CountsFault (NoValue.Halted Halt.DiskFault) (D.faults disk.old) (D.faults disk.new) result }
         ensures migrated { MigratedAny (D.told disk.old) (D.told disk.new) result }
     {
         vr_opening::migrate_any(alloc, disk)

@@ -6,6 +6,7 @@ ghost use Rattle.vr_disk.specs.DiskState.{RunsFrom};
 ghost use Rattle.vr_rings.specs.Held.{is_prepare};
 ghost use Rattle.vr_rings.specs.Moving.{all_moved, is_movable, move_calls, moved_of, relocated, slot_moves};
 ghost use Rattle.vr_rings.specs.Slots.{prepare_reading};
+ghost use Rattle.vr_disk.specs.Untouched.{Untouched};
 
 use crate::bytes::whole_of;
 use crate::reading::read_bytes;
@@ -22,8 +23,7 @@ const LOST: u8 = 255;
 fn is_movable<D: SectorDisk>(disk: &mut D, prepare: &[u8]) -> bool
     requires { length prepare.now ≡ 4096 }
     ensures value { result ≡ (is_prepare prepare.now || is_zeros prepare.now) }
-    ensures told { D.told disk.new ≡ D.told disk.old }
-    ensures faults { D.faults disk.new ≡ D.faults disk.old }
+    ensures untouched { Untouched D.SectorDisk disk.old disk.new }
 {
     whole_of(disk, prepare).is_some() || is_zeros(prepare)
 }
@@ -35,8 +35,7 @@ fn read_movable<D: SectorDisk>(disk: &mut D, slot: u32, to: &mut [u8]) -> bool
     requires size { length to.old ≡ 4096 }
     ensures value { IfSome (D.told disk.old) (λ d. relocated d.face slot ≡ (if result then to.new else replicate 4096 255)) }
     ensures size { length to.new ≡ 4096 }
-    ensures told { D.told disk.new ≡ D.told disk.old }
-    ensures faults { D.faults disk.new ≡ D.faults disk.old }
+    ensures untouched { Untouched D.SectorDisk disk.old disk.new }
 {
     read_bytes(disk, slot, to, Version::new(1)) && is_movable(disk, to)
 }
@@ -47,8 +46,7 @@ fn relocate<D: SectorDisk>(disk: &mut D, slot: u32, to: &mut [u8])
     requires size { length to.old ≡ 4096 }
     ensures value { IfSome (D.told disk.old) (λ d. to.new ≡ relocated d.face slot) }
     ensures size { length to.new ≡ 4096 }
-    ensures told { D.told disk.new ≡ D.told disk.old }
-    ensures faults { D.faults disk.new ≡ D.faults disk.old }
+    ensures untouched { Untouched D.SectorDisk disk.old disk.new }
 {
     if !read_movable(disk, slot, to) {
         to.fill(LOST);

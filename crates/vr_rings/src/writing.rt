@@ -7,6 +7,7 @@ ghost use Rattle.vr_header.specs.Made.{entry_bytes};
 ghost use Rattle.vr_rings.specs.Slots.{IsWhole, Takes, in_front, prepare_bytes, sector_of};
 ghost use Rattle.vr_rings.specs.Calls.{again_calls, header_calls, new_calls, prepare_calls};
 ghost use Rattle.vr_rings.specs.Laws.{AgainLeaves, HeaderLeaves, NewLeaves};
+ghost use Rattle.vr_disk.specs.Untouched.{Untouched};
 
 use crate::bytes::{header_sector, put_prepare, sector_by};
 use crate::sizes::{OLD_PREPARE_SIZE, PREPARE_SIZE};
@@ -79,8 +80,7 @@ fn note<D: SectorDisk>(disk: &mut D, entry: &Entry, bytes: &[u8])
     requires bytes { bytes.now ≡ take (length bytes.now) (prepare_bytes entry.now) }
     requires size { length (entry_bytes entry.now) ≤ length bytes.now }
     requires whole { IsWhole entry.now }
-    ensures told { D.told disk.new ≡ D.told disk.old }
-    ensures faults { D.faults disk.new ≡ D.faults disk.old }
+    ensures untouched { Untouched D.SectorDisk disk.old disk.new }
 {
     let header = entry.header();
     let (whole, _) = bytes.split_at(header.size.get() as usize);

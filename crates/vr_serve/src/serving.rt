@@ -18,6 +18,9 @@ use vr_msg::{Event, Outbox};
 /// The milliseconds from one tick to the next.
 pub const TICK: u64 = 100;
 
+// When a tick is due, the contracts say by it.
+const _: () = prove!(TICK == 100);
+
 /// One receive. A message of this version and group that came is one event from its sender's port: the client heard, a step, its
 /// text, its datagrams; all else is as nothing. An `Err` cuts it off: at the receive, with nothing else done (`Link` only where
 /// it failed), or in the event, of whose outputs at most a front went out. After `Ok` the member runs. Disk, sink and link count

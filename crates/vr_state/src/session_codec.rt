@@ -1,5 +1,5 @@
 //! The text of the sessions, written and read.
-ghost use Rattle.std.specs.Prelude.{◌≡◌, ◌≤◌, ℕ, suc, [], length, Ok, IfOk, IfErr};
+ghost use Rattle.std.specs.Prelude.{◌≡◌, ◌≤◌, ◌++◌, ℕ, suc, [], length, Ok, IfOk, IfErr, OnOk};
 ghost use Rattle.std.specs.List.{flat_map};
 ghost use Rattle.std.specs.Ordering.{nat_cmp};
 ghost use Rattle.vr_state.specs.Finite.{IsMap};
@@ -14,17 +14,27 @@ use std::alloc::Global;
 use vr_base::{ByteList, NoMemory};
 
 /// The text of these sessions.
-#[tactic(auto, using(std::proofs::lemmas::Grind::common_steps, crate::proofs::Spelled::texts_bound), unfolding(crate::specs::Table::table_text, vr_base::specs::Bytes::bytes16))]
+#[tactic(auto, using(std::proofs::lemmas::Grind::common_steps, crate::proofs::Spelled::texts_bound))]
 pub fn encode_table(alloc: Global, table: &SessionTable) -> Result<ByteList, NoMemory>
     requires { IsSessions table.now.entries }
     ensures { IfOk result (λ text. text ≡ sessions_text table.now.entries) }
 {
     let mut text = ByteList::from_vec(Vec::with_capacity(alloc, 2 + texts_length(table))?);
+    write_sessions(&mut text, table)?;
+    Ok(text)
+}
+
+/// Adds the text of these sessions at the end.
+#[tactic(auto, using(std::proofs::lemmas::Grind::common_steps), unfolding(crate::specs::Table::table_text, vr_base::specs::Bytes::bytes16))]
+fn write_sessions(text: &mut ByteList, table: &SessionTable) -> Result<(), NoMemory>
+    requires { IsSessions table.now.entries }
+    ensures { OnOk result (text.new ≡ text.old ++ sessions_text table.now.entries) }
+{
     text.extend(&(table.len() as u16).to_be_bytes())?;
     for (client, session) in table.iter() {
-        write_session(&mut text, *client, session)?;
+        write_session(text, *client, session)?;
     }
-    Ok(text)
+    Ok(())
 }
 
 /// How many bytes the texts of these sessions have, one after the other.
@@ -56,12 +66,32 @@ fn read_all(alloc: Global, count: u16, bytes: &[u8]) -> Result<SessionTable, Sta
     ensures fault { IfErr result (IsOrNoMemory (read_on nat_cmp session_from count [] bytes.now)) }
 {
     let mut table = SessionTable::with_capacity(alloc, count as usize)?;
+    match read_on(alloc, &mut table, count, bytes) {
+        Ok(()) => Ok(table),
+        Err(fault) => {
+            drop(table);
+            Err(fault)
+        }
+    }
+}
+
+/// Reads so many sessions more, and nothing after them.
+fn read_on(
+    alloc: Global,
+    table: &mut SessionTable,
+    count: u16,
+    bytes: &[u8],
+) -> Result<(), StateFault>
+    requires { IsMap nat_cmp table.old.entries }
+    ensures table { OnOk result (read_on nat_cmp session_from count table.old.entries bytes.now ≡ Ok table.new.entries) }
+    ensures fault { IfErr result (IsOrNoMemory (read_on nat_cmp session_from count table.old.entries bytes.now)) }
+{
     let mut rest = bytes;
     for i in 0..count {
-        rest = read_next(alloc, &mut table, rest)?;
+        rest = read_next(alloc, table, rest)?;
     }
     if rest.is_empty() {
-        return Ok(table);
+        return Ok(());
     }
     Err(StateFault::Torn)
 }

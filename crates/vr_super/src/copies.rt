@@ -1,14 +1,15 @@
 //! Copies on a disk, each by its text: the name in front of it stands in the first sector.
-ghost use Rattle.std.specs.Prelude.{◌≡◌, ◌≤◌, ◌<◌, ◌+◌, ◌-◌, ◌*◌, ◌++◌, ◌∷◌, [], drop, length, replicate, IfSome, is_ok};
+ghost use Rattle.std.specs.Prelude.{◌≡◌, ◌≤◌, ◌<◌, ◌+◌, ◌*◌, ◌++◌, ◌∷◌, [], drop, length, IfSome, is_ok};
 ghost use Rattle.vr_base.specs.Causes.{HasCause};
 ghost use Rattle.vr_disk.specs.DiskState.{Runs, RunsFrom, Sync, Write};
 ghost use Rattle.vr_disk.specs.Fronts.{front};
 ghost use Rattle.vr_disk.specs.Sectors.{has, writes};
-ghost use Rattle.vr_super.specs.Copies.{copy_of};
+ghost use Rattle.vr_super.specs.Copies.{IsCopyText, copy_of};
 ghost use Rattle.vr_super.specs.Opens.{copy_reading};
 ghost use Rattle.vr_super.specs.Calls.{copy_calls, mend_copy, mend_unless};
+ghost use Rattle.vr_disk.specs.Untouched.{Untouched};
 
-use crate::places::{TEXT_SEQUENCE_AT, TEXT_SIZE};
+use crate::places::TEXT_SEQUENCE_AT;
 use crate::sectors::{read_filled, write_synced};
 use vr_base::u64_at;
 use vr_disk::{
@@ -44,10 +45,7 @@ fn write_others<D: SectorDisk>(
     text: &[u8],
 ) -> Result<(), DiskFailed>
     requires copy { copy < COPIES }
-    requires size { length text.now ≡ TEXT_SIZE }
-    requires least { 1 ≤ filled }
-    requires filled { filled ≤ COPY_SECTORS }
-    requires zeros { drop (512 * filled) (copy_of text.now) ≡ replicate (512 * (20 - filled)) 0 }
+    requires text { IsCopyText filled text.now }
     ensures runs { Runs (writes (20 * copy + 1) 19 (drop 496 text.now) ++ Sync ∷ []) (D.told disk.old) (D.told disk.new) (is_ok result) }
     ensures cause { HasCause (D.faults disk.old) (D.faults disk.new) result }
     ensures others { D.read_faults disk.new ≡ D.read_faults disk.old }
@@ -71,10 +69,7 @@ pub fn write_copy<D: SectorDisk>(
     text: &[u8],
 ) -> Result<(), DiskFailed>
     requires copy { copy < COPIES }
-    requires size { length text.now ≡ TEXT_SIZE }
-    requires least { 1 ≤ filled }
-    requires filled { filled ≤ COPY_SECTORS }
-    requires zeros { drop (512 * filled) (copy_of text.now) ≡ replicate (512 * (20 - filled)) 0 }
+    requires text { IsCopyText filled text.now }
     ensures runs { Runs (copy_calls copy (copy_of text.now)) (D.told disk.old) (D.told disk.new) (is_ok result) }
     ensures cause { HasCause (D.faults disk.old) (D.faults disk.new) result }
     ensures others { D.read_faults disk.new ≡ D.read_faults disk.old }
@@ -89,9 +84,8 @@ pub fn write_copy<D: SectorDisk>(
 pub fn reads_as<D: SectorDisk>(disk: &mut D, copy: u32, bytes: &[u8]) -> bool
     requires copy { copy < COPIES }
     requires size { length bytes.now ≡ COPY_SIZE }
-    ensures told { D.told disk.new ≡ D.told disk.old }
+    ensures untouched { Untouched D.SectorDisk disk.old disk.new }
     ensures value { IfSome (D.told disk.old) (λ d. result ≡ has bytes.now (copy_reading d.face copy)) }
-    ensures faults { D.faults disk.new ≡ D.faults disk.old }
     ensures reads { D.read_faults disk.old ≤ D.read_faults disk.new }
 {
     sectors_read_as(disk, COPY_SECTORS * copy, COPY_SECTORS, bytes)
@@ -100,13 +94,9 @@ pub fn reads_as<D: SectorDisk>(disk: &mut D, copy: u32, bytes: &[u8]) -> bool
 // Whether a copy reads as that of this text, of which so many sectors stand in front of zeros.
 fn reads_text<D: SectorDisk>(disk: &mut D, copy: u32, filled: u32, text: &[u8]) -> bool
     requires copy { copy < COPIES }
-    requires size { length text.now ≡ TEXT_SIZE }
-    requires least { 1 ≤ filled }
-    requires filled { filled ≤ COPY_SECTORS }
-    requires zeros { drop (512 * filled) (copy_of text.now) ≡ replicate (512 * (20 - filled)) 0 }
-    ensures told { D.told disk.new ≡ D.told disk.old }
+    requires text { IsCopyText filled text.now }
+    ensures untouched { Untouched D.SectorDisk disk.old disk.new }
     ensures value { IfSome (D.told disk.old) (λ d. result ≡ has (copy_of text.now) (copy_reading d.face copy)) }
-    ensures faults { D.faults disk.new ≡ D.faults disk.old }
     ensures reads { D.read_faults disk.old ≤ D.read_faults disk.new }
 {
     let (_, rest) = text.split_at(FRONT_TEXT);
@@ -126,10 +116,7 @@ pub fn mend_copy<D: SectorDisk>(
     text: &[u8],
 ) -> Result<(), DiskFailed>
     requires copy { copy < COPIES }
-    requires size { length text.now ≡ TEXT_SIZE }
-    requires least { 1 ≤ filled }
-    requires filled { filled ≤ COPY_SECTORS }
-    requires zeros { drop (512 * filled) (copy_of text.now) ≡ replicate (512 * (20 - filled)) 0 }
+    requires text { IsCopyText filled text.now }
     ensures runs { Runs (mend_copy copy (copy_of text.now)) (D.told disk.old) (D.told disk.new) (is_ok result) }
     ensures cause { HasCause (D.faults disk.old) (D.faults disk.new) result }
     ensures others { D.read_faults disk.new ≡ D.read_faults disk.old }
@@ -147,10 +134,7 @@ pub fn mend_unless<D: SectorDisk>(
     text: &[u8],
 ) -> Result<(), DiskFailed>
     requires copy { copy < COPIES }
-    requires size { length text.now ≡ TEXT_SIZE }
-    requires least { 1 ≤ filled }
-    requires filled { filled ≤ COPY_SECTORS }
-    requires zeros { drop (512 * filled) (copy_of text.now) ≡ replicate (512 * (20 - filled)) 0 }
+    requires text { IsCopyText filled text.now }
     ensures runs { RunsFrom (mend_unless copy (copy_of text.now)) (D.told disk.old) (D.told disk.new) (is_ok result) }
     ensures cause { HasCause (D.faults disk.old) (D.faults disk.new) result }
     ensures reads { D.read_faults disk.old ≤ D.read_faults disk.new }

@@ -4,6 +4,7 @@ ghost use Rattle.std.specs.List.{AllByRecursion};
 ghost use Rattle.vr_super.specs.Opens.{alike, copy_reading, good_copies, good_copy};
 ghost use Rattle.vr_super.specs.Copies.{value_of};
 ghost use Rattle.vr_super.specs.Seen.{IsHonest, IsRead, seen};
+ghost use Rattle.vr_disk.specs.Untouched.{Untouched};
 
 use crate::check::is_good;
 use crate::copies::reads_as;
@@ -24,8 +25,7 @@ pub struct Reading {
 fn fill<D: SectorDisk>(disk: &mut D, copy: u32, to: &mut [u8]) -> bool
     requires copy { copy < 4 }
     requires size { length to.old ≡ COPY_SIZE }
-    ensures told { D.told disk.new ≡ D.told disk.old }
-    ensures faults { D.faults disk.new ≡ D.faults disk.old }
+    ensures untouched { Untouched D.SectorDisk disk.old disk.new }
     ensures reads { D.read_faults disk.old ≤ D.read_faults disk.new }
     ensures value { IfSome (D.told disk.old) (λ d. copy_reading d.face copy ≡ (if result then Some to.new else None)) }
 {
@@ -49,8 +49,7 @@ fn known(earlier: &[Reading], bytes: &[u8; COPY_SIZE]) -> Option<bool>
 fn is_good_beside<D: SectorDisk>(disk: &mut D, bytes: &[u8; COPY_SIZE], earlier: &[Reading]) -> bool
     requires { AllByRecursion IsHonest earlier.now }
     ensures value { result ≡ is_some (value_of bytes.now) }
-    ensures told { D.told disk.new ≡ D.told disk.old }
-    ensures faults { D.faults disk.new ≡ D.faults disk.old }
+    ensures untouched { Untouched D.SectorDisk disk.old disk.new }
     ensures reads { D.read_faults disk.new ≡ D.read_faults disk.old }
 {
     match known(earlier, bytes) {
@@ -63,8 +62,7 @@ fn is_good_beside<D: SectorDisk>(disk: &mut D, bytes: &[u8; COPY_SIZE], earlier:
 fn read_beside<D: SectorDisk>(disk: &mut D, copy: u32, earlier: &[Reading], to: &mut Reading)
     requires copy { copy < 4 }
     requires honest { AllByRecursion IsHonest earlier.now }
-    ensures told { D.told disk.new ≡ D.told disk.old }
-    ensures faults { D.faults disk.new ≡ D.faults disk.old }
+    ensures untouched { Untouched D.SectorDisk disk.old disk.new }
     ensures reads { D.read_faults disk.old ≤ D.read_faults disk.new }
     ensures honest { IsHonest to.new }
     ensures value { IfSome (D.told disk.old) (λ d. seen to.new ≡ good_copy d.face copy) }
@@ -78,8 +76,7 @@ fn read_copy<D: SectorDisk>(disk: &mut D, copy: u32, readings: &mut [Reading])
     requires copy { copy < 4 }
     requires size { length readings.old ≡ 4 }
     requires honest { AllByRecursion IsHonest (take copy readings.old) }
-    ensures told { D.told disk.new ≡ D.told disk.old }
-    ensures faults { D.faults disk.new ≡ D.faults disk.old }
+    ensures untouched { Untouched D.SectorDisk disk.old disk.new }
     ensures reads { D.read_faults disk.old ≤ D.read_faults disk.new }
     ensures read { IsRead copy (D.told disk.old) readings.old readings.new }
 {
@@ -99,8 +96,7 @@ pub fn unread() -> [Reading; 4] {
 /// Reads all four copies, each in its place: they are large, and aren't handed out.
 pub fn read_all<D: SectorDisk>(disk: &mut D, readings: &mut [Reading])
     requires { length readings.old ≡ 4 }
-    ensures told { D.told disk.new ≡ D.told disk.old }
-    ensures faults { D.faults disk.new ≡ D.faults disk.old }
+    ensures untouched { Untouched D.SectorDisk disk.old disk.new }
     ensures reads { D.read_faults disk.old ≤ D.read_faults disk.new }
     ensures size { length readings.new ≡ 4 }
     ensures honest { AllByRecursion IsHonest readings.new }
@@ -116,8 +112,7 @@ pub fn read_all<D: SectorDisk>(disk: &mut D, readings: &mut [Reading])
 #[tactic(auto, unfolding(crate::specs::Opens::alike))]
 pub fn read_alike<D: SectorDisk>(disk: &mut D, to: &mut [u8]) -> bool
     requires { length to.old ≡ COPY_SIZE }
-    ensures told { D.told disk.new ≡ D.told disk.old }
-    ensures faults { D.faults disk.new ≡ D.faults disk.old }
+    ensures untouched { Untouched D.SectorDisk disk.old disk.new }
     ensures reads { D.read_faults disk.old ≤ D.read_faults disk.new }
     ensures value { IfSome (D.told disk.old) (λ d. alike d.face ≡ (if result then Some to.new else None)) }
 {

@@ -10,6 +10,7 @@ ghost use Rattle.vr_super.specs.Laws.{MendKeeps, Mended};
 ghost use Rattle.vr_super.specs.Opens.{four, good_copies, if_good, opens};
 ghost use Rattle.vr_super.specs.Recovers.{Chosen, Finds, IsFound, RecoversFrom, copy_verdict};
 ghost use Rattle.vr_super.specs.Seen.{IsHonest, seen};
+ghost use Rattle.vr_disk.specs.Untouched.{Untouched};
 
 use crate::Super;
 use crate::check::{is_good, version_at};
@@ -97,8 +98,7 @@ fn choose_alike<D: SectorDisk>(
     bytes: &[u8],
 ) -> Result<Super, FindFault>
     requires { length bytes.now ≡ COPY_SIZE }
-    ensures told { D.told disk.new ≡ D.told disk.old }
-    ensures faults { D.faults disk.new ≡ D.faults disk.old }
+    ensures untouched { Untouched D.SectorDisk disk.old disk.new }
     ensures reads { D.read_faults disk.new ≡ D.read_faults disk.old }
     ensures value { Chosen (four (if_good (Some bytes.now))) result }
 {
@@ -122,8 +122,7 @@ fn choose(alloc: Global, readings: &[Reading; 4]) -> Result<Super, FindFault>
 
 // The value that the disk opens as, where its copies may differ.
 fn choose_apart<D: SectorDisk>(alloc: Global, disk: &mut D) -> Result<Super, FindFault>
-    ensures told { D.told disk.new ≡ D.told disk.old }
-    ensures faults { D.faults disk.new ≡ D.faults disk.old }
+    ensures untouched { Untouched D.SectorDisk disk.old disk.new }
     ensures reads { D.read_faults disk.old ≤ D.read_faults disk.new }
     ensures value { IfSome (D.told disk.old) (λ d. Chosen (good_copies d.face) result) }
 {
@@ -134,8 +133,7 @@ fn choose_apart<D: SectorDisk>(alloc: Global, disk: &mut D) -> Result<Super, Fin
 
 /// The value that the disk opens as. It writes nothing.
 pub fn find<D: SectorDisk>(alloc: Global, disk: &mut D) -> Result<FoundValue, FindFault>
-    ensures told { D.told disk.new ≡ D.told disk.old }
-    ensures faults { D.faults disk.new ≡ D.faults disk.old }
+    ensures untouched { Untouched D.SectorDisk disk.old disk.new }
     ensures reads { D.read_faults disk.old ≤ D.read_faults disk.new }
     ensures value { IfSome (D.told disk.old) (λ d. Finds d.face result) }
 {

@@ -3,6 +3,7 @@ ghost use Rattle.std.specs.Prelude.{◌≡◌, ◌≤◌, ◌+◌, ◌-◌, ◌*
 ghost use Rattle.vr_base.specs.Causes.{HasCause};
 ghost use Rattle.vr_disk.specs.DiskState.{Runs, Sync};
 ghost use Rattle.vr_disk.specs.Sectors.{has, together, writes};
+ghost use Rattle.vr_disk.specs.Untouched.{Untouched};
 
 use vr_disk::{
     DiskFailed, SECTOR_SIZE, SECTORS, SectorDisk, are_zeros, sectors_read_as, write_sectors,
@@ -65,9 +66,8 @@ pub fn read_filled<D: SectorDisk>(
     requires size { length bytes.now ≡ 512 * count }
     requires filled { filled ≤ count }
     requires zeros { drop (512 * filled) bytes.now ≡ replicate (512 * (count - filled)) 0 }
-    ensures told { D.told disk.new ≡ D.told disk.old }
+    ensures untouched { Untouched D.SectorDisk disk.old disk.new }
     ensures value { IfSome (D.told disk.old) (λ d. result ≡ has bytes.now (together at count d.face)) }
-    ensures faults { D.faults disk.new ≡ D.faults disk.old }
     ensures reads { D.read_faults disk.old ≤ D.read_faults disk.new }
 {
     let (front, _) = bytes.split_at(SECTOR_SIZE * filled as usize);

@@ -1,14 +1,15 @@
 //! Mending and writing a value.
-ghost use Rattle.std.specs.Prelude.{◌≡◌, ◌≤◌, ◌<◌, ◌-◌, ◌*◌, [], drop, length, replicate, IfErr, IfSome, is_ok, Some};
+ghost use Rattle.std.specs.Prelude.{◌≡◌, ◌≤◌, ◌<◌, [], length, IfErr, IfSome, is_ok, Some};
 ghost use Rattle.vr_base.specs.Causes.{HasCause};
 ghost use Rattle.vr_disk.specs.DiskState.{Runs, RunsFrom};
 ghost use Rattle.vr_super.specs.Calls.{mend_calls, mend_from, save_from, write_calls};
-ghost use Rattle.vr_super.specs.Copies.{IsGood, copy_bytes, copy_of};
+ghost use Rattle.vr_super.specs.Copies.{IsCopyText, IsGood, copy_bytes, copy_of};
 ghost use Rattle.vr_super.specs.Laws.{WriteLeads, Written};
 ghost use Rattle.vr_super.specs.Opens.{opens};
+ghost use Rattle.vr_disk.specs.Untouched.{Untouched};
 
 use crate::copies::{mend_unless, write_copy};
-use crate::places::{TEXT_LIST_AT, TEXT_SIZE};
+use crate::places::TEXT_LIST_AT;
 use crate::{Super, SuperFault};
 use vr_base::sum_at;
 use vr_disk::{COPIES, DiskFailed, DiskFault, Room, SectorDisk};
@@ -16,10 +17,7 @@ use vr_header::{HEADER_SIZE, NAMED_AT};
 
 // Mends each copy that doesn't read as that of this text, of which so many sectors stand in front of zeros.
 fn mend<D: SectorDisk>(disk: &mut D, filled: u32, text: &[u8]) -> Result<(), DiskFailed>
-    requires size { length text.now ≡ TEXT_SIZE }
-    requires least { 1 ≤ filled }
-    requires filled { filled ≤ 20 }
-    requires zeros { drop (512 * filled) (copy_of text.now) ≡ replicate (512 * (20 - filled)) 0 }
+    requires text { IsCopyText filled text.now }
     ensures runs { RunsFrom (mend_from 0 4 (copy_of text.now)) (D.told disk.old) (D.told disk.new) (is_ok result) }
     ensures cause { HasCause (D.faults disk.old) (D.faults disk.new) result }
     ensures reads { D.read_faults disk.old ≤ D.read_faults disk.new }
@@ -33,10 +31,7 @@ fn mend<D: SectorDisk>(disk: &mut D, filled: u32, text: &[u8]) -> Result<(), Dis
 // Writes all four copies of this text, of which so many sectors stand in front of zeros.
 #[tactic(auto, using(vr_disk::proofs::Running::Runs_then, vr_disk::proofs::Running::Runs_stopped))]
 fn save<D: SectorDisk>(disk: &mut D, filled: u32, text: &[u8]) -> Result<(), DiskFailed>
-    requires size { length text.now ≡ TEXT_SIZE }
-    requires least { 1 ≤ filled }
-    requires filled { filled ≤ 20 }
-    requires zeros { drop (512 * filled) (copy_of text.now) ≡ replicate (512 * (20 - filled)) 0 }
+    requires text { IsCopyText filled text.now }
     ensures runs { Runs (save_from 0 4 (copy_of text.now)) (D.told disk.old) (D.told disk.new) (is_ok result) }
     ensures cause { HasCause (D.faults disk.old) (D.faults disk.new) result }
     ensures others { D.read_faults disk.new ≡ D.read_faults disk.old }
@@ -61,8 +56,7 @@ pub fn mend_value<D: SectorDisk>(disk: &mut D, value: &Super) -> Result<(), Disk
 #[tactic(auto, unfolding(vr_base::specs::Bytes::piece))]
 fn keep_header<D: SectorDisk>(disk: &mut D, value: &Super, at: usize)
     requires { at < length value.now.headers }
-    ensures told { D.told disk.new ≡ D.told disk.old }
-    ensures faults { D.faults disk.new ≡ D.faults disk.old }
+    ensures untouched { Untouched D.SectorDisk disk.old disk.new }
     ensures reads { D.read_faults disk.new ≡ D.read_faults disk.old }
 {
     let text = value.text();
@@ -76,8 +70,7 @@ fn keep_header<D: SectorDisk>(disk: &mut D, value: &Super, at: usize)
 
 // The disk keeps each header of a value's list with its name.
 fn keep_names<D: SectorDisk>(disk: &mut D, value: &Super)
-    ensures told { D.told disk.new ≡ D.told disk.old }
-    ensures faults { D.faults disk.new ≡ D.faults disk.old }
+    ensures untouched { Untouched D.SectorDisk disk.old disk.new }
     ensures reads { D.read_faults disk.new ≡ D.read_faults disk.old }
 {
     for at in 0..value.headers().len() {
@@ -88,8 +81,7 @@ fn keep_names<D: SectorDisk>(disk: &mut D, value: &Super)
 // The disk keeps the bytes of a header of its list with their name, unless an old value has it: then it was kept already.
 fn keep_new_header<D: SectorDisk>(disk: &mut D, old: &Super, value: &Super, at: usize)
     requires { at < length value.now.headers }
-    ensures told { D.told disk.new ≡ D.told disk.old }
-    ensures faults { D.faults disk.new ≡ D.faults disk.old }
+    ensures untouched { Untouched D.SectorDisk disk.old disk.new }
     ensures reads { D.read_faults disk.new ≡ D.read_faults disk.old }
 {
     if !old.lists(&value.headers()[at]) {
@@ -99,8 +91,7 @@ fn keep_new_header<D: SectorDisk>(disk: &mut D, old: &Super, value: &Super, at: 
 
 // The disk keeps each header of a value's list with its name, but those that the old value has.
 fn keep_new_names<D: SectorDisk>(disk: &mut D, old: &Super, value: &Super)
-    ensures told { D.told disk.new ≡ D.told disk.old }
-    ensures faults { D.faults disk.new ≡ D.faults disk.old }
+    ensures untouched { Untouched D.SectorDisk disk.old disk.new }
     ensures reads { D.read_faults disk.new ≡ D.read_faults disk.old }
 {
     for at in 0..value.headers().len() {

@@ -79,6 +79,14 @@ parts_text parts = or_dash (letters_of parts)
 abbrev pub entry_text : ℕ → ℕ → List ℕ
 entry_text op made = numbered (codes "op ") op ++ numbered (codes " made ") made
 
+-- the last op of a log, and its commit number
+abbrev pub head_text : ℕ → ℕ → List ℕ
+head_text head commit = numbered (codes " op ") head ++ numbered (codes " commit ") commit
+
+-- the view of a log, its commit number, and its last op
+abbrev pub log_text : ℕ → ℕ → ℕ → List ℕ
+log_text log_view commit head = numbered (codes " log ") log_view ++ numbered (codes " commit ") commit ++ numbered (codes " head ") head
+
 -- a statement's Parts stand from its first op on, and are told from the op after its commit number on
 abbrev pub stated : Statement → List Part
 stated s = drop (s.commit + 1 - s.body.first) s.body.parts

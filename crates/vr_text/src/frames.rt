@@ -5,7 +5,7 @@ ghost use Rattle.vr_text.specs.Fronts.{IsFront};
 ghost use Rattle.vr_text.specs.Text.{commit_text, do_view_change_text, frame_text, get_prepare_text, give_prepare_text, prepare_ok_text, prepare_text, start_view_text, stated, statement_text, sync_view_text};
 
 use crate::parts::put_parts;
-use crate::texts::{put, put_entry, put_number, put_view};
+use crate::texts::{put, put_entry, put_head, put_log, put_number, put_view};
 use std::alloc::AllocError;
 use vr_base::ByteList;
 use vr_header::Part;
@@ -42,8 +42,7 @@ fn put_commit(to: &mut ByteList, c: &Commit) -> Result<(), AllocError>
     ensures front { IsFront to.old to.new }
 {
     put_view(to, "commit", c.view)?;
-    put_number(to, " op ", c.head)?;
-    put_number(to, " commit ", c.commit)
+    put_head(to, c.head, c.commit)
 }
 
 #[tactic(auto, using(std::proofs::lemmas::Grind::common_steps, crate::proofs::Fronts::front_then), unfolding(crate::specs::Text::start_view_text))]
@@ -52,8 +51,7 @@ fn put_start_view(to: &mut ByteList, v: &StartView) -> Result<(), AllocError>
     ensures front { IsFront to.old to.new }
 {
     put_view(to, "start_view", v.view)?;
-    put_number(to, " op ", v.head)?;
-    put_number(to, " commit ", v.commit)
+    put_head(to, v.head, v.commit)
 }
 
 #[tactic(auto, using(std::proofs::lemmas::Grind::common_steps, crate::proofs::Fronts::front_then), unfolding(crate::specs::Text::sync_view_text))]
@@ -62,8 +60,7 @@ fn put_sync_view(to: &mut ByteList, v: &SyncView) -> Result<(), AllocError>
     ensures front { IsFront to.old to.new }
 {
     put_view(to, "sync_view", v.view)?;
-    put_number(to, " op ", v.head)?;
-    put_number(to, " commit ", v.commit)?;
+    put_head(to, v.head, v.commit)?;
     put_number(to, " checkpoint ", v.checkpoint)
 }
 
@@ -75,9 +72,7 @@ fn put_statement(to: &mut ByteList, s: &Statement) -> Result<(), AllocError>
     ensures text { OnOk result (to.new ≡ to.old ++ statement_text s.now) }
     ensures front { IsFront to.old to.new }
 {
-    put_number(to, " log ", u64::from(s.log_view))?;
-    put_number(to, " commit ", s.commit)?;
-    put_number(to, " head ", s.head)?;
+    put_log(to, s.log_view, s.commit, s.head)?;
     put(to, " parts ")?;
     put_parts(to, stated(s))
 }

@@ -7,7 +7,7 @@ ghost use Rattle.vr_text.specs.Text.{chosen_text, committed_text, kind_text, lin
 
 use crate::frames::put_frame;
 use crate::parts::put_parts;
-use crate::texts::{put, put_client, put_number, put_operation, put_outcome};
+use crate::texts::{put, put_client, put_log, put_number, put_operation, put_outcome};
 use std::alloc::{AllocError, Global};
 use vr_base::ByteList;
 use vr_msg::{Chosen, Committed, Output, Reply, ReplyKind, Sent, Started, Waiting};
@@ -78,9 +78,7 @@ fn put_chosen(to: &mut ByteList, c: &Chosen) -> Result<(), AllocError>
 {
     put_number(to, "choose ", u64::from(c.replica))?;
     put_number(to, " view ", u64::from(c.view))?;
-    put_number(to, " log ", u64::from(c.log_view))?;
-    put_number(to, " commit ", c.commit)?;
-    put_number(to, " head ", c.head)?;
+    put_log(to, c.log_view, c.commit, c.head)?;
     put(to, " own ")?;
     put_parts(to, c.own.as_slice())
 }

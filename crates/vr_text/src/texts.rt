@@ -3,7 +3,7 @@ ghost use Rattle.std.specs.Fmt.{decimal};
 ghost use Rattle.std.specs.Prelude.{◌≡◌, ◌++◌, ◌<◌, OnOk};
 ghost use Rattle.vr_header.specs.Bodies.{IsOperation, IsOutcome};
 ghost use Rattle.vr_text.specs.Fronts.{IsFront};
-ghost use Rattle.vr_text.specs.Text.{client_text, entry_text, numbered, operation_text, outcome_text, viewed};
+ghost use Rattle.vr_text.specs.Text.{client_text, entry_text, head_text, log_text, numbered, operation_text, outcome_text, viewed};
 
 use itoa::Buffer;
 use std::alloc::AllocError;
@@ -45,6 +45,17 @@ pub fn put_number(to: &mut ByteList, words: &str, n: u64) -> Result<(), AllocErr
     }
 }
 
+/// Words with bytes after them.
+#[inline(always)]
+#[tactic(auto, using(std::proofs::lemmas::Grind::common_steps, crate::proofs::Fronts::front_then))]
+fn put_behind(to: &mut ByteList, words: &str, bytes: &[u8]) -> Result<(), AllocError>
+    ensures text { OnOk result (to.new ≡ to.old ++ words.now ++ bytes.now) }
+    ensures front { IsFront to.old to.new }
+{
+    put(to, words)?;
+    put_bytes(to, bytes)
+}
+
 /// A number below 10, at the end.
 #[inline(always)]
 #[tactic(auto, using(std::proofs::lemmas::Grind::common_steps, std::proofs::lemmas::Fmt::decimal_digit, crate::proofs::Fronts::front_grown))]
@@ -84,6 +95,27 @@ pub fn put_entry(to: &mut ByteList, op: u64, made: u32) -> Result<(), AllocError
     put_number(to, " made ", u64::from(made))
 }
 
+/// The last op of a log and its commit number.
+#[tactic(auto, using(std::proofs::lemmas::Grind::common_steps, crate::proofs::Fronts::front_then))]
+pub fn put_head(to: &mut ByteList, head: u64, commit: u64) -> Result<(), AllocError>
+    ensures text { OnOk result (to.new ≡ to.old ++ head_text head commit) }
+    ensures front { IsFront to.old to.new }
+{
+    put_number(to, " op ", head)?;
+    put_number(to, " commit ", commit)
+}
+
+/// The view of a log, its commit number and its last op.
+#[tactic(auto, using(std::proofs::lemmas::Grind::common_steps, crate::proofs::Fronts::front_then))]
+pub fn put_log(to: &mut ByteList, log_view: u32, commit: u64, head: u64) -> Result<(), AllocError>
+    ensures text { OnOk result (to.new ≡ to.old ++ log_text log_view commit head) }
+    ensures front { IsFront to.old to.new }
+{
+    put_number(to, " log ", u64::from(log_view))?;
+    put_number(to, " commit ", commit)?;
+    put_number(to, " head ", head)
+}
+
 /// A client, and the number of its request.
 #[tactic(auto, using(std::proofs::lemmas::Grind::common_steps, crate::proofs::Fronts::front_then))]
 pub fn put_client(to: &mut ByteList, client: u64, request: u32) -> Result<(), AllocError>
@@ -105,19 +137,11 @@ pub fn put_operation(to: &mut ByteList, operation: &Operation) -> Result<(), All
     match operation {
         Operation::Register => put(to, "register"),
         Operation::Put(key, value) => {
-            put(to, "put ")?;
-            put_bytes(to, key.as_slice())?;
-            put(to, " ")?;
-            put_bytes(to, value.as_slice())
+            put_behind(to, "put ", key.as_slice())?;
+            put_behind(to, " ", value.as_slice())
         }
-        Operation::Get(key) => {
-            put(to, "get ")?;
-            put_bytes(to, key.as_slice())
-        }
-        Operation::Delete(key) => {
-            put(to, "del ")?;
-            put_bytes(to, key.as_slice())
-        }
+        Operation::Get(key) => put_behind(to, "get ", key.as_slice()),
+        Operation::Delete(key) => put_behind(to, "del ", key.as_slice()),
     }
 }
 
@@ -133,9 +157,6 @@ pub fn put_outcome(to: &mut ByteList, outcome: &Outcome) -> Result<(), AllocErro
         Outcome::Ok => put(to, "ok"),
         Outcome::Full => put(to, "full"),
         Outcome::Absent => put(to, "absent"),
-        Outcome::Value(value) => {
-            put(to, "value ")?;
-            put_bytes(to, value.as_slice())
-        }
+        Outcome::Value(value) => put_behind(to, "value ", value.as_slice()),
     }
 }

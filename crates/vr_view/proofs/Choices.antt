@@ -92,8 +92,6 @@ choice_small r b d o e t =
     let same : decided r ≡ TooFew = few_of (quorums_of r.n) (stated r) (sym e ∙ t) in
     subst (λ (x : Choice). Does (obey_choice (stated r) x) r r d d o o (Ok tt)) (sym same) (does_quiet r d o)
 
-pub ruleset choices = (choice_small, choice_few, choice_waits, choice_ends)
-
 -- ---- whether it chooses
 
 module _ (r : Replica) (b : Bool) where

@@ -16,7 +16,7 @@ use vr_disk::SectorDisk;
 use vr_msg::{Outbox, StartViewChange};
 
 /// What a start_view_change leads to.
-#[derive(Clone, Copy, Debug, PartialEq, Eq)]
+#[derive(Clone, Copy)]
 pub enum ChangeRule {
     /// It isn't from another replica of the group, or tells nothing new.
     Ignored,

@@ -14,7 +14,7 @@ use vr_disk::SectorDisk;
 use vr_msg::{GetSync, Outbox};
 
 /// What a get_sync leads to.
-#[derive(Clone, Copy, Debug, PartialEq, Eq)]
+#[derive(Clone, Copy)]
 pub enum SyncRule {
     /// It isn't from another replica of the group, or the replica doesn't lead a view that is late enough, or has no checkpoint that its log
     /// reaches down to.

@@ -19,7 +19,7 @@ use vr_disk::SectorDisk;
 use vr_msg::{Outbox, SyncView};
 
 /// What a sync_view leads to.
-#[derive(Clone, Copy, Debug, PartialEq, Eq)]
+#[derive(Clone, Copy)]
 pub enum JumpRule {
     /// It isn't from the primary of its view, or its log and checkpoint may not be taken over.
     Ignored,
@@ -71,7 +71,7 @@ fn jump<D: SectorDisk>(
 // In this order: log and checkpoint are taken over, and saved. Each op above the commit number up to the head, ascending, if `Here`, is
 // acknowledged to the primary by a prepare_ok. Nothing is applied, since the root is missing now. `MayJump`: the message may be jumped to,
 // and its root is in the grid. After an `Err` the disk has had its calls up to the stop; of replica and outputs nothing is said.
-#[tactic(auto, using(vr_rules::proofs::Stepping::steps, crate::proofs::Jumps::view_low, crate::proofs::Jumps::head_small))]
+#[tactic(auto, using(crate::proofs::Jumps::view_low, crate::proofs::Jumps::head_small))]
 fn follow<D: SectorDisk>(
     replica: &mut Replica,
     alloc: Global,

@@ -22,7 +22,7 @@ use vr_disk::SectorDisk;
 use vr_msg::{GetView, Outbox, StartView};
 
 /// What a start_view leads to.
-#[derive(Clone, Copy, Debug, PartialEq, Eq)]
+#[derive(Clone, Copy)]
 pub enum StartRule {
     /// It isn't from the primary of its view, or its log may not be taken over.
     Ignored,
@@ -33,7 +33,7 @@ pub enum StartRule {
 }
 
 /// What a get_view leads to.
-#[derive(Clone, Copy, Debug, PartialEq, Eq)]
+#[derive(Clone, Copy)]
 pub enum ViewRule {
     /// It isn't from another replica of the group, or the replica doesn't lead a view that is late enough.
     Ignored,
@@ -107,7 +107,7 @@ pub fn decide_get_view(replica: &Replica, get: &GetView) -> ViewRule
 // ascending, if `Here`, a prepare_ok goes to the primary. Then what is committed is applied. `MayTake`:
 // the log is newer, fits and is a chain. After an `Err` the disk has had its calls up to the stop; of
 // replica and outputs nothing is said.
-#[tactic(auto, using(vr_rules::proofs::Stepping::steps, crate::proofs::Takes::taken_low, crate::proofs::Choices::head_small, vr_actions::proofs::Acks::told_to))]
+#[tactic(auto, using(crate::proofs::Takes::taken_low, crate::proofs::Choices::head_small))]
 fn follow<D: SectorDisk>(
     replica: &mut Replica,
     alloc: Global,

@@ -21,7 +21,7 @@ use vr_header::Part;
 use vr_msg::{DoViewChange, DvcBody, Outbox, Statement};
 
 /// What a do_view_change leads to.
-#[derive(Clone, Copy, Debug, PartialEq, Eq)]
+#[derive(Clone, Copy)]
 pub enum StateRule {
     /// It isn't from another replica of the group.
     Ignored,

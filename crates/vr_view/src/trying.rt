@@ -4,6 +4,7 @@ ghost use Rattle.vr_base.specs.Replicas.{size};
 ghost use Rattle.vr_volatile.specs.Ready.{IsReady};
 ghost use Rattle.vr_rules.specs.Replica.{is_alone, is_primary, is_started, last_view, view_change};
 ghost use Rattle.vr_rules.specs.Words.{advance, apply, begin_view, choose_line, chosen_log, decided, log_end, obey_choice, prepare_again, speak, stated, try, try_log};
+ghost use Rattle.vr_msg.specs.declared.choice.Choice.TheVariants as Choice;
 ghost use Rattle.vr_view.specs.Logs.{IsTaught, MayTake};
 ghost use Rattle.vr_actions.specs.Telling.{each_to};
 ghost use Rattle.vr_actions.specs.Acts.{Acts, MayAct, MaySend};
@@ -138,7 +139,7 @@ fn apply_log<D: SectorDisk>(
 // to each other replica; one that doesn't read becomes `Lost`. Then what is committed is applied; in a
 // group of one what is `Here` counts as committed first. After an `Err` the disk has had its calls up
 // to the stop; of replica and outputs nothing is said.
-#[tactic(auto, using(vr_rules::proofs::Stepping::steps, crate::proofs::Takes::taken_low, crate::proofs::Choices::head_small, crate::proofs::Choices::begins))]
+#[tactic(auto, using(crate::proofs::Takes::taken_low, crate::proofs::Choices::head_small))]
 fn begin_view<D: SectorDisk>(
     replica: &mut Replica,
     alloc: Global,
@@ -195,11 +196,62 @@ fn are_too_few(replica: &Replica) -> bool
     }
 }
 
-// What the statements of the group, its own among them, decide is obeyed. Too few: nothing; a wait: one
-// `wait` line with its op. An end: where the chosen log may be taken, the view begins with it
-// (`begin_view`); else one `wait` line with the log's head. After an `Err` the disk has had its calls
-// up to the stop; of replica and outputs nothing is said.
-#[tactic(auto, using(crate::proofs::Choices::choices, crate::proofs::Choices::chosen_taught, vr_volatile::proofs::Memory::window_of, vr_rules::proofs::Stepping::wants))]
+// The chosen log is the one of these headers. Where it may be taken, the view begins with it
+// (`begin_view`); else one `wait` line with its head is put out. After an `Err` the disk has had its
+// calls up to the stop; of replica and outputs nothing is said.
+fn try_chosen<D: SectorDisk>(
+    replica: &mut Replica,
+    alloc: Global,
+    disk: &mut D,
+    statements: &Seq<Statement>,
+    headers: &HeaderList,
+    out: &mut Outbox,
+) -> Result<(), Halt>
+    requires send { MaySend 65 replica.old }
+    requires stated { statements.now ≡ stated replica.old }
+    requires chosen { decided replica.old ≡ Choice.Ends headers.now }
+    ensures { Acts D.SectorDisk (obey_choice (stated replica.old) (decided replica.old)) replica.old replica.new disk.old disk.new out.old out.new result }
+{
+    let log = chosen_log(replica, statements, headers);
+    try_log(replica, alloc, disk, statements, &log, out)
+}
+
+// What these statements decide is obeyed, which are those of the group, the replica's own among them.
+// Too few: nothing; a wait: one `wait` line with its op. An end: where the chosen log may be taken, the
+// view begins with it (`begin_view`); else one `wait` line with the log's head. After an `Err` the disk
+// has had its calls up to the stop; of replica and outputs nothing is said.
+#[tactic(auto, using(crate::proofs::Choices::choice_few, crate::proofs::Choices::choice_waits, vr_rules::proofs::Stepping::wants))]
+fn obey_choice<D: SectorDisk>(
+    replica: &mut Replica,
+    alloc: Global,
+    disk: &mut D,
+    statements: &Seq<Statement>,
+    out: &mut Outbox,
+) -> Result<(), Halt>
+    requires send { MaySend 65 replica.old }
+    requires stated { statements.now ≡ stated replica.old }
+    ensures { Acts D.SectorDisk (obey_choice (stated replica.old) (decided replica.old)) replica.old replica.new disk.old disk.new out.old out.new result }
+{
+    match decide(replica, alloc, statements)? {
+        Choice::TooFew => Ok(()),
+        Choice::WaitsAt(op) => {
+            replica.tell_wait(op, out)?;
+            Ok(())
+        }
+        Choice::Ends(headers) => {
+            let tried = try_chosen(replica, alloc, disk, statements, &headers, out);
+            drop(headers);
+            tried
+        }
+    }
+}
+
+// Where fewer have stated than a view-change quorum, nothing is done. Else what the statements of the
+// group, its own among them, decide is obeyed. A wait: one `wait` line with its op. An end: where the
+// chosen log may be taken, the view begins with it (`begin_view`); else one `wait` line with the log's
+// head. After an `Err` the disk has had its calls up to the stop; of replica and outputs nothing is
+// said.
+#[tactic(auto, using(crate::proofs::Choices::choice_small, vr_volatile::proofs::Memory::window_of, vr_rules::proofs::Stepping::wants))]
 fn choose_log<D: SectorDisk>(
     replica: &mut Replica,
     alloc: Global,
@@ -213,17 +265,9 @@ fn choose_log<D: SectorDisk>(
         return Ok(());
     }
     let statements = replica.stated(alloc)?;
-    match decide(replica, alloc, &statements)? {
-        Choice::TooFew => Ok(()),
-        Choice::WaitsAt(op) => {
-            replica.tell_wait(op, out)?;
-            Ok(())
-        }
-        Choice::Ends(headers) => {
-            let log = chosen_log(replica, &statements, &headers);
-            try_log(replica, alloc, disk, &statements, &log, out)
-        }
-    }
+    let obeyed = obey_choice(replica, alloc, disk, &statements, out);
+    drop(statements);
+    obeyed
 }
 
 // Whether the replica is the primary of its view, and that isn't started.

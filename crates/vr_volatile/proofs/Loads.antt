@@ -1,5 +1,5 @@
 -- A state that was loaded, or none.
-use Rattle.std.proofs.Common.{◌≡◌, refl, List, [], ◌∷◌, Some, None, Ok, ℕ, true, false}
+use Rattle.std.proofs.Common.{◌≡◌, refl, [], ◌∷◌, Some, None, Ok, ℕ, true, false}
 use Rattle.vr_state.specs.declared.texts.Texts.{Texts}
 use Rattle.vr_state.specs.declared.state.State.{State}
 use Rattle.vr_state.specs.StateTexts.{state_decoded}
@@ -9,7 +9,6 @@ use Rattle.vr_state.specs.declared.fault.StateFault.TheVariants as fault
 use Rattle.vr_state.specs.Table.{IsOrNoMemory}
 use Rattle.vr_ckpt.specs.declared.found.Load.TheVariants.{Loaded}
 use Rattle.vr_ckpt.specs.declared.table.PayloadTable.{PayloadTable}
-use Rattle.vr_ckpt.specs.declared.name.Name.{Name}
 use Rattle.vr_rules.specs.Replica.{Replica, version}
 use Rattle.vr_rules.specs.Words.{loads, usable, with_state, with_missing}
 
@@ -28,5 +27,5 @@ usable_err v t fault.NoMemory h n = absurd (n refl)
 pub loads_state : (t : Texts) (table : PayloadTable) (s : State) (r q : Replica) → Some s ≡ usable (version r) (state_decoded t) → q ≡ with_state table s r → q ≡ loads r.root (Loaded t table) r
 loads_state t table s r q d e = rw (← d) e
 
-pub loads_none : (t : Texts) (table : PayloadTable) (r q : Replica) (names : List Name) → None ≡ usable (version r) (state_decoded t) → names ≡ r.root ∷ [] → q ≡ with_missing names r → q ≡ loads r.root (Loaded t table) r
-loads_none t table r q names d n e = rw (← d) (rw n at e)
+pub loads_none : (t : Texts) (table : PayloadTable) (r q : Replica) → None ≡ usable (version r) (state_decoded t) → q ≡ with_missing (r.root ∷ []) r → q ≡ loads r.root (Loaded t table) r
+loads_none t table r q d e = rw (← d) e

@@ -1,8 +1,9 @@
 //! What an entry that is applied changes and answers, and how the window moves up with a checkpoint.
 ghost use Rattle.std.specs.Prelude.{◌≡◌, ◌<◌, ◌≤◌, ◌-◌, ◌++◌, ◌&&◌, nat_lt, OnOk, true, if◌then◌else◌, []};
+ghost use Rattle.vr_header.specs.Made.{IsEntry};
 ghost use Rattle.vr_msg.specs.Asking.{IsKindValue, IsReplyKind};
 ghost use Rattle.vr_rules.specs.Replica.{last_view, leads, version};
-ghost use Rattle.vr_rules.specs.Outputs.{replies, kind_of, commit_line, applied_reply};
+ghost use Rattle.vr_rules.specs.Outputs.{asker_of, replies, kind_of, commit_line, applied_reply};
 ghost use Rattle.vr_rules.specs.Words.{with_checkpoint, is_checkpoint, is_loaded, applied};
 ghost use Rattle.vr_volatile.specs.Ready.{IsReady, MayApply, HasApplied};
 
@@ -115,6 +116,28 @@ impl Replica {
         }
     }
 
+    // Tells of an entry that is applied: its line, and at the primary the reply to it. Both are let go of here.
+    #[tactic(auto, using(crate::proofs::Applies::told_applied))]
+    fn tell_applied(
+        &self,
+        entry: Entry,
+        body: ReplyBody,
+        out: &mut Outbox,
+    ) -> Result<(), AllocError>
+        requires member { 0 < self.now.n }
+        requires view { leads self.now ≡ true → self.now.view ≤ last_view }
+        requires kind { IsEntry entry → IsReplyKind (kind_of body) }
+        requires fits { IsKindValue (version self.now) (kind_of body) }
+        ensures { OnOk result (out.new ≡ out.old ++ (commit_line entry self.now ++ (if leads self.now then replies (asker_of entry) (kind_of body) self.now else []))) }
+    {
+        let header = entry.header();
+        out.push(Output::Commit(Committed {
+            replica: self.index,
+            entry,
+        }))?;
+        self.reply_applied(&header, body, out)
+    }
+
     /// Applies an entry to the state, and tells of it.
     #[tactic(auto, using(crate::proofs::Applies::said_applied))]
     pub fn apply_state(&mut self, entry: Entry, out: &mut Outbox) -> Result<(), NoMemory>
@@ -124,13 +147,8 @@ impl Replica {
         ensures view { OnOk result (self.new.view ≡ self.old.view) }
         ensures saved { OnOk result (self.new.saved ≡ self.old.saved) }
     {
-        let header = entry.header();
         let body = self.state.apply(&entry)?;
-        out.push(Output::Commit(Committed {
-            replica: self.index,
-            entry,
-        }))?;
-        self.reply_applied(&header, body, out)?;
+        self.tell_applied(entry, body, out)?;
         self.applied += 1;
         Ok(())
     }

@@ -53,18 +53,18 @@ struct Space {
 }
 
 impl Space {
-    // Space for so many ops, of which nothing is known, in a group of n.
+    // Space for so many ops, of which nothing is known, in a group of n. What has fewer kinds to be let go of is taken first.
     fn new(alloc: Global, count: usize, n: u8) -> Result<Space, NoMemory>
         requires { count ≤ WINDOW_ROOM }
         ensures parts { IfOk result (λ space. space.parts ≡ replicate count Nothing) }
         ensures ackers { IfOk result (λ space. space.ackers ≡ replicate count no_replicas) }
         ensures statements { IfOk result (λ space. space.statements ≡ replicate n None) }
     {
+        let buffer = Buffer::new(alloc)?;
+        let ackers = Window::full(alloc, Replicas::none(), count)?;
         let parts = Window::full(alloc, Part::Nothing, count)?;
         let names = Names::new(alloc)?;
-        let ackers = Window::full(alloc, Replicas::none(), count)?;
         let statements = Places::new(alloc, n)?;
-        let buffer = Buffer::new(alloc)?;
         Ok(Space {
             parts,
             names,

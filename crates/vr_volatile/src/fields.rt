@@ -5,6 +5,7 @@ ghost use Rattle.vr_header.specs.Names.{header_name};
 ghost use Rattle.vr_rules.specs.Deciding.{is_for, is_from, is_from_primary, is_known, is_named, is_unknown};
 ghost use Rattle.vr_rules.specs.Replica.{header_at, is_alone, is_primary, is_spent, is_started, leads, version};
 ghost use Rattle.vr_rules.specs.Words.{is_loaded};
+ghost use Rattle.vr_disk.specs.Untouched.{Untouched};
 
 use crate::Replica;
 use crate::group::primary;
@@ -256,8 +257,7 @@ impl Replica {
     /// Keeps the name of a header of which the disk may have it.
     pub fn keep_name<D: SectorDisk>(&mut self, disk: &mut D, header: &Header)
         ensures same { self.new ≡ self.old }
-        ensures told { D.told disk.new ≡ D.told disk.old }
-        ensures faults { D.faults disk.new ≡ D.faults disk.old }
+        ensures untouched { Untouched D.SectorDisk disk.old disk.new }
     {
         if self.names.kept(header).is_none() {
             let bytes = nameless(header);

@@ -2,7 +2,7 @@
 ghost use Rattle.std.specs.Prelude.{◌≡◌, ◌∷◌, [], IfOk, OnOk};
 ghost use Rattle.vr_state.specs.StateTexts.{state_decoded};
 ghost use Rattle.vr_ckpt.specs.declared.found.Load.{Load};
-ghost use Rattle.vr_rules.specs.Words.{loads, usable, with_state};
+ghost use Rattle.vr_rules.specs.Words.{loads, usable, with_missing, with_state};
 
 use crate::Replica;
 use std::alloc::{AllocError, Global};
@@ -19,6 +19,7 @@ fn decode(alloc: Global, texts: &Texts, version: Version) -> Result<Option<State
             if state.fits(version) {
                 Ok(Some(state))
             } else {
+                drop(state);
                 Ok(None)
             }
         }
@@ -48,6 +49,17 @@ impl Replica {
         self.missing = Seq::new(alloc);
     }
 
+    // The root counts as missing.
+    fn miss_root(&mut self, alloc: Global) -> Result<(), NoMemory>
+        ensures missing { OnOk result (self.new ≡ with_missing (self.old.root ∷ []) self.old) }
+        ensures view { OnOk result (self.new.view ≡ self.old.view) }
+        ensures saved { OnOk result (self.new.saved ≡ self.old.saved) }
+    {
+        let names = only(alloc, self.root)?;
+        self.take_missing(names);
+        Ok(())
+    }
+
     // The state that was loaded, or what is missing of it. A root without a state that can be used counts as missing.
     #[tactic(auto, using(crate::proofs::Loads::loads_state, crate::proofs::Loads::loads_none))]
     fn take_texts(
@@ -60,14 +72,22 @@ impl Replica {
         ensures view { OnOk result (self.new.view ≡ self.old.view) }
         ensures saved { OnOk result (self.new.saved ≡ self.old.saved) }
     {
-        match decode(alloc, &texts, self.version())? {
-            Some(state) => self.take_state(alloc, table, state),
-            None => {
-                let names = only(alloc, self.root)?;
-                self.take_missing(names);
+        let decoded = decode(alloc, &texts, self.version());
+        drop(texts);
+        match decoded {
+            Ok(Some(state)) => {
+                self.take_state(alloc, table, state);
+                Ok(())
+            }
+            Ok(None) => {
+                drop(table);
+                self.miss_root(alloc)
+            }
+            Err(wanted) => {
+                drop(table);
+                Err(wanted)
             }
         }
-        Ok(())
     }
 
     /// What the disk had of the checkpoint is taken: its state, or what is missing of it.

@@ -4,6 +4,7 @@ ghost use Rattle.std.specs.Option.{option_map};
 ghost use Rattle.vr_ckpt.specs.Grid.{named_at};
 ghost use Rattle.vr_rings.specs.Slots.{entry_for, whole_in};
 ghost use Rattle.vr_rules.specs.Replica.{version};
+ghost use Rattle.vr_disk.specs.Untouched.{Untouched};
 
 use crate::Replica;
 use std::alloc::Global;
@@ -23,8 +24,7 @@ impl Replica {
         header: &Header,
     ) -> Result<Option<Entry>, NoMemory>
         ensures left { self.new ≡ self.old }
-        ensures told { D.told disk.new ≡ D.told disk.old }
-        ensures faults { D.faults disk.new ≡ D.faults disk.old }
+        ensures untouched { Untouched D.SectorDisk disk.old disk.new }
         ensures value { IfSome (D.told disk.old) (λ d. IfOk result (λ e. e ≡ entry_for (version self.old) d.face header.now)) }
         ensures header { IfOk result (λ e. IfSome e (λ x. x.header ≡ header.now)) }
     {
@@ -35,8 +35,7 @@ impl Replica {
     /// Whether the slot of this header reads as its entry. It takes no memory.
     pub fn has_entry<D: SectorDisk>(&mut self, disk: &mut D, header: &Header) -> bool
         ensures left { self.new ≡ self.old }
-        ensures told { D.told disk.new ≡ D.told disk.old }
-        ensures faults { D.faults disk.new ≡ D.faults disk.old }
+        ensures untouched { Untouched D.SectorDisk disk.old disk.new }
         ensures value { IfSome (D.told disk.old) (λ d. IsTrue result ↔ (option_map (λ e. e.header) (whole_in (version self.old) d.face (header.now.op % SLOTS)) ≡ Some header.now)) }
     {
         let version = self.version();
@@ -53,8 +52,7 @@ impl Replica {
     /// Whether the block of this name can't be read whole. It takes no memory.
     pub fn is_worn<D: SectorDisk>(&mut self, disk: &mut D, name: &Name) -> bool
         ensures left { self.new ≡ self.old }
-        ensures told { D.told disk.new ≡ D.told disk.old }
-        ensures faults { D.faults disk.new ≡ D.faults disk.old }
+        ensures untouched { Untouched D.SectorDisk disk.old disk.new }
         ensures value { IfSome (D.told disk.old) (λ d. is_some (named_at d.face name.now) ≡ not result) }
     {
         vr_ckpt::worn(disk, name, &mut self.buffer)

@@ -40,7 +40,7 @@ pub struct Replica {
     pub(crate) buffer: Buffer,
 }
 
-// By hand, so that a function that lets one go calls this, in place of spelling out each field.
+// By hand, so that a function that lets one go calls this, in place of spelling out each field. So each field is let go of by a call, too.
 impl Drop for Replica {
     fn drop(self) {
         let Replica {
@@ -53,22 +53,32 @@ impl Drop for Replica {
             applied: _,
             checkpoint: _,
             root: _,
-            table: _,
-            state: _,
-            missing: _,
+            table,
+            state,
+            missing,
             first: _,
-            parts: _,
-            names: _,
-            ackers: _,
+            parts,
+            names,
+            ackers,
             heard: _,
-            statements: _,
+            statements,
             idle: _,
             turn: _,
             cursor: _,
-            worn: _,
-            saved: _,
-            buffer: _,
+            worn,
+            saved,
+            buffer,
         } = self;
+        drop(table);
+        drop(state);
+        drop(missing);
+        drop(parts);
+        drop(names);
+        drop(ackers);
+        drop(statements);
+        drop(worn);
+        drop(saved);
+        drop(buffer);
     }
 }
 

@@ -3,8 +3,8 @@ use Rattle.cmd_client.proofs.Exchanges.{later_first, later_fits}
 use Rattle.vr_header.specs.Bodies.{IsOperation}
 use Rattle.cmd_client.proofs.lines.take_line.Goals as goal
 
-pub exchange-requires : goal.exchange-requires
-exchange-requires g c =
+pub exchange-asked-requires : goal.exchange-asked-requires
+exchange-asked-requires g c =
     let h = c.in-Ok.ensures.heard in
     record {
       number = search rules;

@@ -19,8 +19,8 @@ loop-name-preserved g c =
     let n = get_or c.args.names.now c.loop-name.name-index none in
     let told = c.loop-name.invariant.told in
     record {
-      told = c.in_ok-found.ensures.told ∙ told;
-      faults = c.in_ok-found.ensures.faults ∙ c.loop-name.invariant.faults;
+      told = c.in_ok-found.ensures.untouched.told ∙ told;
+      faults = c.in_ok-found.ensures.untouched.faults ∙ c.loop-name.invariant.faults;
       reads = omega (arith, c.in_ok-found.ensures.reads, c.loop-name.invariant.reads);
       rest = λ d e.
           let found = some_if (λ (d : Disk). c.in_ok-found.found ≡ data_at d.face n c.min.result) (g.D.SectorDisk.told c.loop-name.disk) d c.in_ok-found.ensures.value (told ∙ e) in

@@ -13,10 +13,10 @@ loop-block-preserved g c =
     let i = c.loop-block.block-index in
     let b = c.block-item.result in
     let call = block_calls b.name.address b.bytes in
-    let one : Runs call (g.D.SectorDisk.told c.loop-block.disk) (g.D.SectorDisk.told c.write_at.new.disk) true = rw (c.as_slice-bytes.ensures, c.note_block.ensures.told) at c.in_ok-write_at.ensures.runs in
+    let one : Runs call (g.D.SectorDisk.told c.loop-block.disk) (g.D.SectorDisk.told c.write_at.new.disk) true = rw (c.as_slice-bytes.ensures, c.note_block.ensures.untouched.told) at c.in_ok-write_at.ensures.runs in
     record {
       runs = λ new ok h. c.loop-block.invariant.runs new ok (rw (calls_more bs i b c.loop-block-test.true c.block-item.is) (Runs_then call (blocks_calls (drop (i + 1) bs)) _ _ _ _ one h));
-      faults = c.in_ok-write_at.ensures.cause.kept ∙ (c.note_block.ensures.faults ∙ c.loop-block.invariant.faults);
+      faults = c.in_ok-write_at.ensures.cause.kept ∙ (c.note_block.ensures.untouched.faults ∙ c.loop-block.invariant.faults);
       others = c.in_ok-write_at.ensures.others ∙ (c.note_block.ensures.reads ∙ c.loop-block.invariant.others);
     }
 
@@ -27,7 +27,7 @@ returns-in_err-write_at-clause-runs g c =
     let i = c.loop-block.block-index in
     let b = c.block-item.result in
     let call = block_calls b.name.address b.bytes in
-    let one : Runs call (g.D.SectorDisk.told c.loop-block.disk) (g.D.SectorDisk.told c.write_at.new.disk) false = rw (c.as_slice-bytes.ensures, c.note_block.ensures.told) at c.in_err-write_at.ensures.runs in
+    let one : Runs call (g.D.SectorDisk.told c.loop-block.disk) (g.D.SectorDisk.told c.write_at.new.disk) false = rw (c.as_slice-bytes.ensures, c.note_block.ensures.untouched.told) at c.in_err-write_at.ensures.runs in
     rw p.1 (c.loop-block.invariant.runs _ _ (rw (calls_more bs i b c.loop-block-test.true c.block-item.is) (Runs_stopped call (blocks_calls (drop (i + 1) bs)) _ _ one)))
 
 pub returns-clause-runs : goal.returns-clause-runs

@@ -5,6 +5,7 @@ use Rattle.vr_world.specs.Lying.{hazards}
 use Rattle.vr_world.specs.World.{starts}
 use Rattle.vr_opening.specs.Recovering.{RecoveredAny}
 use Rattle.vr_embed.specs.Told.{told_by}
+use Rattle.vr_group.proofs.Steps.{lost_unopened, other_unopened}
 use Rattle.vr_embed.proofs.Acting.{acts_from, acts_gone, acts_to, recover_acts, recover_halts, recover_loses}
 use Rattle.vr_embed.proofs.member.recover_stopped.Goals as goal
 
@@ -32,4 +33,15 @@ returns-in-Err-Lost c =
     let h = subst (λ v. RecoveredAny v (Some (told_by c.args.disk.now)) (Some (told_by c.recover_any.new.disk)) [] c.recover_any.new.out (Err x.field-0)) c.version.ensures x.ensures.recovered in
     acts_to act c.args.replica.now c.args.replica.now None (told_by c.args.disk.now) (told_by c.recover_any.new.disk) c.recover_any.new.out c.requires
     (acts_from act c.args.replica.now None None (told_by c.args.disk.now) (told_by c.recover_any.new.disk) c.recover_any.new.out c.requires
-    (recover_loses c.args.index (told_by c.args.disk.now) (told_by c.recover_any.new.disk) [] c.recover_any.new.out x.field-0 x.field-0-0 x.field-0-is x.ensures.halt h))
+    (recover_loses c.args.index (told_by c.args.disk.now) (told_by c.recover_any.new.disk) c.recover_any.new.out x.ensures.halt
+    (lost_unopened 2 (told_by c.args.disk.now) (told_by c.recover_any.new.disk) [] c.recover_any.new.out x.field-0 x.field-0-0 x.field-0-is h)))
+
+pub returns-in-Err-OtherVersion : goal.returns-in-Err-OtherVersion
+returns-in-Err-OtherVersion c =
+    let act = starts hazards c.args.index in
+    let x = c.in-Err-OtherVersion in
+    let h = subst (λ v. RecoveredAny v (Some (told_by c.args.disk.now)) (Some (told_by c.recover_any.new.disk)) [] c.recover_any.new.out (Err x.field-0)) c.version.ensures x.ensures.recovered in
+    acts_to act c.args.replica.now c.args.replica.now None (told_by c.args.disk.now) (told_by c.recover_any.new.disk) c.recover_any.new.out c.requires
+    (acts_from act c.args.replica.now None None (told_by c.args.disk.now) (told_by c.recover_any.new.disk) c.recover_any.new.out c.requires
+    (recover_loses c.args.index (told_by c.args.disk.now) (told_by c.recover_any.new.disk) c.recover_any.new.out x.ensures.halt
+    (other_unopened 2 (told_by c.args.disk.now) (told_by c.recover_any.new.disk) [] c.recover_any.new.out x.field-0 x.field-0-is h)))

@@ -3,7 +3,7 @@ use Rattle.vr_msg.specs.declared.output.Output.{Output}
 use Rattle.vr_msg.specs.declared.output.Output.TheVariants as output
 use Rattle.vr_lie.specs.Told.{version_by}
 use Rattle.vr_host_disk.specs.Disks.{told_by}
-use Rattle.vr_group.proofs.Migrates.{ended_acted, halted_acted, halted_told, lost_acted, lost_told, migrated_acted, migrated_told, stopped_host, wanting_told}
+use Rattle.vr_group.proofs.Migrates.{ended_acted, halted_acted, halted_told, lost_unopened, migrated_acted, migrated_told, other_unopened, stopped_host, unopened_acted, unopened_told, wanting_told}
 use Rattle.vr_group.proofs.Steps.{none_runs}
 use Rattle.vr_group.proofs.host.migrate_on.Goals as goal
 
@@ -41,10 +41,21 @@ returns-in_ok-halt-in-Err-Halted-DiskFault-clause-acted c =
 pub returns-in-Err-Lost-clause-host : goal.returns-in-Err-Lost-clause-host
 returns-in-Err-Lost-clause-host c =
     let x = c.in-Err-Lost in
-    none_runs _ _ _ c.requires.stopped (lost_told (version_by c.args.disk.now.lie) (told_by c.args.disk.now) c.migrate_any.new.disk x.field-0 x.field-0-0 x.field-0-is c.requires.first c.requires.told x.ensures.migrated)
+    none_runs _ _ _ c.requires.stopped (unopened_told (version_by c.args.disk.now.lie) (told_by c.args.disk.now) c.migrate_any.new.disk c.requires.first c.requires.told (lost_unopened _ _ x.field-0 x.field-0-0 x.field-0-is x.ensures.migrated))
 
 pub returns-in-Err-Lost-clause-acted : goal.returns-in-Err-Lost-clause-acted
 returns-in-Err-Lost-clause-acted c =
     let x = c.in-Err-Lost in
     stopped_host _ c.args.replica.now c.migrate_any.new.disk _ c.requires.stopped
-    (lost_acted (version_by c.args.disk.now.lie) c.args.index (told_by c.args.disk.now) c.migrate_any.new.disk _ x.field-0 x.field-0-0 x.field-0-is c.requires.first c.requires.empty c.requires.told x.ensures.migrated)
+    (unopened_acted (version_by c.args.disk.now.lie) c.args.index (told_by c.args.disk.now) c.migrate_any.new.disk _ c.requires.first c.requires.empty c.requires.told (lost_unopened _ _ x.field-0 x.field-0-0 x.field-0-is x.ensures.migrated))
+
+pub returns-in-Err-OtherVersion-clause-host : goal.returns-in-Err-OtherVersion-clause-host
+returns-in-Err-OtherVersion-clause-host c =
+    let x = c.in-Err-OtherVersion in
+    none_runs _ _ _ c.requires.stopped (unopened_told (version_by c.args.disk.now.lie) (told_by c.args.disk.now) c.migrate_any.new.disk c.requires.first c.requires.told (other_unopened _ _ x.field-0 x.field-0-is x.ensures.migrated))
+
+pub returns-in-Err-OtherVersion-clause-acted : goal.returns-in-Err-OtherVersion-clause-acted
+returns-in-Err-OtherVersion-clause-acted c =
+    let x = c.in-Err-OtherVersion in
+    stopped_host _ c.args.replica.now c.migrate_any.new.disk _ c.requires.stopped
+    (unopened_acted (version_by c.args.disk.now.lie) c.args.index (told_by c.args.disk.now) c.migrate_any.new.disk _ c.requires.first c.requires.empty c.requires.told (other_unopened _ _ x.field-0 x.field-0-is x.ensures.migrated))

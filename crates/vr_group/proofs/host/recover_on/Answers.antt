@@ -2,7 +2,7 @@ use Rattle.std.proofs.Common.{[], Some, Ok, Err, subst}
 use Rattle.vr_opening.specs.Recovering.{RecoveredAny}
 use Rattle.vr_lie.specs.Told.{version_by}
 use Rattle.vr_host_disk.specs.Disks.{told_by}
-use Rattle.vr_group.proofs.Steps.{gone_acted, gone_told, halted_acted, host_recovered, lost_acted, lost_told, never_other, none_runs, recovery_halted, recovery_wanting, settled, settled_acted}
+use Rattle.vr_group.proofs.Steps.{gone_acted, gone_told, halted_acted, host_recovered, lost_unopened, none_runs, other_unopened, recovery_halted, recovery_wanting, settled, settled_acted, unopened_acted, unopened_told}
 use Rattle.vr_group.proofs.host.recover_on.Goals as goal
 
 pub returns-in-Ok-clause-host : goal.returns-in-Ok-clause-host
@@ -54,24 +54,31 @@ returns-in-Err-Lost-clause-host c =
     let n = version_by c.args.disk.now.lie in
     let x = c.in-Err-Lost in
     let h = subst (λ v. RecoveredAny v (Some (told_by c.args.disk.now)) (Some (told_by c.recover_any.new.disk)) [] c.recover_any.new.out (Err x.field-0)) c.version-version.ensures x.ensures.recovered in
-    settled n _ c.recover_any.new.disk c.args.disk.now.version
-    (lost_told n _ (told_by c.args.disk.now) (told_by c.recover_any.new.disk) [] c.recover_any.new.out x.field-0 x.field-0-0 x.field-0-is c.requires.stopped c.requires.told h)
+    let none = lost_unopened n (told_by c.args.disk.now) (told_by c.recover_any.new.disk) [] c.recover_any.new.out x.field-0 x.field-0-0 x.field-0-is h in
+    settled n _ c.recover_any.new.disk c.args.disk.now.version (unopened_told n _ (told_by c.args.disk.now) (told_by c.recover_any.new.disk) c.requires.stopped c.requires.told none)
 
 pub returns-in-Err-Lost-clause-acted : goal.returns-in-Err-Lost-clause-acted
 returns-in-Err-Lost-clause-acted c =
     let n = version_by c.args.disk.now.lie in
     let x = c.in-Err-Lost in
     let h = subst (λ v. RecoveredAny v (Some (told_by c.args.disk.now)) (Some (told_by c.recover_any.new.disk)) [] c.recover_any.new.out (Err x.field-0)) c.version-version.ensures x.ensures.recovered in
-    let told = (lost_told n _ (told_by c.args.disk.now) (told_by c.recover_any.new.disk) [] c.recover_any.new.out x.field-0 x.field-0-0 x.field-0-is c.requires.stopped c.requires.told h).told in
-    settled_acted n _ c.recover_any.new.disk _ _ c.args.disk.now.version told
-    (lost_acted n c.args.index _ (told_by c.args.disk.now) (told_by c.recover_any.new.disk) [] c.recover_any.new.out x.field-0 x.field-0-0 x.field-0-is c.requires.stopped x.ensures.halt h)
+    let none = lost_unopened n (told_by c.args.disk.now) (told_by c.recover_any.new.disk) [] c.recover_any.new.out x.field-0 x.field-0-0 x.field-0-is h in
+    let told = (unopened_told n _ (told_by c.args.disk.now) (told_by c.recover_any.new.disk) c.requires.stopped c.requires.told none).told in
+    settled_acted n _ c.recover_any.new.disk _ _ c.args.disk.now.version told (unopened_acted n c.args.index _ (told_by c.args.disk.now) (told_by c.recover_any.new.disk) _ c.requires.stopped x.ensures.halt none)
 
-pub returns-in-Err-OtherMember-clause-host : goal.returns-in-Err-OtherMember-clause-host
-returns-in-Err-OtherMember-clause-host c =
-    let x = c.in-Err-OtherMember in
-    absurd (never_other _ x.field-0-0 (told_by c.args.disk.now) (told_by c.recover_any.new.disk) [] c.recover_any.new.out x.field-0 x.field-0-is x.ensures.recovered)
+pub returns-in-Err-OtherVersion-clause-host : goal.returns-in-Err-OtherVersion-clause-host
+returns-in-Err-OtherVersion-clause-host c =
+    let n = version_by c.args.disk.now.lie in
+    let x = c.in-Err-OtherVersion in
+    let h = subst (λ v. RecoveredAny v (Some (told_by c.args.disk.now)) (Some (told_by c.recover_any.new.disk)) [] c.recover_any.new.out (Err x.field-0)) c.version-version.ensures x.ensures.recovered in
+    let none = other_unopened n (told_by c.args.disk.now) (told_by c.recover_any.new.disk) [] c.recover_any.new.out x.field-0 x.field-0-is h in
+    settled n _ c.recover_any.new.disk c.args.disk.now.version (unopened_told n _ (told_by c.args.disk.now) (told_by c.recover_any.new.disk) c.requires.stopped c.requires.told none)
 
-pub returns-in-Err-OtherMember-clause-acted : goal.returns-in-Err-OtherMember-clause-acted
-returns-in-Err-OtherMember-clause-acted c =
-    let x = c.in-Err-OtherMember in
-    absurd (never_other _ x.field-0-0 (told_by c.args.disk.now) (told_by c.recover_any.new.disk) [] c.recover_any.new.out x.field-0 x.field-0-is x.ensures.recovered)
+pub returns-in-Err-OtherVersion-clause-acted : goal.returns-in-Err-OtherVersion-clause-acted
+returns-in-Err-OtherVersion-clause-acted c =
+    let n = version_by c.args.disk.now.lie in
+    let x = c.in-Err-OtherVersion in
+    let h = subst (λ v. RecoveredAny v (Some (told_by c.args.disk.now)) (Some (told_by c.recover_any.new.disk)) [] c.recover_any.new.out (Err x.field-0)) c.version-version.ensures x.ensures.recovered in
+    let none = other_unopened n (told_by c.args.disk.now) (told_by c.recover_any.new.disk) [] c.recover_any.new.out x.field-0 x.field-0-is h in
+    let told = (unopened_told n _ (told_by c.args.disk.now) (told_by c.recover_any.new.disk) c.requires.stopped c.requires.told none).told in
+    settled_acted n _ c.recover_any.new.disk _ _ c.args.disk.now.version told (unopened_acted n c.args.index _ (told_by c.args.disk.now) (told_by c.recover_any.new.disk) _ c.requires.stopped x.ensures.halt none)

@@ -10,7 +10,7 @@ read_sectors-requires-clause-within c = let o = found_opened (disk_of c.args.dis
 pub returns-in-Some-clause-value : goal.returns-in-Some-clause-value
 returns-in-Some-clause-value c =
     let o = found_opened (disk_of c.args.disk.now).face c.in-Some.found c.in-Some.ensures.value in
-    let same : disk_of c.opens.new.disk ≡ disk_of c.args.disk.now = let t = c.opens.ensures.told in cc in
+    let same : disk_of c.opens.new.disk ≡ disk_of c.args.disk.now = let t = c.opens.ensures.untouched.told in cc in
     opening_is (disk_of c.args.disk.now).face _ c.in-Some.found.copy _ o (ap (λ (d : Disk). d.face) same) c.read_sectors.ensures.value
 
 pub returns-in-None-clause-value : goal.returns-in-None-clause-value

@@ -18,8 +18,8 @@ loop-i-preserved g c =
     let holds : is_some (with_listed f (op + i) first (Some [])) ≡ true = sym now ∙ c.if-not-lists.false in
     record {
       list = c.loop-i.invariant.list ∙ (ap is_some (list_step f op c.args.count i b c.loop-i-test.true) ∙ (with_rest f (op + i) first rest ∙ ap (λ x. x && is_some rest) holds));
-      told = c.lists.ensures.told ∙ c.loop-i.invariant.told;
-      faults = c.lists.ensures.faults ∙ c.loop-i.invariant.faults;
+      told = c.lists.ensures.untouched.told ∙ c.loop-i.invariant.told;
+      faults = c.lists.ensures.untouched.faults ∙ c.loop-i.invariant.faults;
       reads = c.lists.ensures.reads ∙ c.loop-i.invariant.reads;
     }
 

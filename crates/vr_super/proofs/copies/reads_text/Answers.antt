@@ -7,7 +7,7 @@ use Rattle.vr_super.proofs.Fronts.{front_other, front_same, zeros_others}
 use Rattle.vr_super.proofs.copies.reads_text.Goals as goal
 
 pub read_filled-requires-clause-zeros : goal.read_filled-requires-clause-zeros
-read_filled-requires-clause-zeros g c = zeros_others c.args.filled c.args.text.now c.split_at.result.1.now c.requires.least c.requires.filled c.split_at.ensures.back c.requires.zeros
+read_filled-requires-clause-zeros g c = zeros_others c.args.filled c.args.text.now c.split_at.result.1.now c.requires.text.least c.requires.text.most c.split_at.ensures.back c.requires.text.zeros
 
 pub returns-then-not-reads_front-clause-value : goal.returns-then-not-reads_front-clause-value
 returns-then-not-reads_front-clause-value g c =

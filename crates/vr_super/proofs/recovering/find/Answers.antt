@@ -18,7 +18,7 @@ returns-in-Err-clause-value g c =
     fails told c.in-Err.fault (chosen_from told (four (if_good (Some b))) (Err c.in-Err.fault) (alike_four told b c.if-read_alike.ensures.value) c.in-Err.ensures.value)
 
 pub returns-in-Ok-choose_apart-clause-value : goal.returns-in-Ok-choose_apart-clause-value
-returns-in-Ok-choose_apart-clause-value g c = found_apart (g.D.SectorDisk.told c.args.disk.now) c.in-Ok-choose_apart.value (rw c.read_alike.ensures.told at c.in-Ok-choose_apart.ensures.value)
+returns-in-Ok-choose_apart-clause-value g c = found_apart (g.D.SectorDisk.told c.args.disk.now) c.in-Ok-choose_apart.value (rw c.read_alike.ensures.untouched.told at c.in-Ok-choose_apart.ensures.value)
 
 pub returns-in-Err-choose_apart-clause-value : goal.returns-in-Err-choose_apart-clause-value
-returns-in-Err-choose_apart-clause-value g c = fails (g.D.SectorDisk.told c.args.disk.now) c.in-Err-choose_apart.fault (rw c.read_alike.ensures.told at c.in-Err-choose_apart.ensures.value)
+returns-in-Err-choose_apart-clause-value g c = fails (g.D.SectorDisk.told c.args.disk.now) c.in-Err-choose_apart.fault (rw c.read_alike.ensures.untouched.told at c.in-Err-choose_apart.ensures.value)

@@ -14,5 +14,5 @@ pub returns-clause-value : goal.returns-clause-value
 returns-clause-value g c =
     let r = c.requires in
     let same : IfSome (g.D.SectorDisk.told c.args.disk.now) (λ d. true ≡ has c.split_at.result.0.now (together c.args.at c.args.filled d.face)) = rw c.if-not-sectors_read_as.false at c.sectors_read_as.ensures.value in
-    let rest : IfSome (g.D.SectorDisk.told c.args.disk.now) (λ d. c.are_zeros.result ≡ has (replicate (512 * (c.args.count - c.args.filled)) 0) (together (c.args.at + c.args.filled) (c.args.count - c.args.filled) d.face)) = rw c.sectors_read_as.ensures.told at c.are_zeros.ensures.value in
+    let rest : IfSome (g.D.SectorDisk.told c.args.disk.now) (λ d. c.are_zeros.result ≡ has (replicate (512 * (c.args.count - c.args.filled)) 0) (together (c.args.at + c.args.filled) (c.args.count - c.args.filled) d.face)) = rw c.sectors_read_as.ensures.untouched.told at c.are_zeros.ensures.value in
     filled_same c.args.at c.args.count c.args.filled c.args.bytes.now c.split_at.result.0.now (g.D.SectorDisk.told c.args.disk.now) true c.are_zeros.result (g.met.D.SectorDisk.whole c.args.disk.now) r.within r.filled r.zeros c.split_at.ensures.front same rest

@@ -1,8 +1,9 @@
-use Rattle.std.proofs.Common.{rules}
+use Rattle.std.proofs.Common.{rules, ◌≡◌, Err}
 use Rattle.vr_base.specs.Bytes.{name_of}
+use Rattle.vr_disk.specs.declared.fault.Halt.TheVariants.{NoMemory}
 use Rattle.vr_rules.specs.Rules.{acknowledge_stored}
 use Rattle.vr_rules.specs.Words.{jump}
-use Rattle.vr_rules.proofs.Stepping.{does_then}
+use Rattle.vr_rules.proofs.Stepping.{does_no_memory, does_stopped, does_then}
 use Rattle.vr_actions.specs.Telling.{each_to}
 use Rattle.vr_actions.proofs.Acks.{told}
 use Rattle.vr_view.proofs.jumping.follow.Goals as goal
@@ -15,4 +16,18 @@ returns g c =
       step =
           does_then (jump c.args.sync.now) _ _ _ _ _ _ _ _ _ _ _ c.in_ok-jump.ensures.acts.step
           (does_then (each_to (acknowledge_stored name_of) c.args.sync.now.head) _ _ _ _ _ _ _ _ _ _ _ (told _ _ _ _ _ c.in_ok-acknowledge_all.ensures) c.apply.ensures.step);
+    }
+
+pub returns-in_err-jump : goal.returns-in_err-jump
+returns-in_err-jump g c =
+    let is : c.from_residual.result ≡ Err c.in_err-jump.field-0.0 = search rules in
+    record { ready = search rules; cause = search rules; step = rw is (does_stopped (jump c.args.sync.now) _ _ _ _ _ _ _ _ _ _ c.in_err-jump.ensures.acts.step) }
+
+pub returns-in_err-acknowledge_all : goal.returns-in_err-acknowledge_all
+returns-in_err-acknowledge_all g c =
+    let is : c.from_residual-in_err-acknowledge_all.result ≡ Err NoMemory = search rules in
+    record {
+      ready = search rules;
+      cause = search rules;
+      step = rw is (does_then (jump c.args.sync.now) _ _ _ _ _ _ _ _ _ _ _ c.in_ok-jump.ensures.acts.step (does_no_memory _ _ _ _ _ _));
     }

@@ -4,12 +4,12 @@ use Rattle.std.proofs.lemmas.Result.{err_from_is_err_and}
 use Rattle.std.specs.Ordering.{nat_cmp}
 use Rattle.vr_state.proofs.Tables.{read_whole, read_rest}
 use Rattle.vr_state.specs.SessionTexts.{session_from}
-use Rattle.vr_state.proofs.session_codec.read_all.Goals as goal
+use Rattle.vr_state.proofs.session_codec.read_on.Goals as goal
 
 pub returns-in_err-rest-clause-fault : goal.returns-in_err-rest-clause-fault
 returns-in_err-rest-clause-fault c =
     let one_more : c.args.count - c.loop-i.i ≡ suc (c.args.count - (c.loop-i.i + 1)) = omega arith in
-    let p = err_from_is_err_and c.from_residual-in_err-rest.result c.from_residual-in_err-rest.ensures.1 in
+    let p = err_from_is_err_and c.from_residual.result c.from_residual.ensures.1 in
     rw (p.1, p.2, ← c.loop-i.invariant.left, one_more) (c.in_err-rest.ensures.fault (c.args.count - (c.loop-i.i + 1)))
 
 pub returns-then-is_empty-clause-table : goal.returns-then-is_empty-clause-table
