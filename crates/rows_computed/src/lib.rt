@@ -1,10 +1,13 @@
 //! Rows that the prover works: schedules of a world and single steps, each with what it puts out; schedules of which all is proved that
-//! `headline` asks; and one in which a request takes effect although its client never hears of it. No program stands on them.
+//! `headline` asks; and one in which a request takes effect although its client never hears of it. No program stands on them. And calls that
+//! only tests make besides.
 #![tactic(auto)]
 
+mod called;
 mod pending;
 mod schedules;
 
+pub use called::{links_over_streams, writes_a_block};
 pub use pending::a_pending_request_takes_effect;
 pub use schedules::{
     acknowledged_meets_all, careful_path_meets_all, dropped_meets_all, moved_meets_all,

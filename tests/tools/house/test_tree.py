@@ -1,0 +1,89 @@
+"""The shape of what stands outside the crates: no file but one changes where Python looks for packages, no folder calls in a circle, and what is installed
+holds no test."""
+
+import re
+import subprocess
+import unittest
+from typing import Dict, Iterator, List, Set, Tuple
+
+from nozhgiva_tools.places import TOP
+
+CHANGES_PATHS = re.compile(r"\bsys\.path(?:\.insert|\.append|\.extend|\[[^\]]*\] *\+?=| *\+?=)")
+ALONE = {"tools/__main__.py"}
+NAMES = {"tools": "nozhgiva_tools", "tests": "tests", "bench": "bench"}
+# What each folder's Python may import of the others.
+BELOW = {"tools": set(), "bench": {"tools"}, "tests": {"tools", "bench"}}  # type: Dict[str, Set[str]]
+# What each part of the package may import of the others; the table of the checks' runner is in `command`.
+PARTS: Dict[str, Set[str]] = {
+    "told": set(), "operate": {"told"}, "run": {"told", "operate", "command"}, "command": {"run", "operate"}, "pages": {"run", "told", "command"},
+    "house": {"command", "told", "run", "pages"},
+}
+NO_TEST = re.compile(r"(^|/)(tests?|mutations|bench|house)(/|$)|_test\.|test_|(^|/)check")
+
+
+def files() -> List[str]:
+    listed = subprocess.run(["git", "ls-files"], cwd=TOP, stdout=subprocess.PIPE, text=True, check=True).stdout.splitlines()
+    return [path for path in listed if not path.startswith("crates/") and (TOP / path).is_file()]
+
+
+def python() -> Iterator[Tuple[str, str]]:
+    for path in files():
+        if path.endswith(".py") and not path.startswith("clients/"):
+            yield path, (TOP / path).read_text(encoding="utf-8")
+
+
+def imports(text: str, package: str) -> Set[str]:
+    """The words behind a package's name in imports."""
+    return {found[1] or "" for found in re.finditer(rf"(?m)^ *(?:from|import) {package}(?:\.(\w+))?\b", text)}
+
+
+@unittest.skipUnless((TOP / ".git").exists(), "no clone")
+class Tree(unittest.TestCase):
+    def test_one_file_says_where_packages_are(self) -> None:
+        self.assertEqual({path for path, text in python() if CHANGES_PATHS.search(text) and path != "tests/tools/house/test_tree.py"}, ALONE)
+
+    def test_no_folder_calls_one_above_it(self) -> None:
+        for path, text in python():
+            folder = path.split("/")[0]
+            called = {other for other, name in NAMES.items() if other != folder and imports(text, name)}
+            if folder in BELOW:
+                self.assertLessEqual(called, BELOW[folder], path)
+
+    def test_parts_of_the_package_call_those_below_them(self) -> None:
+        for path, text in python():
+            part = path.split("/")[2] if path.startswith("tools/nozhgiva_tools/") else ""
+            if part in PARTS:
+                called = (imports(text, "nozhgiva_tools") & set(PARTS)) - {part}
+                self.assertLessEqual(called, PARTS[part], path)
+
+    def test_each_top_folder_says_what_it_holds(self) -> None:
+        folders = {path.split("/")[0] for path in files() if "/" in path} - {".ci", "docs", "clients"}
+        self.assertEqual({folder for folder in folders if not (TOP / folder / "README.md").is_file()}, set())
+
+
+class Installed(unittest.TestCase):
+    def patterns(self) -> List[str]:
+        lines = (TOP / "packaging" / "files.txt").read_text(encoding="utf-8").splitlines()
+        return [line for line in lines if line and not line.startswith("#")]
+
+    def test_each_line_names_files_and_no_test(self) -> None:
+        for pattern in self.patterns():
+            found = [str(path.relative_to(TOP)) for path in TOP.glob(pattern) if path.is_file()]
+            self.assertTrue(found, pattern)
+            self.assertEqual([path for path in found if NO_TEST.search(path)], [])
+
+    def test_all_that_installed_modules_import_is_installed(self) -> None:
+        shipped = {str(path.relative_to(TOP)) for pattern in self.patterns() for path in TOP.glob(pattern) if path.is_file()}
+        modules = {path[len("tools/"):-len(".py")].replace("/", ".").replace(".__init__", "") for path in shipped if path.endswith(".py") and path.startswith("tools/")}
+        for path in (one for one in shipped if one.startswith("tools/nozhgiva_tools/") and one.endswith(".py")):
+            package = path[len("tools/"):].rpartition("/")[0].replace("/", ".")
+            for found in re.finditer(r"(?m)^ *from (nozhgiva_tools[\w.]*|\.[\w.]*) import ([\w, ]+)$", (TOP / path).read_text(encoding="utf-8")):
+                base = found[1] if found[1].startswith("nozhgiva") else (package + found[1] if found[1] != "." else package)
+                for name in (word.split(" as ")[0].strip() for word in found[2].split(",")):
+                    self.assertTrue(base in modules and ((TOP / "tools" / (base.replace(".", "/") + ".py")).is_file() or f"{base}.{name}" in modules
+                                                         or (TOP / "tools" / base.replace(".", "/") / "__init__.py").read_text(encoding="utf-8").find(name) >= 0),
+                                    f"{path}: {base}.{name}")
+
+
+if __name__ == "__main__":
+    unittest.main()
