@@ -1,6 +1,5 @@
-#!/usr/bin/env python3
 """Counts what a put takes in a group of three, of the built program and of etcd, and how long each stands still when its primary is lost.
-  bench/beside.py [FOLDER [PUTS]]     FOLDER for the members' files (a new one in /tmp without it), PUTS in each count (300)
+  bench/beside [FOLDER [PUTS]]     FOLDER for the members' files (a new one in /tmp without it), PUTS in each count (300)
 
 Both run on this machine in one run, in a network of their own (so that nothing else is counted; needs root, unshare and ip), asked by one
 client that puts 100 bytes at ten keys in turn: the program's `client`, and bench/node/etcd.c at etcd's leader.
@@ -9,7 +8,7 @@ client that puts 100 bytes at ten keys in turn: the program's `client`, and benc
   writes the second by the clock, every 100 ms.
 - From the moment at which the primary is killed, or stopped in its tracks, to the next put that is answered, by clients that ask the others
   again after 50 ms: clients/python, and etcd's gateway for JSON. The median of five.
-Where other work goes on, run it at real-time priority (chrt -f 10 bench/beside.py): the counts hardly change, but times would."""
+Where other work goes on, run it at real-time priority (chrt -f 10 bench/beside): the counts hardly change, but times would."""
 
 import http.client
 import json
@@ -24,13 +23,10 @@ import tempfile
 import time
 from pathlib import Path
 
-if sys.argv[1:] in (["-h"], ["--help"]):
-    signal.signal(signal.SIGPIPE, signal.SIG_DFL)
-    print(__doc__)
-    sys.exit(0)
+from nozhgiva import Group, Retry
+from nozhgiva_tools.places import TOP, words_of_module
+from nozhgiva_tools.run import program
 
-ROOT = Path(__file__).resolve().parent.parent
-PROGRAM = subprocess.run([ROOT / "command" / "program"], stdout=subprocess.PIPE, text=True).stdout.strip() or sys.exit(2)
 SIZE = 3
 VALUE = "v" * 100
 PAUSE = 0.05
@@ -39,11 +35,6 @@ IDLE = 5.0
 PATIENCE = 60.0
 CALLS = "fsync,fdatasync,write,writev,pwrite64,pwritev"
 LINE = re.compile(r"(\w+)\(\d+<([^>]*)>(?:.*= (\d+))?")
-
-sys.path.insert(0, str(ROOT / "clients/python/src"))
-sys.dont_write_bytecode = True
-
-from nozhgiva import Group, Retry  # noqa: E402
 
 
 class Members:
@@ -73,7 +64,7 @@ class Program(Members):
         self.name = f"group over {'TCP' if scheme else 'UDP'}"
         self.addresses = [f"{scheme}127.0.0.1:{4000 + member}" for member in range(SIZE)]
         for member in range(SIZE):
-            self.start([PROGRAM, "node", "5", str(member), f"{self.folder}/{member}", "1000000000", *self.addresses, "--fresh"])
+            self.start([program.or_end(), "node", "5", str(member), f"{self.folder}/{member}", "1000000000", *self.addresses, "--fresh"])
         self.group = Group(5, self.addresses, timeout=PATIENCE, retry=Retry(first=PAUSE, factor=1.0, most=PAUSE, jitter=0.0))
         self.session = self.group.register()
         self.client = 100
@@ -82,7 +73,7 @@ class Program(Members):
         """Puts by a client with a number of its own, which registers first."""
         self.client += 1
         lines = "".join(f"put k{number % 10} {VALUE}\n" for number in range(count))
-        subprocess.run([PROGRAM, "client", "5", str(self.client), "1000000", *self.addresses], input=lines.encode(), stdout=subprocess.DEVNULL, check=True)
+        subprocess.run([program.or_end(), "client", "5", str(self.client), "1000000", *self.addresses], input=lines.encode(), stdout=subprocess.DEVNULL, check=True)
 
     def put(self):
         self.session.put("k", VALUE)
@@ -243,11 +234,14 @@ def report(make, puts):
 def parse_words():
     """The folder and how many puts; other words, or a missing tool, end the script with 2."""
     words = sys.argv[1:]
+    if words in (["-h"], ["--help"]):
+        print(__doc__)
+        sys.exit(0)
     missing = [tool for tool in ("unshare", "ip", "cc", "etcd", "strace") if shutil.which(tool) is None]
     if len(words) > 2 or words and not os.path.isdir(words[0]) or words[1:] and not (words[1].isdecimal() and int(words[1])):
-        sys.exit(refuse("usage: bench/beside.py [FOLDER [PUTS]]: a folder that is there, and 1 or more"))
+        sys.exit(refuse("usage: bench/beside [FOLDER [PUTS]]: a folder that is there, and 1 or more"))
     if missing:
-        sys.exit(refuse(f"beside.py: there is no {', '.join(missing)}"))
+        sys.exit(refuse(f"beside: there is no {', '.join(missing)}"))
     return words[0] if words else None, int(words[1]) if words[1:] else 300
 
 
@@ -260,10 +254,10 @@ def main():
     parent, puts = parse_words()
     if "BESIDE_ALONE" not in os.environ:
         os.environ["BESIDE_ALONE"] = "1"
-        os.execvp("unshare", ["unshare", "-n", "bash", "-c", 'ip link set lo up && exec "$@"', "bash", sys.executable, *sys.argv])
+        os.execvp("unshare", ["unshare", "-n", "bash", "-c", 'ip link set lo up && exec "$@"', "bash", *words_of_module("bench.beside", *sys.argv[1:])])
     with tempfile.TemporaryDirectory(dir=parent) as folder:
         client = f"{folder}/etcd-client"
-        subprocess.run(["cc", "-O2", "-o", client, ROOT / "bench/node/etcd.c"], check=True)
+        subprocess.run(["cc", "-O2", "-o", client, TOP / "bench/node/etcd.c"], check=True)
         print(f"machine: {os.cpu_count()} processors, load {' '.join(Path('/proc/loadavg').read_text().split()[:3])}, kernel {os.uname().release}, {puts} puts a count")
         report(lambda: Program(folder), puts)
         report(lambda: Program(folder, "tcp:"), puts)
@@ -271,4 +265,5 @@ def main():
         report(lambda: Etcd(folder, client), puts)
 
 
-main()
+if __name__ == "__main__":
+    main()

@@ -60,15 +60,19 @@ try_package() {
     try_purge
 }
 
-# No test is in the package, and no trial: of what can be run below examples/ there is what `nozhgiva` calls.
+# What is in the package is what packaging/files.txt lists, and what is made beside it; no test, and no trial.
 try_contents() {
-    local home=$work/root/usr/lib/nozhgiva found
-    found=$(cd "$home" && find . -name 'test*' -o -name '*_test.*' -o -name '*-test.*' -o -name 'check*' -o -name trials)
-    [ -z "$found" ] || fail "tests are in the package: $found"
-    found=$(cd "$home" && find examples operate -type f -perm -u+x | sort)
-    [ "$found" = "$(python3 -B -c 'from command import commands; print(*sorted({one.calls for one in commands.COMMANDS if one.calls.split("/")[0] in ("examples", "operate")}), sep="\n")')" ] \
-        || fail "what can be run in the package isn't what nozhgiva calls: $found"
-    passed "the package: no tests in it"
+    local home=$work/root/usr/lib/nozhgiva pattern
+    local -a listed=(COMMIT KIND vr_app)
+    while IFS= read -r pattern; do
+        case $pattern in docs/*) continue ;; esac
+        for pattern in $pattern; do [ ! -f "$pattern" ] || listed+=("$pattern"); done
+    done < <(grep -v -e '^#' -e '^$' packaging/files.txt)
+    listed+=(docs/RULES.md) # the other pages are among the system's
+    diff <(printf '%s\n' "${listed[@]}" | LC_ALL=C sort -u) <(cd "$home" && find . -type f | sed 's|^\./||' | LC_ALL=C sort) > "$work/said" \
+        || fail "what is in the package isn't what packaging/files.txt lists: $(cat "$work/said")"
+    ! printf '%s\n' "${listed[@]}" | grep -E '(^|/)(tests?|trials|mutations|bench|house)(/|$)|_test\.|test_' > "$work/said" || fail "tests are in the package: $(cat "$work/said")"
+    passed "the package: what packaging/files.txt lists, and no tests in it"
 }
 
 # A purge removes what is enabled and what was written, and leaves data files.

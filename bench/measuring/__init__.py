@@ -2,14 +2,12 @@
 program of some crates, members starts a group, tables writes what a page has. The figures stand in replays, crates and groups."""
 
 import argparse
-import os
 import sys
-from pathlib import Path
 from typing import Callable, List, NamedTuple, Tuple
 
-TOP = Path(os.path.realpath(__file__)).parent.parent.parent
+from nozhgiva_tools.places import TOP
+
 PAGE = TOP / "docs" / "FIGURES.md"
-sys.path.insert(0, str(TOP / "examples"))
 
 
 class Refused(Exception):

@@ -4,8 +4,10 @@ import argparse
 from pathlib import Path
 from typing import Callable, List, NamedTuple, Sequence, Tuple
 
-from . import TOP, Figure, Outcome, models, places, reading, say
-from .models import Model, add_commit, counted, said
+from nozhgiva_tools.places import TOP
+
+from . import Figure, models, Outcome, places, reading, say
+from .models import add_commit, counted, Model, said
 from .places import Place
 from .tables import grouped, table
 

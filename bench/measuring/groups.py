@@ -8,8 +8,8 @@ import time
 from pathlib import Path
 from typing import Dict, List, NamedTuple, Optional, Sequence, Tuple
 
-from . import Figure, Outcome, Refused, places, reading, say
-from .members import Etcd, Floor, Members, Pace, Program, await_that, puts, side_by_side, told, traced
+from . import Figure, Outcome, places, reading, Refused, say
+from .members import await_that, Etcd, Floor, Members, Pace, Program, puts, side_by_side, told, traced
 from .places import Place
 from .replays import CACHES, whole_number
 from .tables import grouped, table

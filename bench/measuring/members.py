@@ -10,9 +10,9 @@ import time
 from pathlib import Path
 from typing import Callable, Dict, Iterator, List, NamedTuple, Optional, Sequence
 
-from clustering import holders
+from nozhgiva_tools.run import ports as holders
 
-from . import Refused, reading
+from . import reading, Refused
 from .places import Place
 
 NUMBER, TURNS, CLIENT_TURNS = "5", "1000000000", "1000000"

@@ -4,7 +4,9 @@ import argparse
 from pathlib import Path
 from typing import Dict, List, NamedTuple, Optional, Sequence, Tuple
 
-from . import TOP, Refused, say
+from nozhgiva_tools.places import TOP
+
+from . import Refused, say
 from .places import Place
 
 END_OF_SOURCE = ".txt"  # sources in bench/ end so, since no check of the repository reads them

@@ -8,9 +8,12 @@ import subprocess
 import tempfile
 import time
 from pathlib import Path
-from typing import IO, Dict, List, Mapping, NamedTuple, Optional, Sequence, Union
+from typing import Dict, IO, List, Mapping, NamedTuple, Optional, Sequence, Union
 
-from . import TOP, Refused, reading
+from nozhgiva_tools.places import TOP
+from nozhgiva_tools.run import program as find
+
+from . import reading, Refused
 
 Word = Union[str, Path]
 LAST_WORD = 5.0  # seconds from TERM to KILL
@@ -161,11 +164,8 @@ def command(words: Sequence[Word]) -> str:
 
 
 def program() -> str:
-    """The built program, as command/program finds it. Without one that has said why, and what to do."""
-    found = subprocess.run([str(TOP / "command" / "program")], stdout=subprocess.PIPE, text=True, check=False)
-    if found.returncode:
-        raise SystemExit(2)
-    return found.stdout.strip()
+    """The built program, as ./nozhgiva program finds it. Without one that has said why, and what to do."""
+    return find.or_end()
 
 
 def missing(needs: Sequence[str]) -> Dict[str, str]:

@@ -6,7 +6,7 @@ import os
 from pathlib import Path
 from typing import Callable, Dict, Iterator, List, NamedTuple, Optional, Sequence, Tuple
 
-from . import Figure, Outcome, Refused, places, reading, say, schedules
+from . import Figure, Outcome, places, reading, Refused, say, schedules
 from .places import Place
 from .tables import grouped, table
 

@@ -2,7 +2,7 @@
 
 from typing import List, Sequence
 
-from paging import counting
+from nozhgiva_tools.house.paging import counting
 
 from . import PAGE, Refused
 

@@ -2,7 +2,7 @@
 """Puts one value after the other into a group of three while its primary is killed again and again, and tells how many were answered and the
 longest time without an answer. Ends with 1 where a put failed or that time is above --most. The program is NOZHGIVA_PROGRAM or
 crates/vr_app/out/vr_app.
-  clients/python/tests/run failover [--seconds S] [--every S] [--rest S] [--most S] [--tcp] [--version N]"""
+  ./nozhgiva test failover -- [--seconds S] [--every S] [--rest S] [--most S] [--tcp] [--version N]"""
 
 import argparse
 import sys

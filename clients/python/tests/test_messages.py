@@ -98,7 +98,7 @@ class Vectors(unittest.TestCase):
             self.assertEqual(max(len(request.operation.value) for request in requests if isinstance(request.operation, Put)), most)
 
     def test_the_changed_ones_are_made_of_those_that_the_program_spelled(self):
-        made = subprocess.run([sys.executable, VECTORS / "make-changed", "--check"], capture_output=True, text=True, check=False)
+        made = subprocess.run([VECTORS / "make-changed", "--check"], capture_output=True, text=True, check=False)
         self.assertEqual((made.returncode, made.stderr), (0, ""))
 
     def test_what_is_no_message_has_its_fault(self):

@@ -1,1 +1,0 @@
-"""The parts of examples/check-commands: the commands that pages show (finding), the list of those that aren't run (listing), and a run of a page's (running)."""

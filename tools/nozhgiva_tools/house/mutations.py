@@ -1,0 +1,160 @@
+"""Tries the mutation tests that the gate leaves out: the prover must refuse each.
+
+A mutation test, or wrong body, is an edit of a crate's code, or of a definition, that breaks one promise. The gate tries those of
+a few crates, which stand in crates/CRATE/must-fail; the others stand in mutations/CRATE, in the same form, and are tried here.
+It wants a clone in which `rt ci` has passed, since it checks over the libraries that the gate left in crates/*/out, and changes
+nothing there but a library that is missing, which it proves anew. Each crate is checked first as it is, then with each edit, over
+what that check proved: some minutes a crate, and 20 to 45 seconds an edit.
+
+It prints, by crate, the seconds, what each edit is refused by, and a sum; it ends with status 1 where one is not refused, or could
+not be tried, and with 3 where the minutes didn't suffice. Written for the `rt` of rattle-kit-13b, whose parts it calls; that of rattle-kit-13f
+has them too.
+"""
+
+from __future__ import annotations
+
+import argparse
+import concurrent.futures
+import importlib.machinery
+import importlib.util
+import os
+import re
+import shutil
+import sys
+import tempfile
+import threading
+import time
+from pathlib import Path
+from types import ModuleType
+from typing import Any, NamedTuple
+
+from nozhgiva_tools.places import TOP
+
+PRINTING = threading.Lock()
+# What `must_fail` tells of an edit that was refused: kit 13b that it was, 13f by a word, as it tells each other ending too.
+REFUSED = (True, "refused")
+
+
+class Tried(NamedTuple):
+    """What came of an edit: refused, let through, bad or left; after how many seconds, and what the prover said."""
+
+    name: str
+    ending: str
+    seconds: float
+    said: str
+
+
+def make_parser() -> argparse.ArgumentParser:
+    what, _, more = __doc__.partition("\n\n")
+    form = argparse.ArgumentParser(prog="mutations", description=what, epilog=more, formatter_class=argparse.RawDescriptionHelpFormatter)
+    form.add_argument("--gate", action="store_true", help="also those that the gate tries")
+    form.add_argument("--lanes", type=int, default=max(1, len(os.sched_getaffinity(0))), help="crates at a time, each with one processor and 1 to 3 GB (default: all processors)")
+    form.add_argument("--minutes", type=float, default=180, help="no edit is begun later (default: 180)")
+    form.add_argument("--list", action="store_true", help="only prints them, and how many there are")
+    form.add_argument("crates", nargs="*", metavar="CRATE[:WORD]", help="only these crates, and of one only edits with WORD in their name (default: all)")
+    return form
+
+
+def edits_of(crate: str, with_gate: bool) -> list[Path]:
+    """The edits of a crate, by name."""
+    folders = [TOP / "mutations" / crate] + [TOP / "crates" / crate / "must-fail"] * with_gate
+    return sorted((it for folder in folders for it in folder.glob("*.edit")), key=lambda it: it.name)
+
+
+def chosen(given: list[str], with_gate: bool) -> dict[str, list[Path]]:
+    """The edits to be tried, by crate; a crate or word that names none ends the script."""
+    every = sorted(it.name for it in (TOP / "crates").iterdir() if edits_of(it.name, with_gate))
+    found = {}
+    for word in given or every:
+        crate, _, only = word.partition(":")
+        edits = [it for it in edits_of(crate, with_gate) if only in it.stem]
+        if not edits:
+            print(f"./nozhgiva mutations: no edit for {word!r}; crates with edits: {' '.join(every)}", file=sys.stderr)
+            sys.exit(2)
+        found[crate] = sorted({*found.get(crate, []), *edits}, key=lambda it: it.name)
+    return found
+
+
+def toolchain() -> ModuleType:
+    """The `rt` of the toolchain, as a module, set up as its gate sets itself up."""
+    at = shutil.which("rt")
+    if not at:
+        sys.exit("./nozhgiva mutations: no rt in PATH: it needs the toolchain")
+    loader = importlib.machinery.SourceFileLoader("rt", at)
+    spec = importlib.util.spec_from_loader("rt", loader)
+    assert spec
+    rt = importlib.util.module_from_spec(spec)
+    sys.argv = ["rt"]
+    loader.exec_module(rt)
+    os.chdir(TOP)
+    rt.Crate.cuts_libraries = True
+    for it in (rt.rtlib.ALLOW_C, rt.rtlib.BACKEND, "RT_SECONDS"):
+        os.environ.pop(it, None)
+    rt.rtlib.guarded()
+    rt.Crate.allowed = rt.handles_of(str(TOP))
+    rt.rtlib.Crate = rt.Crate
+    return rt
+
+
+def build_missing(crates: dict[str, Any], wanted: dict[str, list[Path]]) -> None:
+    """Proves the libraries below the wanted crates that no gate left."""
+    below = {it.name for name in wanted for it in crates[name].below()}
+    for it in crates.values():
+        if it.name in below and not os.path.exists(f"{it.folder}/out/rlib/{it.name}.rlib"):
+            print(f"{it.name}: no library of it here, it is proved anew", flush=True)
+            if it.ci(["--jobs", "2"], False):
+                sys.exit(f"./nozhgiva mutations: {it.name} isn't proved here")
+
+
+def try_edit(rt: ModuleType, crate: Any, edit: Path, kept: str) -> Tried:
+    began = time.monotonic()
+    told, text = rt.must_fail(crate, str(edit), ["--jobs", "1"], kept)
+    ending = "refused" if told in REFUSED else "let through" if "NOT REFUSED" in text else "bad"
+    return Tried(edit.stem, ending, time.monotonic() - began, re.sub(r"^must-fail \S+ ", "", text)[:300])
+
+
+def try_crate(rt: ModuleType, crate: Any, edits: list[Path], ends: float) -> list[Tried]:
+    """Tries a crate's edits over one check of it, and prints what came of each."""
+    began = time.monotonic()
+    with tempfile.TemporaryDirectory(prefix="wrong-bodies-") as kept:
+        seed = rt.checked(crate, {}, ["--jobs", "1"], kept)
+        if seed.returncode:
+            tried = [Tried(it.stem, "bad", 0, "the crate as it is isn't proved here") for it in edits]
+        else:
+            tried = [try_edit(rt, crate, it, kept) if time.monotonic() < ends else Tried(it.stem, "left", 0, "no time was left") for it in edits]
+            if rt.checked(crate, {}, ["--jobs", "1"], kept).returncode:
+                tried = [it._replace(ending="bad", said="the crate as it is isn't proved any more over what was kept") for it in tried]
+    with PRINTING:
+        print(f"{crate.name}: {sum(it.ending == 'refused' for it in tried)} of {len(edits)} refused, {time.monotonic() - began:.0f} s in all")
+        for it in tried:
+            print(f"  {it.ending} {it.name}, {it.seconds:.0f} s: {it.said}", flush=True)
+    return tried
+
+
+def main() -> int:
+    said = make_parser().parse_args()
+    wanted = chosen(said.crates, said.gate)
+    if said.list:
+        for crate, edits in wanted.items():
+            print(crate, *(it.stem for it in edits))
+        print(sum(map(len, wanted.values())))
+        return 0
+    rt = toolchain()
+    crates = {it.name: it for it in rt.rtlib.crates_below(str(TOP))}
+    build_missing(crates, wanted)
+    began = time.monotonic()
+    with concurrent.futures.ThreadPoolExecutor(said.lanes) as pool:
+        calls = [pool.submit(try_crate, rt, crates[crate], edits, began + 60 * said.minutes) for crate, edits in wanted.items()]
+        tried = [it for call in calls for it in call.result()]
+    count = {ending: sum(it.ending == ending for it in tried) for ending in ("refused", "let through", "bad", "left")}
+    print(f"{count['refused']} of {len(tried)} refused in {(time.monotonic() - began) / 60:.0f} minutes", *(f", {n} {it}" for it, n in count.items() if n and it != "refused"), sep="")
+    return 1 if count["let through"] or count["bad"] else 3 if count["left"] else 0
+
+
+def run() -> None:
+    """Runs it to its end."""
+    sys.exit(main())
+
+
+if __name__ == "__main__":
+    run()
