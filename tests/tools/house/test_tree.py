@@ -56,6 +56,11 @@ class Tree(unittest.TestCase):
                 called = (imports(text, "nozhgiva_tools") & set(PARTS)) - {part}
                 self.assertLessEqual(called, PARTS[part], path)
 
+    def test_what_may_be_run_says_by_what(self) -> None:
+        listed = subprocess.run(["git", "ls-files", "-s"], cwd=TOP, stdout=subprocess.PIPE, text=True, check=True).stdout.splitlines()
+        programs = {path for mode, path in ((line.split()[0], line.split("\t")[1]) for line in listed) if mode == "100755"}
+        self.assertEqual({path for path in programs if not (TOP / path).read_bytes().startswith(b"#!")}, set())
+
     def test_each_top_folder_says_what_it_holds(self) -> None:
         folders = {path.split("/")[0] for path in files() if "/" in path} - {".ci", "docs", "clients"}
         self.assertEqual({folder for folder in folders if not (TOP / folder / "README.md").is_file()}, set())
