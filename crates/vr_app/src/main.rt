@@ -10,8 +10,9 @@ use std::io;
 use std::io::{ErrorKind, Stdin, Stdout};
 use std::path::PathBuf;
 use std::process::ExitCode;
+use vr_file::FileDisk;
 use vr_real::{
-    FileDisk, RealClock, RealLink, RealSpawner, SocketLink, StdSink, StdSource,
+    RealClock, RealLink, RealSpawner, SocketLink, StdSink, StdSource,
     take_missing_streams, take_stack,
 };
 use vr_top::{Maker, Program, Untold, run_outside};

@@ -1,12 +1,12 @@
 //! A link over datagrams or over streams, by its addresses: the program's is over UDP or over TCP.
 ghost use Rattle.std.specs.Prelude.{None};
 
-use crate::counting::counted;
 use crate::tcp_streams::{PREFIX, TcpStreams};
 use crate::udp_link::UdpLink;
 use std::alloc::{AllocError, Global};
 use std::net::Net;
 use vr_edge::{Link, LinkFailed, Received, Streams};
+use vr_io_policy::counted;
 use vr_stream::StreamLink;
 
 /// The most peers.

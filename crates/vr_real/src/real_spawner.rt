@@ -2,12 +2,12 @@
 ghost use Rattle.std.specs.Prelude.{◌≡◌, [], length, None};
 ghost use Rattle.vr_spawn.specs.Spawning.{IsNumbered};
 
-use crate::counting::counted;
 use std::alloc::Global;
 use std::io;
 use std::io::ErrorKind;
 use std::path::PathBuf;
 use std::process::{Child, Command, Processes, Stdio};
+use vr_io_policy::counted;
 use vr_spawn::{SpawnFailed, Spawner};
 
 /// Runs of one program, whose standard streams are null. It tells nothing. A stop kills, and one of what has ended already

@@ -3,9 +3,7 @@ ghost use Rattle.std.specs.Prelude.{◌≡◌, ◌≤◌, ◌+◌, IfOk, IfSome,
 ghost use Rattle.vr_edge.specs.Streaming.{IsPolled};
 
 use crate::addresses::{address_of, addresses_of};
-use crate::counting::counted;
 use crate::descriptors::has_descriptors;
-use crate::real_clock::millis_of;
 use crate::slots::{
     ENTRANCE, Slot, begins_at, empty_slots, is_free, note, put_stream, read_ready, stands_at,
     take_in, write_at,
@@ -19,7 +17,7 @@ use std::io::ErrorKind;
 use std::net::{Net, SocketAddr};
 use std::time::{Clock, Duration};
 use vr_edge::{Polled, STREAM_ROOM, StreamFailed, Streams};
-use vr_io_policy::{PLACES, Places, descriptors_wanted};
+use vr_io_policy::{PLACES, Places, counted, descriptors_wanted, millis_of};
 
 /// How long a poll waits where nothing is there. The system may round it up to one of its own ticks, and one more.
 const WAIT_MILLIS: u64 = 4;
@@ -330,7 +328,7 @@ impl<R: Net + Clock + Drop> TcpStreams<R> {
         if at >= self.peers.len() || stands_at(&self.slots, at) {
             return false;
         }
-        self.now = millis_of(&self.net, self.now);
+        self.now = millis_of(self.net.monotonic(), self.now);
         begins_at(&mut self.slots, at, self.now)
     }
 
@@ -410,7 +408,7 @@ impl<R: Net + Clock + Drop> Streams for TcpStreams<R> {
     }
 
     fn poll(&mut self, to: &mut [u8]) -> Result<Polled, StreamFailed> {
-        self.now = millis_of(&self.net, self.now);
+        self.now = millis_of(self.net.monotonic(), self.now);
         let found = self.find(to);
         counted(found, &mut self.faults, StreamFailed)
     }

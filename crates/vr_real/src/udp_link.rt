@@ -2,14 +2,13 @@
 ghost use Rattle.std.specs.Prelude.{◌≡◌, ◌≤◌, None, vec_capacity};
 
 use crate::addresses::{address_of, addresses_of};
-use crate::counting::counted;
 use std::alloc::{AllocError, Global};
 use std::io;
 use std::io::ErrorKind;
 use std::net::{IpAddr, Ipv4Addr, Ipv6Addr, Net, SocketAddr, UdpSocket};
 use std::time::Duration;
 use vr_edge::{Link, LinkFailed, RECEIVE_ROOM, Received};
-use vr_io_policy::{NOBODY, Ports};
+use vr_io_policy::{NOBODY, Ports, counted};
 
 /// How long a receive is to wait for a datagram. The system may round it up to one of its own ticks, and one more:
 /// 4 become 8 where it has 250 of them a second, which is at most the 10 that a receive may take.

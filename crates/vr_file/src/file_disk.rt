@@ -2,10 +2,8 @@
 ghost use Rattle.std.specs.Prelude.{◌≡◌, ◌<◌, None, Some, IfSome};
 ghost use Rattle.vr_disk.specs.Regions.{sectors};
 
-use crate::counting::counted;
 use crate::file::{open, renew_copies};
 use crate::kept::Kept;
-use crate::real_clock::millis_of;
 use std::alloc::{AllocError, Global};
 use std::fs::{File, Files};
 use std::io;
@@ -13,6 +11,7 @@ use std::io::ErrorKind;
 use std::time::Clock;
 use vr_base::{Sum, checksum};
 use vr_disk::{DiskFailed, Memo, Room, Sector, SectorDisk};
+use vr_io_policy::{counted, millis_of};
 
 /// A disk of sectors in a file of the system: sector i stands at byte 512 i. It tells nothing. A call fails where a call of the
 /// system does that is made for it, or where no file is attached; a read is made again a few times first. The first attach also fails where there is no
@@ -107,7 +106,7 @@ impl<R: Clock> FileDisk<R> {
         ensures faults { self.new.faults ≡ self.old.faults }
         ensures reads { self.new.read_faults ≡ self.old.read_faults }
     {
-        self.now = millis_of(&self.system, self.now);
+        self.now = millis_of(self.system.monotonic(), self.now);
         if let (Some(file), Some(kept)) = (&self.file, &mut self.kept) {
             if kept.refresh(self.now) {
                 renew_copies(file);
@@ -156,7 +155,7 @@ impl<R: Clock> FileDisk<R> {
         ensures faults { self.new.faults ≡ self.old.faults }
         ensures reads { self.new.read_faults ≡ self.old.read_faults }
     {
-        self.now = millis_of(&self.system, self.now);
+        self.now = millis_of(self.system.monotonic(), self.now);
         if let (Some(file), Some(kept)) = (&self.file, &mut self.kept) {
             kept.flush(&self.system, file)?;
         }
