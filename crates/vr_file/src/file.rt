@@ -1,6 +1,6 @@
 //! The file of a disk: opened, locked, made whole, and read anew by the system.
 
-use crate::kept::place;
+use crate::open_file::place;
 use std::fs::{File, Files, OpenOptions};
 use std::io;
 use std::io::ErrorKind;

@@ -1,9 +1,11 @@
 //! A disk of sectors in a file.
-ghost use Rattle.std.specs.Prelude.{◌≡◌, ◌<◌, None, Some, IfSome};
+ghost use Rattle.std.specs.Prelude.{◌≡◌, ◌<◌, None, OnOk, Some, IfSome};
 ghost use Rattle.vr_disk.specs.Regions.{sectors};
+ghost use Rattle.vr_file.specs.Above.{Knows, NoneWaits};
 
-use crate::file::{open, renew_copies};
+use crate::file::open;
 use crate::kept::Kept;
+use crate::open_file::OpenFile;
 use std::alloc::{AllocError, Global};
 use std::fs::{File, Files};
 use std::io;
@@ -108,20 +110,19 @@ impl<R: Clock> FileDisk<R> {
     {
         self.now = millis_of(self.system.monotonic(), self.now);
         if let (Some(file), Some(kept)) = (&self.file, &mut self.kept) {
-            if kept.refresh(self.now) {
-                renew_copies(file);
-            }
+            kept.refresh(&mut OpenFile { file }, self.now);
         }
     }
 
     /// Reads a sector.
     fn read_sector(&mut self, i: u32, to: &mut Sector) -> io::Result<()>
         requires { i < sectors }
+        ensures known { OnOk result (Knows self.new.kept i to.new) }
         ensures faults { self.new.faults ≡ self.old.faults }
         ensures reads { self.new.read_faults ≡ self.old.read_faults }
     {
         match (&self.file, &mut self.kept) {
-            (Some(file), Some(kept)) => kept.read(&self.system, file, i, to),
+            (Some(file), Some(kept)) => kept.read(&self.system, &mut OpenFile { file }, i, to),
             _ => Err(no_file()),
         }
     }
@@ -129,25 +130,26 @@ impl<R: Clock> FileDisk<R> {
     /// Writes a sector.
     fn write_sector(&mut self, i: u32, from: &Sector) -> io::Result<()>
         requires { i < sectors }
+        ensures known { OnOk result (Knows self.new.kept i from.now) }
         ensures faults { self.new.faults ≡ self.old.faults }
         ensures reads { self.new.read_faults ≡ self.old.read_faults }
     {
         match (&self.file, &mut self.kept) {
-            (Some(file), Some(kept)) => kept.write(&self.system, file, i, from),
+            (Some(file), Some(kept)) => kept.write(&self.system, &mut OpenFile { file }, i, from),
             _ => Err(no_file()),
         }
     }
 
     /// Waits until the disk has what was written.
     fn sync_data(&mut self) -> io::Result<()>
+        ensures written { OnOk result (NoneWaits self.new.kept) }
         ensures faults { self.new.faults ≡ self.old.faults }
         ensures reads { self.new.read_faults ≡ self.old.read_faults }
     {
-        let (Some(file), Some(kept)) = (&self.file, &mut self.kept) else {
-            return Err(no_file());
-        };
-        kept.flush(&self.system, file)?;
-        file.sync_data()
+        match (&self.file, &mut self.kept) {
+            (Some(file), Some(kept)) => kept.sync(&self.system, &mut OpenFile { file }),
+            _ => Err(no_file()),
+        }
     }
 
     /// Lets the file go, which gets what waits first. No sector is known then.
@@ -157,7 +159,7 @@ impl<R: Clock> FileDisk<R> {
     {
         self.now = millis_of(self.system.monotonic(), self.now);
         if let (Some(file), Some(kept)) = (&self.file, &mut self.kept) {
-            kept.flush(&self.system, file)?;
+            kept.flush(&self.system, &mut OpenFile { file })?;
         }
         if let Some(kept) = &mut self.kept {
             kept.forget(self.now);

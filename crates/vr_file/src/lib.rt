@@ -4,5 +4,9 @@
 mod file;
 mod file_disk;
 mod kept;
+mod laws;
+mod open_file;
+mod page_file;
 
 pub use file_disk::FileDisk;
+pub use laws::shown_laws;

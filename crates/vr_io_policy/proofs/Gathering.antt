@@ -1,6 +1,7 @@
 -- The bytes of sectors, one after the other.
 use Rattle.std.specs.Prelude.{flat_map}
-use Rattle.std.proofs.Common.{arith, refl, ◌≡◌, ◌∙◌, ◌+◌, ◌*◌, ◌<◌, ◌≤◌, ℕ, List, [], ◌∷◌, ◌++◌, ap, drop, length, get_or, replicate, sym, take}
+use Rattle.std.proofs.Common.{arith, refl, ◌≡◌, ◌∙◌, ◌+◌, ◌*◌, ◌<◌, ◌≤◌, ℕ, List, [], ◌∷◌, ◌++◌, ap, drop, inl, inr, length, get_or, replicate, sym, take}
+use Rattle.std.proofs.lemmas.Bool.{cases_lt}
 use Rattle.std.proofs.lemmas.Grind.{flat_map-append}
 use Rattle.std.specs.List.{between}
 use Rattle.std.proofs.lemmas.List.{append-nil, drop-append-le, length-take-le, take_more}
@@ -20,6 +21,14 @@ pub gathered : (sectors : List Cached) (k : ℕ) (old new bytes : List ℕ) → 
 gathered sectors k old new bytes h size e front put =
     let n : 512 * (k + 1) ≡ 512 * k + length bytes = omega arith in
     rw (n, put, front, e, one_more sectors k h) refl
+
+-- the next one is whole, as those before it
+pub whole_more : (sectors : List Cached) (k : ℕ) (bytes : List ℕ) → length bytes ≡ 512 → bytes ≡ stands_for (get_or sectors k Unknown)
+    → ((i : ℕ) → i < k → length (stands_for (get_or sectors i Unknown)) ≡ 512) → (i : ℕ) → i < k + 1 → length (stands_for (get_or sectors i Unknown)) ≡ 512
+whole_more sectors k bytes size e h i l = elim (cases_lt i k) [
+  | inl b ↦ h i b
+  | inr g ↦ let same : i ≡ k = omega arith in rw (same, ← e) size
+]
 
 -- what stands between two places, before others
 pub kept_between : (xs ys : List Cached) (i j : ℕ) → i ≤ j → j ≤ length xs → drop i (take j xs ++ ys) ≡ between i j xs ++ ys

@@ -1,5 +1,5 @@
-mod Between
+pub mod Between
 mod Fair
 mod First
 mod Gathering
-mod Over
+pub mod Over

@@ -18,7 +18,7 @@ has_itself : (bytes : List ℕ) (now : Option (List ℕ)) → now ≡ Some bytes
 has_itself bytes now h = rw h ((bytes_eq-Decides bytes bytes).1 refl)
 
 -- a write: it had the bytes, and nothing changes, or they are written in the place of others
-over_same : (s : Spot) (bytes : List ℕ) → s.now ≡ Some bytes → over s bytes ≡ s
+pub over_same : (s : Spot) (bytes : List ℕ) → s.now ≡ Some bytes → over s bytes ≡ s
 over_same s bytes h = cond-true (has bytes s.now) s (record { now = Some bytes; synced = s.synced; since = bytes ∷ s.since }) (has_itself bytes s.now h)
 
 abbrev newly : Spot → List ℕ → Spot

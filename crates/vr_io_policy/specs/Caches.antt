@@ -107,6 +107,10 @@ stands_for (Held s) = s.bytes
 abbrev pub bytes_of : List Cached → List ℕ
 bytes_of sectors = flat_map stands_for sectors
 
+-- each is written as the bytes of one sector
+pub record AreWhole (sectors : List Cached) : Type 0 where
+  pub each : (k : ℕ) → k < length sectors → length (stands_for (slice_index_or sectors k Unknown)) ≡ 512
+
 -- the file has what waited
 abbrev pub flushed : Cache → Cache
 flushed c = record { sectors = c.sectors; first = c.end; end = c.end; forgotten = c.forgotten }

@@ -1,7 +1,7 @@
 //! Which sectors of a file are known, which of them wait to be written, what is to be done next about them, and when they are forgotten.
 ghost use Rattle.std.specs.Prelude.{◌≡◌, ◌<◌, ◌≤◌, ◌-◌, ◌++◌, IfOk, IfSome, None, drop, length, replicate, slice_index_or, take, true, false, if◌then◌else◌};
 ghost use Rattle.std.specs.List.{between};
-ghost use Rattle.vr_io_policy.specs.Caches.{IsNext, cached, flushed, forgot, is_held, is_old, is_unknown, joins, learnt, new_cache, pages, pages_end, pages_first, put, waits};
+ghost use Rattle.vr_io_policy.specs.Caches.{IsCache, IsNext, cached, flushed, forgot, is_held, is_old, is_unknown, joins, learnt, new_cache, pages, pages_end, pages_first, put, waits};
 ghost use Rattle.vr_io_policy.specs.declared.cached.Cached.TheVariants.{Held, Unknown, Unread};
 
 use crate::cached::Cached;
@@ -117,6 +117,7 @@ impl SectorCache {
         requires { i < SECTORS }
         ensures known { result ≡ is_held (cached self.now i) }
         ensures bytes { result ≡ true → cached self.now i ≡ Held to.new }
+        ensures sound { IsCache self.now }
     {
         match self.sectors[i as usize] {
             Cached::Held(sector) => {
@@ -136,7 +137,8 @@ impl SectorCache {
 
     /// Whether a sector may wait with those that do.
     pub fn joins(&self, i: u32) -> bool
-        ensures { result ≡ joins self.now i }
+        ensures value { result ≡ joins self.now i }
+        ensures sound { IsCache self.now }
     {
         self.first == self.end
             || self.waits(i)
@@ -210,7 +212,8 @@ impl SectorCache {
 
     /// What is to be done next so that nothing waits.
     pub fn next(&self) -> Next
-        ensures { IsNext self.now result }
+        ensures next { IsNext self.now result }
+        ensures sound { IsCache self.now }
     {
         if self.first == self.end {
             return Next::Nothing;
@@ -234,7 +237,8 @@ impl SectorCache {
 
     /// From now on only those are known that wait.
     pub fn forget(&mut self, now: u64)
-        ensures { self.new ≡ forgot self.old now }
+        ensures value { self.new ≡ forgot self.old now }
+        ensures sound { IsCache self.old }
     {
         let (first, end) = (self.first as usize, self.end as usize);
         forget_around(self.sectors.as_mut_slice(), first, end);
@@ -243,6 +247,7 @@ impl SectorCache {
 
     /// Forgets where a minute has passed since it did so last, and says whether it has.
     pub fn refresh(&mut self, now: u64) -> bool
+        ensures sound { IsCache self.old }
         ensures value { result ≡ is_old self.old now }
         ensures new { self.new ≡ (if is_old self.old now then forgot self.old now else self.old) }
     {

@@ -1,6 +1,6 @@
 //! The bytes of pages that are to be written.
 ghost use Rattle.std.specs.Prelude.{◌≡◌, ◌≤◌, ◌*◌, length, take};
-ghost use Rattle.vr_io_policy.specs.Caches.{IsReady, bytes_of, pages};
+ghost use Rattle.vr_io_policy.specs.Caches.{AreWhole, IsReady, bytes_of, pages};
 
 use crate::cache::SectorCache;
 use crate::cached::Cached;
@@ -31,7 +31,8 @@ impl Model for PageBuffer {
 /// Puts what is written to these sectors in front.
 fn put_all(out: &mut [u8], sectors: &[Cached])
     requires { 512 * length sectors.now ≤ length out.old }
-    ensures { take (512 * length sectors.now) out.new ≡ bytes_of sectors.now }
+    ensures bytes { take (512 * length sectors.now) out.new ≡ bytes_of sectors.now }
+    ensures whole { AreWhole sectors.now }
 {
     for k in 0..sectors.len() {
         put(out, SECTOR_SIZE * k, &sectors[k].bytes());
@@ -49,7 +50,8 @@ impl PageBuffer {
     /// The bytes of the pages in which some sectors wait.
     pub fn gather(&mut self, cache: &SectorCache) -> &[u8]
         requires { IsReady cache.now }
-        ensures { result.now ≡ bytes_of (pages cache.now) }
+        ensures bytes { result.now ≡ bytes_of (pages cache.now) }
+        ensures whole { AreWhole (pages cache.now) }
     {
         let pages = cache.pages();
         put_all(self.bytes.as_mut_slice(), pages);

@@ -1,0 +1,5 @@
+mod Above
+mod Known
+mod Pieces
+mod Settling
+mod Shown
