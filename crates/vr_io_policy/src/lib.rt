@@ -1,5 +1,7 @@
 //! What a program decides about the outside: which stream gives its place up to a newcomer (`guest`, `turn`, `places`), when a call that failed
-//! is made again (`again`), which sender a port stands for (`ports`), and how many descriptors a start wants (`wants`). Nothing is called here.
+//! is made again (`again`), and what it counts as (`counting`); what is known of a file's sectors and done next about them (`cache`, `cached`,
+//! `page_buffer`), which sender a port stands for (`ports`), how many descriptors a start wants (`wants`), and what time it is where a clock fails
+//! (`millis`). Nothing is called here.
 #![tactic(auto)]
 
 mod again;
