@@ -5,8 +5,8 @@ use Rattle.std.proofs.lemmas.Bool.Decides.{nat_tests}
 use Rattle.vr_disk.specs.declared.sector.Sector.{Sector}
 use Rattle.vr_io_policy.specs.declared.cached.Cached.{Cached}
 use Rattle.vr_io_policy.specs.declared.cached.Cached.TheVariants.{Unknown, Unread, Held}
-use Rattle.vr_io_policy.specs.Caches.{AreWhole, Cache, IsCache, IsReady, bytes_of, cached, flushed, forgot, is_clean, is_held, is_unknown, joins, learnt, pages, pages_end, pages_first, put, stands_for, waits}
-use Rattle.vr_io_policy.specs.Files.{Spot, Stands, StandsAt, in_pages, lost, neighbors_lost, over, pages_written, sector_written, synced}
+use Rattle.vr_io_policy.specs.Caches.{AreWhole, Cache, IsCache, IsReady, bytes_of, cached, flushed, forgot, is_clean, is_held, is_unknown, joins, learnt, not_alone, pages, pages_end, pages_first, put, stands_for, waiting, waits}
+use Rattle.vr_io_policy.specs.Files.{Spot, Stands, StandsAt, in_pages, lost, neighbors_lost, over, pages_written, sector_written, synced, waiting_written}
 use Rattle.vr_io_policy.proofs.Between.{is_a_disk}
 use Rattle.vr_io_policy.proofs.Over.{over_now, over_same, page_stops}
 use Rattle.vr_file.specs.Calls.{ReadsSpot, Spots, SyncsSpots, WritesSpots, is_within, spots_written}
@@ -161,6 +161,43 @@ written_some c ok (Some f) u d is r w s h =
       spared = record { at = λ j. chosen_spared (each j) (d j) (neighbors_lost d c j) (spared_at c f d j h) };
       above = record { at = λ j. chosen_stands (waits c j) (cached c j) (f j) (pages_written f c j) (s.0 j) (d j) (neighbors_lost d c j) (each j) (h.at j) (half_at c f d j r h) };
     })
+
+-- ---- those that wait go to the file alone
+
+alone_is : (c : Cache) (f : Spots) (j : ℕ) → IsCache c → AreWhole (waiting c) → spots_written c.first (bytes_of (waiting c)) f j ≡ waiting_written f c j
+alone_is c f j is w =
+    let bound : c.end ≤ length c.sectors = let n = is.size in let e = is.within in omega arith in
+    let same : is_within c.first (bytes_of (waiting c)) j ≡ waits c j = within_between c.sectors c.first c.end j bound w in
+    elim (cases_Bool (waits c j)) [
+      | inl t ↦ rw (same, t) (ap (over (f j)) (piece_between c.sectors c.first c.end j bound w (grind (arith, nat_tests)) (grind (arith, nat_tests))))
+      | inr n ↦ rw (same, n) refl
+    ]
+
+alone_half : (w : Bool) (k : Cached) (f d : Spot) → StandsAt w k f d → StandsAt w k (cond w (over f (stands_for k)) f) d
+alone_half false k f d h = h
+alone_half true Unknown f d h = absurd (let t = h.held refl in cc)
+alone_half true Unread f d h = absurd (let t = h.held refl in cc)
+alone_half true (Held s) f d h = half true (Held s) f d refl h
+
+alone_chosen : (w : Bool) (k : Cached) (f g h d : Spot) → (h ≡ f) ⊎ (h ≡ g) → StandsAt w k f d → StandsAt w k g d → StandsAt w k h d
+alone_chosen w k f g h d (inl e) a b = rw e a
+alone_chosen w k f g h d (inr e) a b = rw e b
+
+alone_each : (c : Cache) (f h : Spots) (j : ℕ) → IsCache c → AreWhole (waiting c) → (h j ≡ f j) ⊎ (h j ≡ spots_written c.first (bytes_of (waiting c)) f j) → (h j ≡ f j) ⊎ (h j ≡ waiting_written f c j)
+alone_each c f h j is w (inl e) = inl e
+alone_each c f h j is w (inr e) = inr (e ∙ alone_is c f j is w)
+
+pub alone_whole : (c : Cache) (t u : Option Spots) (d : Spots) → IsCache c → AreWhole (waiting c) → WritesSpots c.first (bytes_of (waiting c)) true t u → IsAbove c t d → IsAbove (flushed c) u d
+alone_whole c None u d is w s h = absurd h
+alone_whole c (Some f) u d is w s h =
+    let all : (j : ℕ) → s.0 j ≡ waiting_written f c j = λ j. s.2.whole refl j ∙ alone_is c f j is w in
+    rw s.1 (same_file (flushed c) (waiting_written f c) s.0 d all (is_a_disk.alone c f d h))
+
+pub alone_some : (c : Cache) (ok : Bool) (t u : Option Spots) (d : Spots) → IsCache c → AreWhole (waiting c) → WritesSpots c.first (bytes_of (waiting c)) ok t u → IsAbove c t d → IsAbove (not_alone c) u d
+alone_some c ok None u d is w s h = absurd h
+alone_some c ok (Some f) u d is w s h =
+    let each : (j : ℕ) → (s.0 j ≡ f j) ⊎ (s.0 j ≡ waiting_written f c j) = λ j. alone_each c f s.0 j is w (s.2.some j) in
+    rw s.1 (record { at = λ j. alone_chosen (waits c j) (cached c j) (f j) (waiting_written f c j) (s.0 j) (d j) (each j) (h.at j) (alone_half (waits c j) (cached c j) (f j) (d j) (h.at j)) })
 
 -- ---- syncs and forgetting
 

@@ -1,5 +1,5 @@
 -- What is known after a call.
-use Rattle.std.proofs.Common.{arith, refl, ◌≡◌, ◌∙◌, ◌+◌, ◌<◌, ℕ, true, get_or, set, max, inl, inr}
+use Rattle.std.proofs.Common.{arith, refl, ◌≡◌, ◌∙◌, ◌+◌, ◌<◌, ℕ, true, false, get_or, set, max, inl, inr}
 use Rattle.std.proofs.lemmas.Bool.{cond_both}
 use Rattle.std.proofs.lemmas.Bool.Decides.{eqb_tells}
 use Rattle.std.proofs.lemmas.List.{get_or-set_same, get_or-set_other}
@@ -9,14 +9,14 @@ use Rattle.vr_io_policy.specs.declared.cached.Cached.TheVariants.{Unknown, Held}
 use Rattle.vr_io_policy.specs.Caches.{Cache, IsCache, cached, is_clean, is_held, learnt, put}
 
 abbrev with_sector : Cache → ℕ → Cached → Cache
-with_sector c i found = record { sectors = set c.sectors i found; first = c.first; end = c.end; forgotten = c.forgotten }
+with_sector c i found = record { sectors = set c.sectors i found; first = c.first; end = c.end; tried = c.tried; forgotten = c.forgotten }
 
 set_same : (c : Cache) (i : ℕ) (found : Cached) → IsCache c → i < 3984 → get_or (set c.sectors i found) i Unknown ≡ found
 set_same c i found is l = get_or-set_same c.sectors i found Unknown (let n = is.size in omega arith)
 
 pub put_held : (c : Cache) (i : ℕ) (s : Sector) → IsCache c → i < 3984 → cached (put c i s) i ≡ Held s
 put_held c i s is l =
-    cond_both (is_clean c) (record { sectors = set c.sectors i (Held s); first = i; end = i + 1; forgotten = c.forgotten }) (record { sectors = set c.sectors i (Held s); first = c.first; end = max c.end (i + 1); forgotten = c.forgotten })
+    cond_both (is_clean c) (record { sectors = set c.sectors i (Held s); first = i; end = i + 1; tried = false; forgotten = c.forgotten }) (record { sectors = set c.sectors i (Held s); first = c.first; end = max c.end (i + 1); tried = c.tried; forgotten = c.forgotten })
     (λ p. cached p i ≡ Held s) (λ t. set_same c i (Held s) is l) (λ n. set_same c i (Held s) is l)
 
 pub learnt_held : (c : Cache) (i : ℕ) (s : Sector) → IsCache c → i < 3984 → (is_held (cached c i) ≡ true → cached c i ≡ Held s) → cached (learnt c i (Held s)) i ≡ Held s

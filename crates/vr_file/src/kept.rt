@@ -3,7 +3,7 @@ ghost use Rattle.std.specs.Prelude.{◌≡◌, ◌<◌, ◌+◌, IfOk, OnErr, On
 ghost use Rattle.vr_disk.specs.Regions.{sectors};
 ghost use Rattle.vr_file.specs.Above.{Goes, IsAbove};
 ghost use Rattle.vr_file.specs.Calls.{ReadsSpot, Spots};
-ghost use Rattle.vr_io_policy.specs.Caches.{IsCache, IsWritten, cached, forgot, is_clean, is_held, is_old, joins, learnt, put};
+ghost use Rattle.vr_io_policy.specs.Caches.{IsAlone, IsCache, IsWritten, cached, forgot, is_clean, is_held, is_old, joins, learnt, put};
 ghost use Rattle.vr_io_policy.specs.Files.{sector_written, synced};
 ghost use Rattle.vr_io_policy.specs.declared.cached.Cached.TheVariants.{Held};
 
@@ -15,7 +15,7 @@ use std::{io, thread};
 use vr_disk::{Sector, ZEROS};
 use vr_io_policy::{Again, Next, PageBuffer, SectorCache};
 
-/// More than the calls that it takes until nothing waits: a read of each neighbor in two pages, and a write.
+/// More than the calls that it takes until nothing waits: a read of each neighbor in two pages, and two writes.
 const CALLS: u32 = 32;
 
 /// Reads a sector, and again where that failed.
@@ -131,6 +131,19 @@ impl Kept {
         }
     }
 
+    /// Writes those that wait alone, since a neighbor couldn't be read: it may be read later, and so keeps what it has. Where that fails they still wait.
+    fn write_alone<F: PageFile>(&mut self, file: &mut F, first: u32)
+        requires sound { IsCache self.old.cache }
+        requires alone { IsAlone self.old.cache first }
+        ensures kept { (k : _) → cached self.new.cache k ≡ cached self.old.cache k }
+        ensures above { (d : Spots) → IsAbove self.old.cache (F.told file.old) d → IsAbove self.new.cache (F.told file.new) d }
+    {
+        match file.write(first, self.buffer.gather_waiting(&self.cache)) {
+            Ok(()) => self.cache.flush(),
+            Err(_) => self.cache.note_not_alone(),
+        }
+    }
+
     /// Writes the pages in which some wait.
     fn write_pages<F: PageFile>(&mut self, file: &mut F, first: u32) -> io::Result<()>
         requires sound { IsCache self.old.cache }
@@ -153,6 +166,7 @@ impl Kept {
         match self.cache.next() {
             Next::Nothing => return Ok(true),
             Next::Read(i) => self.read_neighbor(clock, file, i),
+            Next::WriteAlone(first) => self.write_alone(file, first),
             Next::Write(first) => self.write_pages(file, first)?,
         }
         Ok(false)

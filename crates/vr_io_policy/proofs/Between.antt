@@ -10,7 +10,7 @@ use Rattle.vr_disk.specs.declared.sector.Sector.{Sector}
 use Rattle.vr_io_policy.specs.declared.cached.Cached.{Cached}
 use Rattle.vr_io_policy.specs.declared.cached.Cached.TheVariants.{Unknown, Unread, Held}
 use Rattle.vr_io_policy.specs.Caches.{Cache, IsCache, IsReady, cached, flushed, forgot, is_clean, is_held, is_unknown, joins, learnt, new_cache, pages_end, pages_first, put, stands_for, waiting_alone, waits}
-use Rattle.vr_io_policy.specs.Files.{IsADisk, Leaves, Spot, Stands, StandsAt, in_pages, lost, neighbors_lost, over, pages_written, sector_written, settled_as, synced}
+use Rattle.vr_io_policy.specs.Files.{IsADisk, Leaves, Spot, Stands, StandsAt, in_pages, lost, neighbors_lost, over, pages_written, sector_written, settled_as, synced, waiting_written}
 use Rattle.vr_io_policy.proofs.Over.{begun, failed, forgotten, lost_more, lost_spares, noted, over_more, page_stops, page_written, seen_below, settled, waits_now}
 
 moved : (w v : Bool) (k l : Cached) (f d e : Spot) → v ≡ w → l ≡ k → e ≡ d → StandsAt w k f d → StandsAt v l f e
@@ -44,7 +44,7 @@ joined_there c i j l m n = grind (arith, nat_tests)
 pub writes : (c : Cache) (f d : ℕ → Spot) (i : ℕ) (s : Sector) → IsCache c → i < 3984 → joins c i ≡ true → Stands c f d → Stands (put c i s) f (sector_written d i s.bytes)
 writes c f d i s is below j h =
     let size : i < length c.sectors = let n = is.size in omega arith in
-    cond_both (is_clean c) (record { sectors = set c.sectors i (Held s); first = i; end = i + 1; forgotten = c.forgotten }) (record { sectors = set c.sectors i (Held s); first = c.first; end = max c.end (i + 1); forgotten = c.forgotten })
+    cond_both (is_clean c) (record { sectors = set c.sectors i (Held s); first = i; end = i + 1; tried = false; forgotten = c.forgotten }) (record { sectors = set c.sectors i (Held s); first = c.first; end = max c.end (i + 1); tried = c.tried; forgotten = c.forgotten })
     (λ p. Stands p f (sector_written d i s.bytes))
     (λ t. record { at = sector_set c _ i (i + 1) f d i s refl size (alone_here i) (λ k n. alone_there c i k t n) h })
     (λ n. let p = next_to c i is n j in
@@ -56,7 +56,7 @@ learns : (c : Cache) (f d : ℕ → Spot) (i : ℕ) (found : Cached) → IsCache
     → (is_held (cached c i) ≡ false → StandsAt (waits c i) found (f i) (d i)) → Stands (learnt c i found) f d
 learns c f d i found is below h g =
     let size : i < length c.sectors = let n = is.size in omega arith in
-    cond_both (is_held (cached c i)) c (record { sectors = set c.sectors i found; first = c.first; end = c.end; forgotten = c.forgotten }) (λ p. Stands p f d) (λ t. h)
+    cond_both (is_held (cached c i)) c (record { sectors = set c.sectors i found; first = c.first; end = c.end; tried = c.tried; forgotten = c.forgotten }) (λ p. Stands p f d) (λ t. h)
     (λ n. record {
       at = λ j. elim (eqb_tells j i) [
         | inl p ↦ rw p.1 (moved (waits c i) _ found _ (f i) (d i) _ refl (get_or-set_same c.sectors i found Unknown size) refl (g n))
@@ -94,6 +94,24 @@ tears c f d left is r h l j = elim (cases_Bool (in_pages c j)) [
     | inl old ↦ (h.at j).stops (left j) old
     | inr new ↦ (h.at j).stops (left j) (rw (cond-false (in_pages c j) (over (f j) (stands_for (cached c j))) (f j) n) at new)
   ])
+]
+
+-- ---- those that wait go to the file alone
+
+alone_at : (w : Bool) (k : Cached) (f d : Spot) → StandsAt w k f d → StandsAt false k (cond w (over f (stands_for k)) f) d
+alone_at false k f d h = h
+alone_at true Unknown f d h = absurd (let t = h.held refl in cc)
+alone_at true Unread f d h = absurd (let t = h.held refl in cc)
+alone_at true (Held s) f d h = page_written true (Held s) f d refl h
+
+pub alone : (c : Cache) (f d : ℕ → Spot) → Stands c f d → Stands (flushed c) (waiting_written f c) d
+alone c f d h = record { at = λ j. rw (clean_now c j) (alone_at (waits c j) (cached c j) (f j) (d j) (h.at j)) }
+
+pub tears_alone : (c : Cache) (f d : ℕ → Spot) (left : ℕ → Option (List ℕ)) → Stands c f d → ((j : ℕ) → Leaves (f j) (left j) ⊎ Leaves (waiting_written f c j) (left j))
+    → (j : ℕ) → Leaves (d j) (left j)
+tears_alone c f d left h l j = elim (l j) [
+  | inl old ↦ (h.at j).stops (left j) old
+  | inr new ↦ (let a : Stands (flushed c) (waiting_written f c) d = alone c f d h in (a.at j).stops (left j) new)
 ]
 
 pub spares : (c : Cache) (f d : ℕ → Spot) (j : ℕ) → Stands c f d → ((d j).now ≡ (neighbors_lost d c j).now) ⊎ ((d j).now ≡ None)
@@ -169,4 +187,6 @@ is_a_disk = record {
   forgets = forgets;
   stops = λ c f d left h l j. (h.at j).stops (left j) (l j);
   tears = tears;
+  alone = alone;
+  tears_alone = tears_alone;
 }

@@ -1,6 +1,5 @@
 -- The bytes of sectors, one after the other.
-use Rattle.std.specs.Prelude.{flat_map}
-use Rattle.std.proofs.Common.{arith, refl, ◌≡◌, ◌∙◌, ◌+◌, ◌*◌, ◌<◌, ◌≤◌, ℕ, List, [], ◌∷◌, ◌++◌, ap, drop, inl, inr, length, get_or, replicate, sym, take}
+use Rattle.std.proofs.Common.{arith, refl, ◌≡◌, ◌∙◌, ◌+◌, ◌*◌, ◌<◌, ◌≤◌, ℕ, false, List, [], ◌∷◌, ◌++◌, ap, drop, inl, inr, length, get_or, replicate, sym, take}
 use Rattle.std.proofs.lemmas.Bool.{cases_lt}
 use Rattle.std.proofs.lemmas.Grind.{flat_map-append}
 use Rattle.std.specs.List.{between}
@@ -35,7 +34,7 @@ pub kept_between : (xs ys : List Cached) (i j : ℕ) → i ≤ j → j ≤ lengt
 kept_between xs ys i j h g = drop-append-le i (take j xs) ys (let n = length-take-le j xs g in omega arith) ∙ ap (λ zs. zs ++ ys) (sym (between_is xs i j))
 
 abbrev of_sectors : List Cached → Cache
-of_sectors xs = record { sectors = xs; first = 0; end = 0; forgotten = 0 }
+of_sectors xs = record { sectors = xs; first = 0; end = 0; tried = false; forgotten = 0 }
 
 -- a cache of sectors that aren't known is a new one
 pub begins : (xs : List Cached) → xs ≡ replicate 3984 Unknown → of_sectors xs ≡ new_cache

@@ -3,15 +3,17 @@ use Rattle.std.specs.Prelude.{ℕ, ◌+◌, ◌-◌, ◌*◌, ◌/◌, ◌≤◌
 use Rattle.std.specs.List.{between}
 use Rattle.vr_disk.specs.declared.sector.Sector.{Sector}
 use Rattle.vr_io_policy.specs.declared.cache.Next.{Next}
-use Rattle.vr_io_policy.specs.declared.cache.Next.TheVariants.{Nothing, Read, Write}
+use Rattle.vr_io_policy.specs.declared.cache.Next.TheVariants.{Nothing, Read, WriteAlone, Write}
 use Rattle.vr_io_policy.specs.declared.cached.Cached.{Cached}
 use Rattle.vr_io_policy.specs.declared.cached.Cached.TheVariants.{Unknown, Unread, Held}
 
--- each sector as it is known; those from `first` on, up to the one before `end`, wait to be written; in the millisecond `forgotten` all others were forgotten last
+-- each sector as it is known; those from `first` on, up to the one before `end`, wait to be written, and couldn't be written alone where `tried` is true;
+-- in the millisecond `forgotten` all others were forgotten last
 pub record Cache : Type 0 where
   pub sectors : List Cached
   pub first : ℕ
   pub end : ℕ
+  pub tried : Bool
   pub forgotten : ℕ
 
 -- 3,984 sectors, of which at most 64 wait
@@ -22,7 +24,7 @@ pub record IsCache (c : Cache) : Type 0 where
   pub most : c.end ≤ c.first + 64
 
 abbrev pub new_cache : Cache
-new_cache = record { sectors = replicate 3984 Unknown; first = 0; end = 0; forgotten = 0 }
+new_cache = record { sectors = replicate 3984 Unknown; first = 0; end = 0; tried = false; forgotten = 0 }
 
 abbrev pub cached : Cache → ℕ → Cached
 cached c i = slice_index_or c.sectors i Unknown
@@ -45,6 +47,12 @@ waits c i = nat_le c.first i && nat_lt i c.end
 abbrev pub is_clean : Cache → Bool
 is_clean c = c.first == c.end
 
+-- it couldn't be read
+abbrev pub is_unread : Cached → Bool
+is_unread Unknown = false
+is_unread Unread = true
+is_unread (Held s) = false
+
 -- ---- a write
 
 -- a sector may wait with those that do: none does, or it does, or it is the next one after them and they aren't 64
@@ -54,14 +62,14 @@ joins c i = is_clean c || (waits c i || (i == c.end && nat_lt (c.end - c.first) 
 -- it waits, with what is written to it
 abbrev pub put : Cache → ℕ → Sector → Cache
 put c i s =
-    if is_clean c then record { sectors = slice_set c.sectors i (Held s); first = i; end = i + 1; forgotten = c.forgotten }
-    else record { sectors = slice_set c.sectors i (Held s); first = c.first; end = max c.end (i + 1); forgotten = c.forgotten }
+    if is_clean c then record { sectors = slice_set c.sectors i (Held s); first = i; end = i + 1; tried = false; forgotten = c.forgotten }
+    else record { sectors = slice_set c.sectors i (Held s); first = c.first; end = max c.end (i + 1); tried = c.tried; forgotten = c.forgotten }
 
 -- ---- a read
 
 -- what the file gave of a sector; one that is known, as each that waits, stays what it is
 abbrev pub learnt : Cache → ℕ → Cached → Cache
-learnt c i found = if is_held (cached c i) then c else record { sectors = slice_set c.sectors i found; first = c.first; end = c.end; forgotten = c.forgotten }
+learnt c i found = if is_held (cached c i) then c else record { sectors = slice_set c.sectors i found; first = c.first; end = c.end; tried = c.tried; forgotten = c.forgotten }
 
 -- ---- what waits is written, in whole pages of eight sectors
 
@@ -88,14 +96,27 @@ pub record IsWanted (c : Cache) (i : ℕ) : Type 0 where
   pub within : i < 3984
   pub unknown : is_unknown (cached c i) ≡ true
 
--- what is to be done next so that nothing waits: nothing, a read of that sector, or a write of the pages from that one on
+-- those that wait are to be written alone, since some neighbor couldn't be read: it may be that no more than the read failed
+pub record IsAlone (c : Cache) (i : ℕ) : Type 0 where
+  pub first : i ≡ c.first
+  pub ready : IsReady c
+  pub untried : c.tried ≡ false
+  pub neighbor : ℕ
+  pub from : pages_first c ≤ neighbor
+  pub below : neighbor < pages_end c
+  pub unread : is_unread (cached c neighbor) ≡ true
+
+-- the pages are to be written whole: each neighbor could be read, or those that wait couldn't be written alone
 pub record IsWritten (c : Cache) (i : ℕ) : Type 0 where
   pub first : i ≡ pages_first c
   pub ready : IsReady c
+  pub alone : c.tried ≡ false → (j : ℕ) → pages_first c ≤ j → j < pages_end c → is_unread (cached c j) ≡ false
 
+-- what is to be done next so that nothing waits: nothing, a read of that sector, or a write from that one on, of those that wait or of their pages
 abbrev pub IsNext : Cache → Next → Type 0
 IsNext c Nothing = is_clean c ≡ true
 IsNext c (Read i) = IsWanted c i
+IsNext c (WriteAlone i) = IsAlone c i
 IsNext c (Write i) = IsWritten c i
 
 -- what is written to a sector: where it couldn't be read, bytes that no reader takes for anything
@@ -103,6 +124,10 @@ abbrev pub stands_for : Cached → List ℕ
 stands_for Unknown = replicate 512 255
 stands_for Unread = replicate 512 255
 stands_for (Held s) = s.bytes
+
+-- those that wait
+abbrev pub waiting : Cache → List Cached
+waiting c = between c.first c.end c.sectors
 
 abbrev pub bytes_of : List Cached → List ℕ
 bytes_of sectors = flat_map stands_for sectors
@@ -113,7 +138,11 @@ pub record AreWhole (sectors : List Cached) : Type 0 where
 
 -- the file has what waited
 abbrev pub flushed : Cache → Cache
-flushed c = record { sectors = c.sectors; first = c.end; end = c.end; forgotten = c.forgotten }
+flushed c = record { sectors = c.sectors; first = c.end; end = c.end; tried = false; forgotten = c.forgotten }
+
+-- they couldn't be written alone
+abbrev pub not_alone : Cache → Cache
+not_alone c = record { sectors = c.sectors; first = c.first; end = c.end; tried = true; forgotten = c.forgotten }
 
 -- ---- forgetting
 
@@ -126,4 +155,4 @@ abbrev pub is_old : Cache → ℕ → Bool
 is_old c now = nat_le 60000 (now - c.forgotten)
 
 abbrev pub forgot : Cache → ℕ → Cache
-forgot c now = record { sectors = waiting_alone c; first = c.first; end = c.end; forgotten = now }
+forgot c now = record { sectors = waiting_alone c; first = c.first; end = c.end; tried = c.tried; forgotten = now }

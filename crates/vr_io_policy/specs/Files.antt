@@ -55,7 +55,11 @@ in_pages c j = nat_le (pages_first c) j && nat_lt j (pages_end c)
 abbrev pub pages_written : (ℕ → Spot) → Cache → ℕ → Spot
 pages_written f c j = if in_pages c j then over (f j) (stands_for (cached c j)) else f j
 
--- what the file couldn't read of them gets bytes of 255
+-- those that wait are written to the file, and no other
+abbrev pub waiting_written : (ℕ → Spot) → Cache → ℕ → Spot
+waiting_written f c j = if waits c j then over (f j) (stands_for (cached c j)) else f j
+
+-- what the file couldn't read of the pages gets bytes of 255
 abbrev pub lost : Spot → Cached → Spot
 lost s Unknown = s
 lost s Unread = over s (replicate 512 255)
@@ -105,6 +109,8 @@ pub record IsADisk : Type 0 where
   -- pages go to the file: of the disk nothing changes but what couldn't be read
   pub pages : (c : Cache) (f d : ℕ → Spot) → IsCache c → IsReady c → Stands c f d → Stands (flushed c) (pages_written f c) (neighbors_lost d c)
   pub spares : (c : Cache) (f d : ℕ → Spot) (j : ℕ) → Stands c f d → ((d j).now ≡ (neighbors_lost d c j).now) ⊎ ((d j).now ≡ None)
+  -- those that wait go to the file alone: of the disk nothing changes
+  pub alone : (c : Cache) (f d : ℕ → Spot) → Stands c f d → Stands (flushed c) (waiting_written f c) d
   -- at a sync of the file, once nothing waits, the disk is synced
   pub syncs : (c : Cache) (f d : ℕ → Spot) → is_clean c ≡ true → Stands c f d → Stands c (synced f) (synced d)
   pub forgets : (c : Cache) (f d : ℕ → Spot) (now : ℕ) → IsCache c → Stands c f d → Stands (forgot c now) f d
@@ -113,3 +119,5 @@ pub record IsADisk : Type 0 where
   -- also where it comes in the midst of a write of pages
   pub tears : (c : Cache) (f d : ℕ → Spot) (left : ℕ → Option (List ℕ)) → IsCache c → IsReady c → Stands c f d → ((j : ℕ) → Leaves (f j) (left j) ⊎ Leaves (pages_written f c j) (left j))
       → (j : ℕ) → Leaves (neighbors_lost d c j) (left j)
+  pub tears_alone : (c : Cache) (f d : ℕ → Spot) (left : ℕ → Option (List ℕ)) → Stands c f d → ((j : ℕ) → Leaves (f j) (left j) ⊎ Leaves (waiting_written f c j) (left j))
+      → (j : ℕ) → Leaves (d j) (left j)

@@ -1,7 +1,7 @@
 //! Which sectors of a file are known, which of them wait to be written, what is to be done next about them, and when they are forgotten.
 ghost use Rattle.std.specs.Prelude.{◌≡◌, ◌<◌, ◌≤◌, ◌-◌, ◌++◌, IfOk, IfSome, None, drop, length, replicate, slice_index_or, take, true, false, if◌then◌else◌};
 ghost use Rattle.std.specs.List.{between};
-ghost use Rattle.vr_io_policy.specs.Caches.{IsCache, IsNext, cached, flushed, forgot, is_held, is_old, is_unknown, joins, learnt, new_cache, pages, pages_end, pages_first, put, waits};
+ghost use Rattle.vr_io_policy.specs.Caches.{IsCache, IsNext, IsReady, cached, flushed, forgot, is_held, is_old, is_unknown, is_unread, joins, learnt, new_cache, not_alone, pages, pages_end, pages_first, put, waiting, waits};
 ghost use Rattle.vr_io_policy.specs.declared.cached.Cached.TheVariants.{Held, Unknown, Unread};
 
 use crate::cached::Cached;
@@ -27,6 +27,8 @@ pub enum Next {
     Nothing,
     /// This sector is to be read: it is in a page with one that waits.
     Read(u32),
+    /// Those that wait are to be written alone, from this sector on, since a neighbor couldn't be read.
+    WriteAlone(u32),
     /// The pages are to be written, from this sector on.
     Write(u32),
 }
@@ -37,6 +39,7 @@ pub struct SectorCache {
     sectors: Vec<Cached>,
     first: u32,
     end: u32,
+    tried: bool,
     forgotten: u64,
 }
 
@@ -45,9 +48,9 @@ impl Model for SectorCache {
 
     ghost Value = { Cache };
 
-    ghost view = { λ c. record { sectors = c.sectors.items; first = c.first; end = c.end; forgotten = c.forgotten } };
+    ghost view = { λ c. record { sectors = c.sectors.items; first = c.first; end = c.end; tried = c.tried; forgotten = c.forgotten } };
 
-    ghost invariant = { λ c. IsCache (record { sectors = c.sectors.items; first = c.first; end = c.end; forgotten = c.forgotten }) };
+    ghost invariant = { λ c. IsCache (record { sectors = c.sectors.items; first = c.first; end = c.end; tried = c.tried; forgotten = c.forgotten }) };
 }
 
 /// So many sectors that aren't known.
@@ -99,6 +102,20 @@ fn first_unknown(sectors: &[Cached], from: u32, end: u32) -> Option<u32>
     None
 }
 
+/// The first one from a place on, and before an end, that couldn't be read.
+fn first_unread(sectors: &[Cached], from: u32, end: u32) -> Option<u32>
+    requires { end ≤ length sectors.now }
+    ensures found { IfSome result (λ i. (from ≤ i) × (i < end) × (is_unread (slice_index_or sectors.now i Unknown) ≡ true)) }
+    ensures none { result ≡ None → (k : _) → from ≤ k → k < end → is_unread (slice_index_or sectors.now k Unknown) ≡ false }
+{
+    for i in from..end {
+        if sectors[i as usize].is_unread() {
+            return Some(i);
+        }
+    }
+    None
+}
+
 impl SectorCache {
     /// No sector is known. All its memory is taken here.
     pub fn new(alloc: Global) -> Result<SectorCache, AllocError>
@@ -108,6 +125,7 @@ impl SectorCache {
             sectors: unknown(alloc, SECTORS)?,
             first: 0,
             end: 0,
+            tried: false,
             forgotten: 0,
         })
     }
@@ -155,6 +173,7 @@ impl SectorCache {
         if self.first == self.end {
             self.first = i;
             self.end = i + 1;
+            self.tried = false;
         } else {
             self.end = self.end.max(i + 1);
         }
@@ -210,6 +229,18 @@ impl SectorCache {
         &self.sectors[self.pages_first() as usize..self.pages_end() as usize]
     }
 
+    /// What is to be written next, once each neighbor was read, or it was tried.
+    fn next_write(&self) -> Next
+        requires { IsReady self.now }
+        ensures { IsNext self.now result }
+    {
+        let (from, end) = (self.pages_first(), self.pages_end());
+        if !self.tried && first_unread(self.sectors.as_slice(), from, end).is_some() {
+            return Next::WriteAlone(self.first);
+        }
+        Next::Write(from)
+    }
+
     /// What is to be done next so that nothing waits.
     pub fn next(&self) -> Next
         ensures next { IsNext self.now result }
@@ -218,14 +249,19 @@ impl SectorCache {
         if self.first == self.end {
             return Next::Nothing;
         }
-        match first_unknown(
-            self.sectors.as_slice(),
-            self.pages_first(),
-            self.pages_end(),
-        ) {
+        let (from, end) = (self.pages_first(), self.pages_end());
+        match first_unknown(self.sectors.as_slice(), from, end) {
             Some(i) => Next::Read(i),
-            None => Next::Write(self.pages_first()),
+            None => self.next_write(),
         }
+    }
+
+    /// Those that wait: at most 64.
+    pub fn waiting(&self) -> &[Cached]
+        ensures value { result.now ≡ waiting self.now }
+        ensures size { length result.now ≤ 64 }
+    {
+        &self.sectors[self.first as usize..self.end as usize]
     }
 
     /// What waited was written.
@@ -233,6 +269,14 @@ impl SectorCache {
         ensures { self.new ≡ flushed self.old }
     {
         self.first = self.end;
+        self.tried = false;
+    }
+
+    /// What waited couldn't be written alone.
+    pub fn note_not_alone(&mut self)
+        ensures { self.new ≡ not_alone self.old }
+    {
+        self.tried = true;
     }
 
     /// From now on only those are known that wait.

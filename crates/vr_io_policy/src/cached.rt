@@ -1,6 +1,6 @@
 //! One sector of a file, as far as it is known.
 ghost use Rattle.std.specs.Prelude.{◌≡◌};
-ghost use Rattle.vr_io_policy.specs.Caches.{is_unknown, stands_for};
+ghost use Rattle.vr_io_policy.specs.Caches.{is_unknown, is_unread, stands_for};
 
 use vr_disk::{SECTOR_SIZE, Sector};
 
@@ -27,6 +27,13 @@ impl Cached {
             Cached::Unknown => true,
             _ => false,
         }
+    }
+
+    /// Whether it couldn't be read.
+    pub fn is_unread(&self) -> bool
+        ensures { result ≡ is_unread self.now }
+    {
+        matches!(self, Cached::Unread)
     }
 
     /// What is written to it with others.

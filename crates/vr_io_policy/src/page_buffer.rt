@@ -1,6 +1,6 @@
 //! The bytes of pages that are to be written.
 ghost use Rattle.std.specs.Prelude.{◌≡◌, ◌≤◌, ◌*◌, length, take};
-ghost use Rattle.vr_io_policy.specs.Caches.{AreWhole, IsReady, bytes_of, pages};
+ghost use Rattle.vr_io_policy.specs.Caches.{AreWhole, IsReady, bytes_of, pages, waiting};
 
 use crate::cache::SectorCache;
 use crate::cached::Cached;
@@ -56,5 +56,14 @@ impl PageBuffer {
         let pages = cache.pages();
         put_all(self.bytes.as_mut_slice(), pages);
         &self.bytes[..SECTOR_SIZE * pages.len()]
+    }
+    /// The bytes of those that wait.
+    pub fn gather_waiting(&mut self, cache: &SectorCache) -> &[u8]
+        ensures bytes { result.now ≡ bytes_of (waiting cache.now) }
+        ensures whole { AreWhole (waiting cache.now) }
+    {
+        let waiting = cache.waiting();
+        put_all(self.bytes.as_mut_slice(), waiting);
+        &self.bytes[..SECTOR_SIZE * waiting.len()]
     }
 }
