@@ -76,7 +76,6 @@ fn migrate_mended<D: SectorDisk>(alloc: Global, disk: &mut D, value: &Super) -> 
 /// each slot's prepare is written at its new place, and then the value saved as one of version 2. `Lost`: no value opens, and no call is made;
 /// `OtherMember`: that member's superblock is mended, and no other call made. `Halted`: the calls were made up to the one that failed, which alone
 /// adds one to the disk's faults; for want of memory none was, or the mending's alone.
-#[tactic(auto, using(crate::proofs::Moves::migrated_well, crate::proofs::Moves::migration_halted, crate::proofs::Recovers::other_member))]
 pub fn migrate<D: SectorDisk>(alloc: Global, disk: &mut D, asked: &Config) -> Result<(), Refusal>
     ensures cause { CountsFault (Refusal.Halted Halt.DiskFault) (D.faults disk.old) (D.faults disk.new) result }
     ensures step { Migrated asked.now (D.told disk.old) (D.told disk.new) result }
@@ -86,11 +85,14 @@ pub fn migrate<D: SectorDisk>(alloc: Global, disk: &mut D, asked: &Config) -> Re
         Ok(value) => {
             let found = config_of(&value);
             if is_same(&found, asked) {
-                match migrate_mended(alloc, disk, &value) {
+                let moved = migrate_mended(alloc, disk, &value);
+                drop(value);
+                match moved {
                     Ok(()) => Ok(()),
                     Err(halt) => Err(Refusal::Halted(halt)),
                 }
             } else {
+                drop(value);
                 Err(Refusal::OtherMember(found))
             }
         }
@@ -101,16 +103,19 @@ pub fn migrate<D: SectorDisk>(alloc: Global, disk: &mut D, asked: &Config) -> Re
 /// its new place, and then the value saved as one of version 2. `Lost`: no two good copies agree; `OtherVersion`: they do, but the file is of version
 /// 2. Neither makes a call. `Halted`: the calls were made up to the one that failed, which alone adds one to the disk's faults; for want of memory
 /// none was, or the mending's alone.
-#[tactic(auto, using(crate::proofs::Moves::any_well, crate::proofs::Moves::any_halted))]
 pub fn migrate_any<D: SectorDisk>(alloc: Global, disk: &mut D) -> Result<(), NoValue>
     ensures cause { CountsFault (NoValue.Halted Halt.DiskFault) (D.faults disk.old) (D.faults disk.new) result }
     ensures step { MigratedAny (D.told disk.old) (D.told disk.new) result }
 {
     match find_value(alloc, disk, &Some(Version::new(1))) {
         Err(why) => Err(why),
-        Ok(value) => match migrate_mended(alloc, disk, &value) {
-            Ok(()) => Ok(()),
-            Err(halt) => Err(NoValue::Halted(halt)),
-        },
+        Ok(value) => {
+            let moved = migrate_mended(alloc, disk, &value);
+            drop(value);
+            match moved {
+                Ok(()) => Ok(()),
+                Err(halt) => Err(NoValue::Halted(halt)),
+            }
+        }
     }
 }

@@ -143,7 +143,7 @@ fn recover_at<D: SectorDisk>(
 
 // Takes each header that the value names, in order, whose op is at most the checkpoint: its Part is `Here` where its slot has its entry, and else
 // `Lost`. Nothing is written or put out. After `Ok` the Parts up to the checkpoint are found, and the saved value is as it was.
-#[tactic(auto, using(vr_rules::proofs::Stepping::going_begins, crate::proofs::Olds::olds_at, crate::proofs::Olds::olds_end, crate::proofs::Olds::olds_stopped, crate::proofs::Olds::olds_found))]
+#[tactic(auto, using(vr_rules::proofs::Stepping::going_begins))]
 fn recover_olds<D: SectorDisk>(
     replica: &mut Replica,
     alloc: Global,
@@ -158,7 +158,10 @@ fn recover_olds<D: SectorDisk>(
 {
     let count = header_count(replica);
     for i in 0..count {
-        recover_at(replica, alloc, disk, i, out)?;
+        match recover_at(replica, alloc, disk, i, out) {
+            Ok(()) => {}
+            Err(halt) => return Err(halt),
+        }
     }
     Ok(())
 }
