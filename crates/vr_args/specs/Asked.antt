@@ -235,6 +235,15 @@ asked_at name rows =
     else (if bytes_eq name (codes "migrate") then option_map Migrate (migrate_at rows)
     else None)))))
 
+-- the same of the commands over files and the network alone
+unfoldable pub outside_at : Text → List Row → Option Asked
+outside_at name rows =
+    if bytes_eq name (codes "node") then option_map Node (node_at rows)
+    else (if bytes_eq name (codes "client") then option_map Client (client_at rows)
+    else (if bytes_eq name (codes "trial") then option_map Trial (trial_at rows)
+    else (if bytes_eq name (codes "migrate") then option_map Migrate (migrate_at rows)
+    else None)))
+
 -- the faults that clap finds in the words
 unfoldable pub faults_in : List Text → Kinds
 faults_in words = fault_of the_command words

@@ -2,7 +2,7 @@
 ghost use Rattle.std.specs.Prelude.{◌≡◌, ◌≢◌, IfOk, None, Some, map, option_and_then, string_bytes};
 ghost use Rattle.std.specs.Option.{option_map};
 ghost use Rattle.clap.specs.Words.{FailsBy, found_of, kind_of, rows_of, subcommand_rows_of};
-ghost use Rattle.vr_args.specs.Asked.{Client, Migrate, Node, Trial, asked, asked_at, client_at, entered_by, faults_in, migrate_at, node_at, says, trial_at};
+ghost use Rattle.vr_args.specs.Asked.{Client, Migrate, Node, Trial, asked, asked_at, client_at, entered_by, faults_in, migrate_at, node_at, outside_at, says, trial_at};
 
 use crate::asked::{client_at, migrate_at, node_at, soak_at, trial_at};
 use crate::forms::command;
@@ -47,21 +47,15 @@ fn migrate_command(alloc: Global, matches: &ArgMatches<'_>) -> Result<Option<Com
     Ok(migrate_at(alloc, matches)?.map(Command::Migrate))
 }
 
-/// The command of this name with these values, where they are in range.
-#[tactic(auto, unfolding(crate::specs::Asked::asked_at))]
-fn command_at(
+/// The command of this name over files and the network, where its values are in range. Each has an end of its own, which the proof spells out.
+#[tactic(auto, unfolding(crate::specs::Asked::outside_at))]
+fn outside_command_at(
     alloc: Global,
     name: &str,
     matches: &ArgMatches<'_>,
 ) -> Result<Option<Command>, AllocError>
-    ensures { IfOk result (λ c. option_map says c ≡ asked_at name.now (rows_of (found_of matches.now))) }
+    ensures { IfOk result (λ c. option_map says c ≡ outside_at name.now (rows_of (found_of matches.now))) }
 {
-    if name == "replay" {
-        return Ok(Some(Command::Replay));
-    }
-    if name == "soak" {
-        return Ok(soak_at(matches).map(Command::Soak));
-    }
     if name == "node" {
         return node_command(alloc, matches);
     }
@@ -75,6 +69,24 @@ fn command_at(
         return migrate_command(alloc, matches);
     }
     Ok(None)
+}
+
+/// The command of this name with these values, where they are in range.
+#[tactic(auto, unfolding(crate::specs::Asked::asked_at, crate::specs::Asked::outside_at))]
+fn command_at(
+    alloc: Global,
+    name: &str,
+    matches: &ArgMatches<'_>,
+) -> Result<Option<Command>, AllocError>
+    ensures { IfOk result (λ c. option_map says c ≡ asked_at name.now (rows_of (found_of matches.now))) }
+{
+    if name == "replay" {
+        return Ok(Some(Command::Replay));
+    }
+    if name == "soak" {
+        return Ok(soak_at(matches).map(Command::Soak));
+    }
+    outside_command_at(alloc, name, matches)
 }
 
 /// The command that was entered.
