@@ -1,5 +1,5 @@
 -- A whole run: first what an opening puts out, and then the turns.
-use Rattle.std.proofs.Common.{◌≡◌, ◌∙◌, ℕ, List, [], Ok, Err, ap, inr, refl, subst}
+use Rattle.std.proofs.Common.{◌≡◌, ◌∙◌, ℕ, List, [], Ok, Err, ap, inl, inr, refl, subst}
 use Rattle.std.specs.Io.KnownBytes.{Appends}
 use Rattle.vr_disk.specs.declared.disk.SectorDisk as of_disk
 use Rattle.vr_edge.specs.Failing.{EndsFailed}
@@ -10,7 +10,7 @@ use Rattle.vr_edge.specs.declared.sink.Sink as of_sink
 use Rattle.vr_mail.specs.Sends.{Sends}
 use Rattle.vr_msg.specs.declared.output.Output.{Output}
 use Rattle.vr_serve.specs.Outputs.{datagrams_for, numbers_after, text_from}
-use Rattle.vr_serve.specs.Runs.{AreTurnsCut, HaveTurns, PutsFirst}
+use Rattle.vr_serve.specs.Runs.{AreTurnsCut, HaveTurns, PutsFirst, PutsFront}
 use Rattle.vr_serve.specs.Sending.{PutsOut}
 use Rattle.vr_serve.specs.Serving.{Serves, TakesTurns, ending, standing}
 use Rattle.vr_serve.specs.declared.member.Member as of_member
@@ -18,7 +18,7 @@ use Rattle.vr_serve.specs.declared.objects.Objects.{Objects}
 use Rattle.vr_serve.specs.declared.post.Post.{Post}
 use Rattle.vr_serve.specs.declared.stop.Stop.{Stop}
 use Rattle.vr_serve.specs.declared.stop.Stop.TheVariants as stop
-use Rattle.vr_serve.proofs.Ending.{causes_err, causes_later, causes_ok, same_stop}
+use Rattle.vr_serve.proofs.Ending.{causes_err, causes_later, causes_ok, causes_put, put_spares, same_stop}
 use Rattle.vr_serve.proofs.Turning.{served, served_cut}
 
 puts_first : {K L : Type 0} (k : of_sink.Ghosts K) (l : of_link.Ghosts L) (begun post : Post) (sink sink' : K) (link link' : L) (first : List Output) (t : Unit {0})
@@ -72,3 +72,24 @@ serves_err m d k l c {version} {cluster} {turns} {last} {first} {member} {member
           put.kept.received all.cut));
       attached = all.kept.attached ∙ put.kept.attached;
     })
+
+-- where the first outputs weren't put out, the clock isn't asked, and no turn begun
+pub serves_unput : {M D K L C : Type 0} (m : of_member.Ghosts M) (d : of_disk.Ghosts D) (k : of_sink.Ghosts K) (l : of_link.Ghosts L) (c : of_clock.Ghosts C)
+    {version cluster turns : ℕ} {first : List Output} {member : M} {disk : D} {link link' : L} {clock : C} {sink sink' : K} {begun post : Post} (why : Stop)
+    → PutsOut k l begun post sink sink' link link' first (Err why) → begun.number ≡ 0 → begun.clients.items ≡ []
+    → Serves m d k l c version cluster turns first member member disk disk link link' clock clock sink sink' (Err why)
+serves_unput m d k l c {version} {cluster} {turns} {first} {member} {disk} {link} {link'} {clock} {sink} {sink'} {begun} {post} why put zero none = record {
+  running = tt;
+  causes = causes_put (d.faults disk) (d.faults disk) _ _ _ _ (Err why) refl put.causes;
+  linked = λ e. absurd (put.unlinked e);
+  done = tt;
+  cut = inl (record {
+    why = put_spares _ _ _ _ (Err why) why refl put.causes;
+    disk = refl;
+    clock = refl;
+    received = put.kept.received;
+    front = subst (λ cs. PutsFront (text_from 0 first) (datagrams_for cs first) (k.taken sink) (k.taken sink') (l.sent link) (l.sent link')) none
+        (subst (λ n. PutsFront (text_from n first) (datagrams_for begun.clients.items first) (k.taken sink) (k.taken sink') (l.sent link) (l.sent link')) zero put.front);
+  });
+  attached = put.kept.attached;
+}
