@@ -44,3 +44,4 @@ pub mod Going
 pub mod Row
 pub mod Clients
 pub mod Effect
+pub mod Runs

@@ -88,10 +88,10 @@ alone_of : AreLinesOf 2 1 alone_lines
 unfolding AreLinesOf
 alone_of = ((omega arith, refl), ((omega arith, refl), tt))
 
-registers_asked_2 : IsAsked registers_in_2
+pub registers_asked_2 : IsAsked registers_in_2
 registers_asked_2 = record { form = record { first = (λ e. refl, λ e. refl); fits = tt }; client = omega arith; request = omega arith; version = (omega arith, omega arith) }
 
-puts_asked_2 : IsAsked puts_in_2
+pub puts_asked_2 : IsAsked puts_in_2
 unfolding is_text
 puts_asked_2 = record { form = record { first = (λ e. absurd cc, λ e. absurd (omega (arith, e))); fits = (refl, refl) }; client = omega arith; request = omega arith; version = (omega arith, omega arith) }
 

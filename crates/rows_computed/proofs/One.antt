@@ -30,9 +30,9 @@ use Rattle.vr_rules.specs.Rules.{react}
 use Rattle.vr_rules.specs.Steps.{Effect, Step, Write, ◌⨾◌, after_all, by, change, does, naming, outputs, quiet, says, times}
 use Rattle.vr_rules.specs.Words as words
 use Rattle.vr_world.specs.Lying.{Lying, hazards, lying}
-use Rattle.vr_world.specs.World.{AsksInVersion, Host, World, at_member, fresh_world, happens, in_version}
+use Rattle.vr_world.specs.World.{AsksInVersion, Happening, Host, World, at_member, fresh_world, happens, in_version}
 use Rattle.law_4_disks.specs.Worlds.{stepping}
-use Rattle.law_6_one_log.specs.Schedules.{IsHashed}
+use Rattle.law_6_one_log.specs.Schedules.{IsHashed, IsHashedOf}
 use Rattle.rows_computed.proofs.Disks.{IsOfIn, IsTakenIn, PlainIn, entry_in, plain_all_in}
 use Rattle.rows_computed.proofs.Entries.{put_name, put_named, register_name, register_named, root_name, root_named}
 use Rattle.rows_computed.proofs.Happenings.{one_alone, puts_in_2, registers_in_2}
@@ -98,13 +98,13 @@ second_header = record {
   aux = 0;
 }
 
-abbrev first : Whole
+abbrev pub first : Whole
 first = record { header = first_header; operation = Register }
 
-abbrev second : Whole
+abbrev pub second : Whole
 second = record { header = second_header; operation = Put (codes "a") (codes "b") }
 
-abbrev both : List Whole
+abbrev pub both : List Whole
 both = first ∷ second ∷ []
 
 first_named : name_of (named_bytes first_header) ≡ first_name
@@ -187,25 +187,25 @@ second_taken = record {
 
 -- ---- its steps: an entry is stored, committed, applied and answered at once
 
-abbrev o0 : Replica
+abbrev pub o0 : Replica
 o0 = fresh later_kind 0 1 0
 
 abbrev o1 : Replica
 o1 = record o0 { parts = Here first_header ∷ replicate 63 Nothing; commit = 1 }
 
-abbrev o2 : Replica
+abbrev pub o2 : Replica
 o2 = record o1 { applied = 1; state = (state.applied state.empty first).state }
 
 abbrev o3 : Replica
 o3 = record o2 { parts = Here first_header ∷ Here second_header ∷ replicate 62 Nothing; commit = 2 }
 
-abbrev o4 : Replica
+abbrev pub o4 : Replica
 o4 = record o3 { applied = 2; state = (state.applied (state.applied state.empty first).state second).state }
 
-abbrev does_first : List Effect
+abbrev pub does_first : List Effect
 does_first = Write false first ∷ answers first o1
 
-abbrev does_second : List Effect
+abbrev pub does_second : List Effect
 does_second = Write false second ∷ answers second o3
 
 same_first : same_header first_header first_header ≡ true
@@ -224,13 +224,13 @@ applied_second : (d : Lying) → words.apply_entry second lying o3 d ≡ record 
 unfolding words.apply_entry ◌⨾◌ quiet change does says by blank after_all state.applied state.answered state.executed sess.checked sess.applied kv.applied
 applied_second d = refl
 
-step_first : (d : Lying) → lying.entry (lying.after d (Write false first)) 1 ≡ Some first → react (event.Request registers_in_2) lying o0 d ≡ record { replica = o2; script = does_first }
+pub step_first : (d : Lying) → lying.entry (lying.after d (Write false first)) 1 ≡ Some first → react (event.Request registers_in_2) lying o0 d ≡ record { replica = o2; script = does_first }
 unfolding rules.react rules.on_request rules.make rules.next_entry is_in_flight sess.checked by first_of blank says send_to_all ◌⨾◌ change quiet does naming words.write forgetting with_part part_at head words.advance words.advanced words.apply times after_all operation_bytes named_bytes bytes16 bytes32 bytes64 name_of sha256 first_words schedule rounds compress hash_after digest_bytes
 step_first d reads =
     ap (λ (a : Step). record { replica = a.replica; script = Write false first ∷ (a.script ++ []) })
     (applies lying o1 (lying.after d (Write false first)) first_header first refl refl reads same_first ∙ applied_first (lying.after d (Write false first)))
 
-step_second : (d : Lying) → lying.entry (lying.after d (Write false second)) 2 ≡ Some second → react (event.Request puts_in_2) lying o2 d ≡ record { replica = o4; script = does_second }
+pub step_second : (d : Lying) → lying.entry (lying.after d (Write false second)) 2 ≡ Some second → react (event.Request puts_in_2) lying o2 d ≡ record { replica = o4; script = does_second }
 unfolding rules.react rules.on_request rules.make rules.next_entry is_in_flight sess.checked by first_of blank says send_to_all ◌⨾◌ change quiet does naming words.write forgetting with_part part_at head words.advance words.advanced words.apply times after_all state.applied state.answered state.executed sess.applied kv.applied operation_bytes named_bytes bytes16 bytes32 bytes64 name_of sha256 first_words schedule rounds compress hash_after digest_bytes
 step_second d reads =
     ap (λ (a : Step). record { replica = a.replica; script = Write false second ∷ (a.script ++ []) })
@@ -238,13 +238,13 @@ step_second d reads =
 
 -- ---- the worlds
 
-abbrev alone : Host Lying → World Lying
+abbrev pub alone : Host Lying → World Lying
 alone m = record { n = 1; members = m ∷ []; sent = [] }
 
-abbrev d0 : Lying
+abbrev pub d0 : Lying
 d0 = hazards.formatted later_kind 0 1 0
 
-begins : fresh_world hazards later_kind 1 ≡ alone (host o0 d0)
+pub begins : fresh_world hazards later_kind 1 ≡ alone (host o0 d0)
 unfolding fresh_world
 begins = refl
 
@@ -265,28 +265,28 @@ asks_second d = asks_of puts_in_2 o2 d refl
 abbrev Of : List Effect → Type 0
 Of es = AllByRecursion (IsOfIn 2 both) es
 
-does_first_of : Of does_first
+pub does_first_of : Of does_first
 unfolding blank state.applied state.answered state.executed sess.checked
 does_first_of = ((inl refl, first_taken), (tt, (tt, tt)))
 
-does_second_of : Of does_second
+pub does_second_of : Of does_second
 unfolding blank state.applied state.answered state.executed sess.checked
 does_second_of = ((inr (inl refl), second_taken), (tt, (tt, tt)))
 
-plain_0 : PlainIn 2 both d0
+pub plain_0 : PlainIn 2 both d0
 unfolding fresh_world
 plain_0 = plain_in_group later_kind 1 is_later (omega arith) (omega arith) both 0 refl
 
-abbrev d1 : Lying
+abbrev pub d1 : Lying
 d1 = after_all lying d0 does_first
 
-plain_1 : PlainIn 2 both d1
+pub plain_1 : PlainIn 2 both d1
 plain_1 = plain_all_in 2 both does_first d0 does_first_of plain_0
 
-reads_first : lying.entry (lying.after d0 (Write false first)) 1 ≡ Some first
+pub reads_first : lying.entry (lying.after d0 (Write false first)) 1 ≡ Some first
 reads_first = entry_in 2 both false first d0 plain_0 first_taken
 
-reads_second : lying.entry (lying.after d1 (Write false second)) 2 ≡ Some second
+pub reads_second : lying.entry (lying.after d1 (Write false second)) 2 ≡ Some second
 reads_second = entry_in 2 both false second d1 plain_1 second_taken
 
 line_first : (b : List ℕ) → HashesAt (alone (host o0 d0)) (AsksInVersion 0 registers_in_2) b → IsText both b
@@ -317,7 +317,7 @@ text_by k =
 abbrev by_name : List ℕ → List ℕ
 by_name name = text_by (get_or name 0 0)
 
-known : (b : List ℕ) → IsText both b → by_name (name_of b) ≡ b
+pub known : (b : List ℕ) → IsText both b → by_name (name_of b) ≡ b
 known _ root = ap by_name root_named
 known _ (header e (inl i)) = subst (λ (x : Whole). by_name (name_of (named_bytes x.header)) ≡ named_bytes x.header) (sym i) (ap by_name first_named)
 known _ (header e (inr (inl i))) = subst (λ (x : Whole). by_name (name_of (named_bytes x.header)) ≡ named_bytes x.header) (sym i) (ap by_name second_named)
@@ -326,5 +326,8 @@ known _ (operation e (inl i)) = subst (λ (x : Whole). by_name (name_of (operati
 known _ (operation e (inr (inl i))) = subst (λ (x : Whole). by_name (name_of (operation_bytes x.operation)) ≡ operation_bytes x.operation) (sym i) (ap by_name put_named)
 known _ (operation e (inr (inr i))) = absurd i
 
+pub never_of : (w : World Lying) (xs : List Happening) → Hashes (IsText both) w xs → NoCollision (IsHashedOf 0 w xs)
+never_of w xs is a b p q same = sym (known a (is a p)) ∙ (ap by_name same ∙ known b (is b q))
+
 pub alone_never : NoCollision (IsHashed (fresh_world hazards later_kind 1) one_alone)
-alone_never a b p q same = sym (known a (hashed a p)) ∙ (ap by_name same ∙ known b (hashed b q))
+alone_never = never_of (fresh_world hazards later_kind 1) one_alone hashed
