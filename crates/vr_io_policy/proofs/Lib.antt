@@ -2,4 +2,5 @@ pub mod Between
 mod Fair
 mod First
 mod Gathering
+mod Holding
 pub mod Over

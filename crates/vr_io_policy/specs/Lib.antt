@@ -4,5 +4,7 @@ pub mod Guests
 pub mod Laws
 pub mod Pauses
 pub mod Places
+pub mod Repeats
 pub mod Senders
+pub mod Topics
 pub mod Turns

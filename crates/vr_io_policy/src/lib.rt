@@ -1,7 +1,7 @@
 //! What a program decides about the outside: which stream gives its place up to a newcomer (`guest`, `turn`, `places`), when a call that failed
 //! is made again (`again`), and what it counts as (`counting`); what is known of a file's sectors and done next about them (`cache`, `cached`,
-//! `page_buffer`), which sender a port stands for (`ports`), how many descriptors a start wants (`wants`), and what time it is where a clock fails
-//! (`millis`). Nothing is called here.
+//! `page_buffer`), which sender a port stands for (`ports`), which answer is held back (`repeats`, `topic`), how many descriptors a start wants
+//! (`wants`), and what time it is where a clock fails (`millis`). Nothing is called here.
 #![tactic(auto)]
 
 mod again;
@@ -14,6 +14,8 @@ mod millis;
 mod page_buffer;
 mod places;
 mod ports;
+mod repeats;
+mod topic;
 mod turn;
 mod wants;
 
@@ -27,5 +29,7 @@ pub use millis::millis_of;
 pub use page_buffer::PageBuffer;
 pub use places::{PLACES, Places};
 pub use ports::{NOBODY, Ports, Sender, number};
+pub use repeats::{Passed, Repeats, repeat_laws};
+pub use topic::{Topic, topic_of};
 pub use turn::{Newcomer, Turn};
 pub use wants::descriptors_wanted;

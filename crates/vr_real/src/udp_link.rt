@@ -6,9 +6,9 @@ use std::alloc::{AllocError, Global};
 use std::io;
 use std::io::ErrorKind;
 use std::net::{IpAddr, Ipv4Addr, Ipv6Addr, Net, SocketAddr, UdpSocket};
-use std::time::Duration;
+use std::time::{Clock, Duration};
 use vr_edge::{Link, LinkFailed, RECEIVE_ROOM, Received};
-use vr_io_policy::{NOBODY, Ports, counted};
+use vr_io_policy::{NOBODY, Ports, Repeats, Topic, counted, millis_of, topic_of};
 
 /// How long a receive is to wait for a datagram. The system may round it up to one of its own ticks, and one more:
 /// 4 become 8 where it has 250 of them a second, which is at most the 10 that a receive may take.
@@ -19,14 +19,32 @@ const HEADER: usize = 128;
 
 const SIZE_AT: usize = 104;
 
+/// To whom an answer goes. Anyone may name any port of a machine as the sender's, so all of its ports are one.
+#[derive(Clone, Copy, PartialEq, Eq)]
+enum Receiver {
+    Peer(u32),
+    Machine(IpAddr),
+}
+
+/// An answer, as far as it can be repeated.
+#[derive(Clone, Copy, PartialEq, Eq)]
+struct Answer {
+    topic: Topic,
+    to: Receiver,
+}
+
 /// Datagrams over UDP. It tells nothing. A receive waits at most ten milliseconds; the ports of the peers are those of
 /// their addresses, and the 64 other senders that were heard last have ports after them, of which a new one takes that of
 /// the one that was heard longest ago. A sender that isn't heard, since what it sent can't be a message, has the port of nobody.
+/// An answer that `vr_io_policy` holds back, since it went there just before, is lost, as any datagram may be.
 pub struct UdpLink<R> {
     alloc: Global,
     net: R,
     socket: Option<UdpSocket>,
     ports: Ports<SocketAddr>,
+    answers: Repeats<Answer>,
+    /// The milliseconds of the clock, as it was looked at last.
+    now: u64,
     room: Vec<u8>,
     faults: u64,
     send_faults: u64,
@@ -40,6 +58,8 @@ impl<R: Drop> Drop for UdpLink<R> {
             net: _,
             socket: _,
             ports: _,
+            answers: _,
+            now: _,
             room: _,
             faults: _,
             send_faults: _,
@@ -102,19 +122,12 @@ impl<R: Drop> UdpLink<R> {
             net,
             socket: None,
             ports,
+            answers: Repeats::new(alloc)?,
+            now: 0,
             room: Vec::from_elem(alloc, 0, RECEIVE_ROOM)?,
             faults: 0,
             send_faults: 0,
         })
-    }
-
-    /// Sends to the address of a port.
-    fn send_to(&self, to: u32, bytes: &[u8]) -> io::Result<()> {
-        let (Some(socket), Some(address)) = (&self.socket, self.ports.address(to)) else {
-            return Err(io::Error::from(ErrorKind::NotConnected));
-        };
-        socket.send_to(bytes, address)?;
-        Ok(())
     }
 
     /// Receives into its own room, and copies what came. It returns the sender's port.
@@ -135,6 +148,43 @@ impl<R: Drop> UdpLink<R> {
     }
 }
 
+impl<R: Clock + Drop> UdpLink<R> {
+    /// Whether a message to this port is to be sent: no answer that went there just before.
+    fn lets(&mut self, to: u32, address: SocketAddr, bytes: &[u8]) -> bool
+        ensures faults { self.new.faults ≡ self.old.faults }
+        ensures others { self.new.send_faults ≡ self.old.send_faults }
+    {
+        let Some(topic) = topic_of(bytes) else {
+            return true;
+        };
+        let to = if (to as usize) < self.ports.peers.len() {
+            Receiver::Peer(to)
+        } else {
+            Receiver::Machine(address.ip())
+        };
+        self.now = millis_of(self.net.monotonic(), self.now);
+        self.answers.lets(Answer { topic, to }, self.now)
+    }
+
+    /// Sends to the address of a port, unless it is an answer that is held back.
+    fn send_to(&mut self, to: u32, bytes: &[u8]) -> io::Result<()>
+        ensures faults { self.new.faults ≡ self.old.faults }
+        ensures others { self.new.send_faults ≡ self.old.send_faults }
+    {
+        let Some(address) = self.ports.address(to) else {
+            return Err(io::Error::from(ErrorKind::NotConnected));
+        };
+        if !self.lets(to, address, bytes) {
+            return Ok(());
+        }
+        let Some(socket) = &self.socket else {
+            return Err(io::Error::from(ErrorKind::NotConnected));
+        };
+        socket.send_to(bytes, address)?;
+        Ok(())
+    }
+}
+
 impl<R: Net + Drop> UdpLink<R> {
     /// Opens the socket, and takes the peers.
     fn open(&mut self, own: &str, peers: &Vec<String>) -> io::Result<()>
@@ -148,7 +198,7 @@ impl<R: Net + Drop> UdpLink<R> {
     }
 }
 
-impl<R: Net + Drop> Link for UdpLink<R> {
+impl<R: Net + Clock + Drop> Link for UdpLink<R> {
     ghost attached = { λ _. None };
 
     ghost sent = { λ _. None };
