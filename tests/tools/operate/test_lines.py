@@ -1,28 +1,34 @@
 """What the lines of a member are taken for, and how they are cut from pieces."""
 
 import unittest
+from typing import List, Tuple
 
-from nozhgiva_tools.told.lines import Line, LONGEST, parse, Splitter, UNKNOWN, without_value
+from nozhgiva_tools.told.lines import (Applied, Beat, Choice, Given, Halt, Line, LONGEST, Message, parse, Prepare, Question, Reply, Request, Splitter, Start, UNKNOWN,
+                                       without_value)
 
-ROWS = [
-    ("send 9 0 1 commit view 3 op 12 commit 10", Line("beat", 3, 12, 10)),
-    ("send 9 0 1 prepare view 3 op 13 made 3 commit 12", Line("prepare", 3, 13, 12)),
-    ("send 1 1 0 prepare_ok view 3 op 13 made 3", Line("prepare_ok", 3)),
-    ("send 7 2 0 get_prepare op 5 made 1", Line("get_prepare", None, 5, None, ("get_prepare", "op", "5", "made", "1"))),
-    ("send 7 2 0 get_block 64", Line("get_block", None, None, None, ("get_block", "64"))),
-    ("send 7 2 0 get_sync view 4", Line("get_sync", 4, None, None, ("get_sync", "view", "4"))),
-    ("send 7 2 0 start_view_change view 8", Line("start_view_change", 8)),
-    ("send 7 2 0 do_view_change view 8 log 7 commit 3 head 4 parts hl", Line("do_view_change", 8)),
-    ("send 7 2 0 give_block 1", Line("give_block")),
-    ("commit 2 op 7 view 1 client 9 request 3 put commit op", Line("applied", 1, 7, client=9, request=3, what=("put", "commit"))),
-    ("commit 2 op 7 view 1 client 9 request 0 register", Line("applied", 1, 7, client=9, request=0, what=("register",))),
-    ("reply 2 client 9 request 3 op 7 ok", Line("reply", client=9)),
-    ("reply 2 client 9 request 3 busy", Line("busy", client=9)),
-    ("reply 2 client 9 request 3 redirect 5", Line("redirect", client=9)),
-    ("start 1 view 2 log_view 1 commit 32", Line("start", 2, None, 32)),
-    ("wait 1 view 2 op 5", Line("wait", 2, 5)),
-    ("choose 1 view 2 log 1 commit 3 head 4 own h", Line("choose", 2)),
+ROWS: List[Tuple[str, Line]] = [
+    ("send 9 0 1 commit view 3 op 12 commit 10", Beat(3, 12, 10)),
+    ("send 9 0 1 prepare view 3 op 13 made 3 commit 12", Prepare(3, 13, 12)),
+    ("send 1 1 0 prepare_ok view 3 op 13 made 3", Message("prepare_ok", 3)),
+    ("send 7 2 0 get_prepare op 5 made 1", Question("get_prepare", ("get_prepare", "op", "5", "made", "1"), None, 5)),
+    ("send 7 2 0 get_block 64", Question("get_block", ("get_block", "64"))),
+    ("send 7 2 0 get_sync view 4", Question("get_sync", ("get_sync", "view", "4"), 4)),
+    ("send 7 2 0 start_view_change view 8", Message("start_view_change", 8)),
+    ("send 7 2 0 do_view_change view 8 log 7 commit 3 head 4 parts hl", Message("do_view_change", 8)),
+    ("send 7 2 0 give_block 1", Given("give_block")),
+    ("commit 2 op 7 view 1 client 9 request 3 put commit op", Applied(1, 7, Request(9, 3, "put", "commit"))),
+    ("commit 2 op 7 view 1 client 9 request 0 register", Applied(1, 7, Request(9, 0, "register"))),
+    ("reply 2 client 9 request 3 op 7 ok", Reply("reply", 9)),
+    ("reply 2 client 9 request 3 busy", Reply("busy", 9)),
+    ("reply 2 client 9 request 3 redirect 5", Reply("redirect", 9)),
+    ("start 1 view 2 log_view 1 commit 32", Start(2, 32)),
+    ("wait 1 view 2 op 5", Choice("wait", 2, 5)),
+    ("choose 1 view 2 log 1 commit 3 head 4 own h", Choice("choose", 2)),
+    ("halt 2", Halt()),
     # Cut, or no line of a member.
+    ("commit 2 op 7 view 1", Applied(1, 7)),
+    ("commit 2 op 7 view 1 client 9 request 3", Applied(1, 7)),
+    ("commit 2 op 7 view 1 client 9 request 3 put", Applied(1, 7, Request(9, 3, "put"))),
     ("", UNKNOWN),
     ("send 9 0 1 commit view 3 op 12 com", UNKNOWN),
     ("send 9 0 1 get_pre", UNKNOWN),

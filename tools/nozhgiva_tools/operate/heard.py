@@ -17,7 +17,7 @@ class Heard:
 
     def hear(self, text: bytes, line: Line) -> Optional[str]:
         """A line of a member; where it contradicts one from before, a sentence that says so."""
-        if line.kind != "applied" or line.op is None or line.client is None:
+        if line.kind != "applied" or line.request is None:
             return None
         name = hashlib.blake2b(text.split(b" ", 4)[4], digest_size=16).digest()
         before = self.names.get(line.op)

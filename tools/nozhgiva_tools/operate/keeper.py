@@ -14,7 +14,7 @@ from collections import Counter
 from typing import Callable, Dict, List, NamedTuple, Optional
 
 from nozhgiva_tools.told import datafile
-from nozhgiva_tools.told.lines import parse, Splitter
+from nozhgiva_tools.told.lines import parse, Reply, Splitter
 
 from . import doors, endings, metrics, noting, vitals as health
 from .demand import Demand, PROBE
@@ -471,7 +471,7 @@ class Keeper:
     def hear(self, text: bytes) -> None:
         now, line = self.clock(), parse(text)
         self.lines += 1
-        if line.client == PROBE and line.kind != "applied":
+        if isinstance(line, Reply) and line.client == PROBE:
             return
         self.demand.hear(now, line)
         if line.kind == "start":

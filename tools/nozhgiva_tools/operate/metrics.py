@@ -10,10 +10,11 @@ from collections import Counter
 from typing import Dict, Iterator, List, NamedTuple, Optional, Tuple
 
 from nozhgiva_tools.told import datafile, whole
-from nozhgiva_tools.told.lines import Line
+from nozhgiva_tools.told.lines import Line, Reply
 
 from . import vitals as health
 from .policy import Policy
+from .pulse import HANGS
 
 KIND = "text/plain; version=0.0.4; charset=utf-8"
 REPLIES = {"reply": "answered", "busy": "busy", "redirect": "redirected", "old": "old", "gap": "gap", "evicted": "evicted"}
@@ -31,7 +32,7 @@ class Counts:
 
     def hear(self, line: Line, view: Optional[int]) -> None:
         """A line of the member, and the view that it is in after it."""
-        if line.kind in REPLIES:
+        if isinstance(line, Reply):
             self.replies[REPLIES[line.kind]] += 1
         elif line.kind == "applied" and line.op > self.op:
             self.applied += 1
@@ -78,9 +79,9 @@ def metrics(told: Told) -> Iterator[Metric]:
     runs = life.since is not None
     troubles = health.troubles(told.policy, now, life)
     yield one("member_up", "gauge", "Whether the member's process runs.", int(runs))
-    yield one("member_leads", "gauge", "Whether the member leads its group.", int(runs and life.silent <= health.HANGS and seen.leads(now)))
+    yield one("member_leads", "gauge", "Whether the member leads its group.", int(runs and life.silent <= HANGS and seen.leads(now)))
     yield by_label("member_trouble", "gauge", "Whether the member isn't well for this reason.", "trouble", {word: int(word in troubles) for word in TROUBLES})
-    yield one("member_start_time_seconds", "gauge", "When the member's process was started, in seconds since 1970.", round(time.time() - (now - life.since), 1) if runs else None)
+    yield one("member_start_time_seconds", "gauge", "When the member's process was started, in seconds since 1970.", None if life.since is None else round(time.time() - (now - life.since), 1))
     yield one("member_silent_seconds", "gauge", "Seconds since the member's process last took a turn.", round(life.silent, 1) if runs else None)
     yield one("view", "gauge", "The view that the member is in.", seen.view)
     yield one("view_changes_total", "counter", "Views that the member entered after the first one that was seen.", told.counts.views)
@@ -112,9 +113,9 @@ def of_file(told: Told) -> Iterator[Metric]:
     value = report.value if report is not None else None
     yield Metric("file_info", "gauge", "Version and mode of the member's data file.", [(f'version="{value.version}",mode="{value.mode}"', 1)] if value else [])
     yield by_label("damaged_places", "gauge", "Damaged places of the data file, by what becomes of them.", "kind",
-                   {kind: len(places) for kind, places in report.places._asdict().items()} if value else {})
+                   {kind: len(places) for kind, places in report.places._asdict().items()} if report is not None and value is not None else {})
     facts = report.facts() if report is not None else None
-    runs = told.life.since is not None and told.life.silent <= health.HANGS
+    runs = told.life.since is not None and told.life.silent <= HANGS
     takes_part = runs and not told.policy.seen.changes(told.now) and not health.lacks(told.policy, told.life)
     yield one("member_whole", "gauge", "Whether the member takes part and its file holds all that a whole quorum needs of it: a quorum of such members goes on without the others.",
               int(takes_part and whole.is_whole_alone(facts)) if facts else None)
@@ -122,7 +123,7 @@ def of_file(told: Told) -> Iterator[Metric]:
     yield one("member_has_state", "gauge", "Whether the member has the whole state: each block of its checkpoint, by its lines and its file.", None if has_state is None else int(has_state))
     root = health.root_of(report)
     yield Metric("checkpoint_info", "gauge", "The checkpoint of the member's data file, and the name of its root: that of one checkpoint is the same at all members.",
-                 [(f'checkpoint="{value.checkpoint}",root="{root}"', 1)] if root else [])
+                 [(f'checkpoint="{value.checkpoint}",root="{root}"', 1)] if root and value is not None else [])
     yield one("group_members", "gauge", "Members that the group has.", value.members if value else None)
     yield one("view_change_quorum", "gauge", "Members that a change of views takes.", whole.VIEW_CHANGE[value.members] if value else None)
     yield one("keys", "gauge", "Keys that the group holds.", tally.keys if tally else None)

@@ -5,7 +5,7 @@ Times are seconds of one clock that never goes back. Nothing here reads a clock,
 from collections import deque
 from typing import Callable, Deque, Dict, Optional, Tuple
 
-from nozhgiva_tools.told.lines import Line, QUESTIONS
+from nozhgiva_tools.told.lines import Applied, Beat, Choice, Line, Message, Prepare, Question
 
 GAP = 1.0  # seconds; the most that a silence between two lines counts as standing still, so that a pause of the machine counts as none
 RECENT = 1.0  # seconds; what was told longer ago isn't so any more: a member that leads tells it ten times a second
@@ -33,6 +33,10 @@ class Seconds:
             self.total += min(max(now - self.last, 0.0), GAP)
         self.last = now
         return self.total
+
+    def was_lately(self, now: float) -> bool:
+        """Whether it was seen so short a time ago that it may still be so."""
+        return self.last is not None and now - self.last <= FORGOTTEN
 
 
 class Seen:
@@ -99,55 +103,63 @@ class Seen:
     def hear(self, now: float, line: Line) -> bool:
         """Takes a line in, and tells whether by it the member went on: it applied something, its commit number or its view rose, or an entry or a block came."""
         if line.kind == "start":
-            self.begin(now, line.view, line.commit or 0)
+            self.begin(now, line.view, line.commit)
             self.changing_since = now if self.alone else NEVER
             return True
         view = self.view
-        went_on = self.HEAR.get(line.kind, Seen.hear_other)(self, now, line)
+        went_on = self.hear_more(now, line)
         if self.view != view:
             self.entered.append(now)
         return went_on
 
-    def hear_other(self, now: float, line: Line) -> bool:
-        """The view is one that it is in or was in: of entries and questions older ones are told too."""
-        return self.rise(line.view)
+    def hear_more(self, now: float, line: Line) -> bool:
+        """A line that is no start. The view of a message is one that it is in or was in: of entries older ones are told too."""
+        if isinstance(line, Beat):
+            return self.hear_beat(now, line)
+        if isinstance(line, Applied):
+            return self.hear_applied(line)
+        if isinstance(line, Question):
+            return self.hear_question(now, line)
+        if isinstance(line, Choice):
+            return self.hear_choice(now, line)
+        if isinstance(line, Message) and line.kind == "start_view_change":
+            return self.hear_change(now, line.view)
+        if line.kind == "busy":
+            self.busy = now
+        return self.rise(line.view) if isinstance(line, (Message, Prepare)) else False
 
-    def rise(self, view: Optional[int]) -> bool:
-        if view is None or (self.view is not None and view <= self.view):
+    def rise(self, view: int) -> bool:
+        if self.view is not None and view <= self.view:
             return False
         self.view = view
         return True
 
-    def hear_beat(self, now: float, line: Line) -> bool:
+    def hear_beat(self, now: float, line: Beat) -> bool:
         """It leads: with each tick it tells its head and its commit number."""
         moved = self.rise(line.view) | (line.commit > self.commit)
         self.beat, self.head, self.commit = now, line.op, max(self.commit, line.commit)
         return moved
 
-    def hear_change(self, now: float, line: Line) -> bool:
+    def hear_change(self, now: float, view: int) -> bool:
         if now - self.change > FORGOTTEN:
             self.changing_since = now
         self.change, self.beat = now, NEVER
-        self.rise(line.view)
+        self.rise(view)
         return False
 
-    def hear_applied(self, now: float, line: Line) -> bool:
+    def hear_applied(self, line: Applied) -> bool:
         if line.op <= self.applied:
             return False
         self.applied, self.commit = line.op, max(self.commit, line.op)
         self.lacks, self.doubt = False, NEVER
         return True
 
-    def hear_busy(self, now: float, line: Line) -> bool:
-        self.busy = now
-        return False
-
-    def hear_choice(self, now: float, line: Line) -> bool:
+    def hear_choice(self, now: float, line: Choice) -> bool:
         self.chosen = line.kind == "choose"
         self.undecided = (now, line.op) if line.kind == "wait" and line.op is not None else None
         return self.rise(line.view)
 
-    def hear_question(self, now: float, line: Line) -> bool:
+    def hear_question(self, now: float, line: Question) -> bool:
         """A question. It is always the first that is lacking, so another entry or block than before means that that one came."""
         came = line.kind in ("get_prepare", "get_block") and self.last_asked.get(line.kind, line.asked) != line.asked
         self.last_asked[line.kind] = line.asked
@@ -159,20 +171,6 @@ class Seen:
             self.asked.clear()
         self.asked[line.asked] = now
         return came
-
-    HEAR: Dict[str, Callable[["Seen", float, Line], bool]] = {
-        "beat": hear_beat,
-        "start_view_change": hear_change,
-        "applied": hear_applied,
-        "busy": hear_busy,
-        "choose": hear_choice,
-        "wait": hear_choice,
-        "unknown": lambda self, now, line: False,
-        "get_view": hear_question,
-        "get_sync": hear_question,
-        "get_prepare": hear_question,
-        "get_block": hear_question,
-    }
 
 
 class Policy:
@@ -192,7 +190,7 @@ class Policy:
 
     def draw_limit(self) -> float:
         """The patience, grown by the restarts that didn't help, and up to a half more by chance."""
-        return self.patience * min(2 ** self.tries, GROWTH) * (1 + self.draw() / 2)
+        return self.patience * min(1 << self.tries, GROWTH) * (1 + self.draw() / 2)
 
     def hear(self, now: float, line: Line) -> Optional[str]:
         """Takes a line in; where a restart is due, the reason in a sentence. The time until the next one is longer then."""
@@ -201,7 +199,7 @@ class Policy:
         reason = None
         if line.kind == "beat":
             reason = self.look_at_leader(now)
-        elif line.kind in QUESTIONS:
+        elif isinstance(line, Question):
             reason = self.look_at_question(now, line.asked)
         if reason is None or self.patience == 0:
             return None
@@ -248,7 +246,7 @@ class Policy:
 
     def look_at_question(self, now: float, question: Tuple[str, ...]) -> Optional[str]:
         """Rule 2: it asks for one and the same thing, and goes on by nothing."""
-        for old in [q for q, seconds in self.asks.items() if now - seconds.last > FORGOTTEN]:
+        for old in [q for q, seconds in self.asks.items() if not seconds.was_lately(now)]:
             del self.asks[old]
         if not self.seen.is_in_the_way(question) or len(self.asks) >= MOST_ASKED:
             self.asks.pop(question, None)
@@ -261,4 +259,4 @@ class Policy:
     def standing(self, now: float) -> float:
         """For how many seconds it has been standing still, by either rule."""
         seen = [self.stands] + list(self.asks.values())
-        return max([seconds.total for seconds in seen if seconds.last is not None and now - seconds.last <= FORGOTTEN], default=0.0)
+        return max([seconds.total for seconds in seen if seconds.was_lately(now)], default=0.0)

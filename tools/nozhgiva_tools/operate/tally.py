@@ -6,7 +6,8 @@ from collections import deque
 from typing import Deque, Dict, Optional, Set, Tuple
 
 from nozhgiva_tools.told import datafile
-from nozhgiva_tools.told.lines import Line
+from nozhgiva_tools.told.lines import Applied, Request
+from nozhgiva_tools.told.table import Session
 
 REMEMBERED = 160  # operations whose lines are kept: a checkpoint and the window behind it
 LATELY = 300.0  # seconds; a session that was used within them may be one of a client at work
@@ -17,7 +18,7 @@ class Tally:
     """The keys and sessions of a member's state; None where they aren't known, as before its file was read."""
 
     def __init__(self) -> None:
-        self.lines: Deque[Tuple[float, Line]] = deque(maxlen=REMEMBERED)
+        self.lines: Deque[Tuple[float, Applied]] = deque(maxlen=REMEMBERED)
         self.used: Dict[int, float] = {}  # when a client's session was used last, as far as that was heard
         self.evicted = {"lately": 0, "earlier": 0}  # sessions that a further one ended, by when they were used last
         self.forget()
@@ -25,7 +26,7 @@ class Tally:
     def forget(self) -> None:
         self.op: Optional[int] = None  # up to which all is counted
         self.names: Set[str] = set()
-        self.clients: Dict[int, list] = {}  # by its number, the last request and the operation that executed it
+        self.clients: Dict[int, Session] = {}  # by their numbers
         self.most = datafile.SESSIONS[1]
 
     @property
@@ -36,15 +37,10 @@ class Tally:
     def sessions(self) -> Optional[int]:
         return None if self.op is None else len(self.clients)
 
-    def hear(self, now: float, line: Line) -> None:
+    def hear(self, now: float, line: Applied) -> None:
         """An operation that the member applied. Where some before it are missing, as after a jump, nothing is known until the file is read again."""
         self.lines.append((now, line))
-        if self.op is None or line.op <= self.op:
-            return
-        if line.op > self.op + 1 or line.client is None or not line.what:
-            self.forget()
-            return
-        self.apply(now, line)
+        self.hear_again(now, line)
 
     def begin(self, report: Optional[datafile.Report]) -> None:
         """Takes what the file's checkpoint holds, and then what was applied since, unless more is known already."""
@@ -55,37 +51,40 @@ class Tally:
         self.forget()
         self.op, self.most = report.checkpoint.op, datafile.SESSIONS[report.value.version]
         self.names = {key for key, _ in report.checkpoint.pairs()}
-        self.clients = {client: list(last) for client, last in report.checkpoint.clients().items()}
+        self.clients = {client: Session(*last) for client, last in report.checkpoint.clients().items()}
         self.used = {client: at for client, at in self.used.items() if client in self.clients}
         for now, line in sorted(self.lines, key=lambda heard: heard[1].op):
-            if self.op is not None and line.op > self.op:
-                self.hear_again(now, line)
+            self.hear_again(now, line)
 
-    def hear_again(self, now: float, line: Line) -> None:
-        if line.op > self.op + 1 or line.client is None or not line.what:
+    def hear_again(self, now: float, line: Applied) -> None:
+        """An operation, heard just now or before the file was read; one that is counted already, or comes where nothing is known, changes nothing."""
+        if self.op is None or line.op <= self.op:
+            return
+        if line.op > self.op + 1 or line.request is None:
             self.forget()
         else:
-            self.apply(now, line)
+            self.apply(now, line.op, line.request)
 
-    def apply(self, now: float, line: Line) -> None:
+    def apply(self, now: float, op: int, request: Request) -> None:
         """The next operation: executed where its number is the next one of its session (docs/STATE.md)."""
-        self.op = line.op
-        if line.what[0] == "register":
-            self.register(now, line)
-        elif line.client in self.clients and line.request == self.clients[line.client][0] + 1:
-            self.clients[line.client], self.used[line.client] = [line.request, line.op], now
-            if line.what[0] == "put" and len(self.names) < datafile.KEYS:
-                self.names.add(line.what[1])
-            elif line.what[0] == "del":
-                self.names.discard(line.what[1])
+        self.op = op
+        session = self.clients.get(request.client)
+        if request.what == "register":
+            self.register(now, op, request.client)
+        elif session is not None and request.number == session.request + 1:
+            self.clients[request.client], self.used[request.client] = Session(request.number, op), now
+            if request.what == "put" and request.key is not None and len(self.names) < datafile.KEYS:
+                self.names.add(request.key)
+            elif request.what == "del" and request.key is not None:
+                self.names.discard(request.key)
 
-    def register(self, now: float, line: Line) -> None:
+    def register(self, now: float, op: int, client: int) -> None:
         """A new session; where as many are held as may be, the one that was used longest ago goes."""
-        if line.client in self.clients:
+        if client in self.clients:
             return
         if len(self.clients) >= self.most:
-            self.evict(now, min(self.clients, key=lambda client: self.clients[client][1]))
-        self.clients[line.client], self.used[line.client] = [0, line.op], now
+            self.evict(now, min(self.clients, key=lambda one: self.clients[one].op))
+        self.clients[client], self.used[client] = Session(0, op), now
 
     def evict(self, now: float, client: int) -> None:
         del self.clients[client]

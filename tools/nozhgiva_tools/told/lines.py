@@ -1,89 +1,199 @@
 """The lines that a member writes (docs/SCHEDULE.md, "Lines of the output"), as far as an operator's scripts look at them."""
 
-from typing import Callable, Iterable, List, NamedTuple, Optional, Tuple
+from typing import Callable, Dict, get_args, Iterable, List, Literal, NamedTuple, Optional, Tuple, Union
 
 LONGEST = 4096  # bytes; the longest line that a member writes has some 1,300
 
+MessageKind = Literal["prepare_ok", "start_view_change", "do_view_change", "start_view", "sync_view"]
+GivenKind = Literal["give_prepare", "give_block"]
+QuestionKind = Literal["get_prepare", "get_block", "get_view", "get_sync"]
+RefusalKind = Literal["busy", "redirect", "old", "gap", "evicted"]
+ChoiceKind = Literal["choose", "wait"]
 
-class Line(NamedTuple):
-    """One line: what it is, and the numbers that the policy looks at. What a kind of line doesn't tell is None."""
 
-    kind: str  # of a send the kind of its message, else the first word; `busy`, `redirect` and so on for a reply
+class Beat(NamedTuple):
+    """What a member that leads sends with each tick: its view, its head and its commit number."""
+
+    view: int
+    op: int
+    commit: int
+    kind: Literal["beat"] = "beat"
+
+
+class Prepare(NamedTuple):
+    """An entry that is sent."""
+
+    view: int
+    op: int
+    commit: int
+    kind: Literal["prepare"] = "prepare"
+
+
+class Message(NamedTuple):
+    """Another message that is sent, of which the view alone is looked at."""
+
+    kind: MessageKind
+    view: int
+
+
+class Given(NamedTuple):
+    """An entry or a block that was asked for, and is sent."""
+
+    kind: GivenKind
+
+
+class Question(NamedTuple):
+    """A question to the others: what it asks for, in its own words, and what these tell of a view or an operation."""
+
+    kind: QuestionKind
+    asked: Tuple[str, ...]
     view: Optional[int] = None
     op: Optional[int] = None
-    commit: Optional[int] = None
-    asked: Optional[Tuple[str, ...]] = None  # of a question to the others: what it asks for
-    client: Optional[int] = None  # of a reply, and of an operation that is applied: whose request it is
-    request: Optional[int] = None  # of an operation that is applied: the request's number
-    what: Tuple[str, ...] = ()  # and what it does: `register`, or `put`, `get`, `del` with the key
 
 
-QUESTIONS = ("get_prepare", "get_block", "get_view", "get_sync")
-UNKNOWN = Line("unknown")
+class Request(NamedTuple):
+    """Of an operation: whose request it is, with the request's number; and what it does: `register`, or `put`, `get`, `del` with the key."""
+
+    client: int
+    number: int
+    what: str
+    key: Optional[str] = None
+
+
+class Applied(NamedTuple):
+    """An operation that is applied; nothing is known of its request where the line was cut."""
+
+    view: int
+    op: int
+    request: Optional[Request] = None
+    kind: Literal["applied"] = "applied"
+
+
+class Reply(NamedTuple):
+    """A reply to a client: `reply` where it has an outcome, else why it has none."""
+
+    kind: Union[RefusalKind, Literal["reply"]]
+    client: int
+
+
+class Start(NamedTuple):
+    """A start: the view and the commit number as saved."""
+
+    view: int
+    commit: int
+    kind: Literal["start"] = "start"
+
+
+class Choice(NamedTuple):
+    """A log that is chosen, or a choice that waits for an operation."""
+
+    kind: ChoiceKind
+    view: int
+    op: Optional[int] = None
+
+
+class Halt(NamedTuple):
+    """The member stops for good."""
+
+    kind: Literal["halt"] = "halt"
+
+
+class Unknown(NamedTuple):
+    """No line of a member, or a part of one."""
+
+    kind: Literal["unknown"] = "unknown"
+
+
+Line = Union[Beat, Prepare, Message, Given, Question, Applied, Reply, Start, Choice, Halt, Unknown]
+"""One line: what it is, and the numbers that the policy looks at."""
+
+Words = List[str]  # of a line
+UNKNOWN = Unknown()
+# The words of lines, and the kinds that they stand for.
+MESSAGES: Dict[str, MessageKind] = {kind: kind for kind in get_args(MessageKind)}
+GIVEN: Dict[str, GivenKind] = {kind: kind for kind in get_args(GivenKind)}
+QUESTIONS: Dict[str, QuestionKind] = {kind: kind for kind in get_args(QuestionKind)}
+REFUSALS: Dict[str, RefusalKind] = {kind: kind for kind in get_args(RefusalKind)}
+CHOICES: Dict[str, ChoiceKind] = {kind: kind for kind in get_args(ChoiceKind)}
 
 
 def parse(text: bytes) -> Line:
     """The line that a text without its LF is; `UNKNOWN` where it is none, as where it was cut in two."""
     words = text.decode("ascii", "replace").split(" ")
+    reader = READERS.get(words[0])
     try:
-        return READERS.get(words[0], lambda _: UNKNOWN)(words)
+        return UNKNOWN if reader is None else reader(words)
     except (IndexError, ValueError):
         return UNKNOWN
 
 
-def value(words: List[str], name: str) -> int:
+def value(words: Words, name: str) -> int:
     """The number behind a word; ValueError where there is none."""
     return int(words[words.index(name) + 1])
 
 
-def read_send(words: List[str]) -> Line:
+def value_if_any(words: Words, name: str) -> Optional[int]:
+    """The number behind a word; None where the word isn't there."""
+    return value(words, name) if name in words else None
+
+
+def read_send(words: Words) -> Line:
     """`send M A B KIND ..`."""
     kind = words[4]
     if kind in QUESTIONS:
-        rest = tuple(words[5:])
-        if not any(word.isdigit() for word in rest):
-            return UNKNOWN
-        return Line(kind, view=value(words, "view") if "view" in words else None, op=value(words, "op") if "op" in words else None, asked=(kind,) + rest)
+        return read_question(QUESTIONS[kind], words)
     if kind == "commit":
-        return Line("beat", value(words, "view"), value(words, "op"), value(words[5:], "commit"))
+        return Beat(value(words, "view"), value(words, "op"), value(words[5:], "commit"))
     if kind == "prepare":
-        return Line(kind, value(words, "view"), value(words, "op"), value(words, "commit"))
-    if kind in ("prepare_ok", "start_view_change", "do_view_change", "start_view", "sync_view"):
-        return Line(kind, view=value(words, "view"))
-    return Line(kind) if kind in ("give_prepare", "give_block") else UNKNOWN
+        return Prepare(value(words, "view"), value(words, "op"), value(words, "commit"))
+    if kind in MESSAGES:
+        return Message(MESSAGES[kind], value(words, "view"))
+    return Given(GIVEN[kind]) if kind in GIVEN else UNKNOWN
 
 
-def read_commit(words: List[str]) -> Line:
+def read_question(kind: QuestionKind, words: Words) -> Line:
+    """`send M A B KIND ..`, with at least one number in its rest."""
+    if not any(word.isdigit() for word in words[5:]):
+        return UNKNOWN
+    return Question(kind, tuple(words[4:]), value_if_any(words, "view"), value_if_any(words, "op"))
+
+
+def read_commit(words: Words) -> Line:
     """`commit R op K view W client C request Q OP`."""
-    whole = len(words) > 10 and words[6] == "client" and words[8] == "request"
-    return Line("applied", view=value(words, "view"), op=value(words, "op"), client=int(words[7]) if whole else None,
-                request=int(words[9]) if whole else None, what=tuple(words[10:12]) if whole else ())
+    return Applied(value(words, "view"), value(words, "op"), request_of(words))
 
 
-def read_reply(words: List[str]) -> Line:
+def request_of(words: Words) -> Optional[Request]:
+    """The request of an operation that is applied; None where the line was cut before its end."""
+    if len(words) <= 10 or words[6] != "client" or words[8] != "request":
+        return None
+    return Request(int(words[7]), int(words[9]), words[10], words[11] if len(words) > 11 else None)
+
+
+def read_reply(words: Words) -> Line:
     """`reply R client C request Q ..`: kind `busy`, `redirect`, `old`, `gap`, `evicted`, or `reply` where it has an outcome."""
     value(words, "request")
-    return Line(words[6] if words[6] in ("busy", "redirect", "old", "gap", "evicted") else "reply", client=value(words, "client"))
+    return Reply(REFUSALS.get(words[6], "reply"), value(words, "client"))
 
 
-def read_start(words: List[str]) -> Line:
+def read_start(words: Words) -> Line:
     """`start R view V log_view L commit C`."""
-    return Line("start", view=value(words, "view"), commit=value(words, "commit"))
+    return Start(value(words, "view"), value(words, "commit"))
 
 
-def read_choice(words: List[str]) -> Line:
+def read_choice(words: Words) -> Line:
     """`choose R view V ..`, `wait R view V op K`."""
-    return Line(words[0], view=value(words, "view"), op=value(words, "op") if "op" in words else None)
+    return Choice(CHOICES[words[0]], value(words, "view"), value_if_any(words, "op"))
 
 
-READERS = {
+READERS: Dict[str, Callable[[Words], Line]] = {
     "send": read_send,
     "commit": read_commit,
     "reply": read_reply,
     "start": read_start,
     "choose": read_choice,
     "wait": read_choice,
-    "halt": lambda words: Line("halt"),
+    "halt": lambda words: Halt(),
 }
 
 
@@ -101,7 +211,9 @@ def without_value(text: bytes) -> bytes:
 
 def spelling(no_values: bool) -> Callable[[bytes], bytes]:
     """What gives the text that is written of a line."""
-    return without_value if no_values else bytes
+    if no_values:
+        return without_value
+    return bytes
 
 
 class Splitter:
