@@ -4,7 +4,7 @@ import hashlib
 import os
 import struct
 import time
-from typing import Dict, Iterator, List, NamedTuple, Optional, Sequence, Set, Tuple
+from typing import BinaryIO, Dict, Iterator, List, NamedTuple, Optional, Sequence, Set, Tuple
 
 from . import whole
 
@@ -43,6 +43,19 @@ def number(data: bytes, at: int, size: int) -> int:
 
 class Header:
     """A header's bytes and fields."""
+
+    body: bytes  # its name
+    cluster: int
+    request: int
+    view: int
+    op: int
+    commit: int
+    size: int
+    command: int
+    replica: int
+    version: int
+    kind: int
+    aux: int
 
     def __init__(self, data: bytes) -> None:
         self.bytes = data[:128]
@@ -96,6 +109,9 @@ class Value:
         self.version, self.mode = data[92], "careful" if data[93] else "strict"
         self.headers = {header.op: header for header in headers}
 
+    def whose(self) -> str:
+        return f"member {self.replica} of {self.members} of group {self.cluster}"
+
     def __str__(self) -> str:
         return f"sequence {self.sequence} view {self.view} log_view {self.log_view} checkpoint {self.checkpoint} commit {self.commit} head {self.head}"
 
@@ -115,12 +131,14 @@ def value_of(data: bytes) -> Optional[Value]:
     if len(data) < COPY or name(data[16:]) != data[:16] or not has_good_numbers(data):
         return None
     count, head = number(data, 88, 2), number(data, 80, 8)
-    headers = [header_of(data[128 + 128 * i:256 + 128 * i]) for i in range(count)]
-    for i, header in enumerate(headers):
+    headers: List[Header] = []
+    for i in range(count):
+        header = header_of(data[128 + 128 * i:256 + 128 * i])
         if header is None or not header.is_entry() or header.op != head - count + 1 + i:
             return None
         if header.version > data[92] or header.cluster != number(data, 24, 8) or header.view > number(data, 36, 4):
             return None
+        headers.append(header)
     return Value(data, headers) if is_zero(data[128 + 128 * count:COPY]) else None
 
 
@@ -131,9 +149,9 @@ class Superblock:
         copies = [data[i * COPY:(i + 1) * COPY] for i in range(4)]
         values = {copy: value_of(copy) for copy in set(copies)}
         self.values = [values[copy] for copy in copies]
-        agree = [i for i in range(4) if self.values[i] and copies.count(copies[i]) >= 2]
-        best = max(agree, key=lambda i: (self.values[i].sequence, -i), default=None)
-        self.value = None if best is None else self.values[best]
+        agreed = {i: value for i, value in enumerate(self.values) if value is not None and copies.count(copies[i]) >= 2}
+        best = max(agreed, key=lambda i: (agreed[i].sequence, -i), default=None)
+        self.value = None if best is None else agreed[best]
         self.opens = [best is not None and copy == copies[best] for copy in copies]
 
     def lines(self) -> Iterator[str]:
@@ -171,22 +189,24 @@ class Slots:
         entry = self.reads(data, header.op)[1]
         return entry is not None and entry.bytes == header.bytes
 
-    def may_be(self, op: int, header: Optional[Header]) -> bool:
-        """Whether a header may be that of an op: the one that the superblock names, or above its head one of its log view."""
+    def fitting(self, op: int, header: Optional[Header]) -> Optional[Header]:
+        """A header, where it may be that of an op: the one that the superblock names, or above its head one of its log view."""
         if header is None or not header.is_entry() or header.version > self.value.version:
-            return False
+            return None
         if header.cluster != self.value.cluster or header.op != op:
-            return False
+            return None
+        if op > self.value.head:
+            return header if header.view == self.value.log_view else None
         named = self.value.headers.get(op)
-        return header.bytes == named.bytes if op <= self.value.head else header.view == self.value.log_view
+        return header if named is not None and header.bytes == named.bytes else None
 
     def find(self, op: int, header: Optional[Header], entry: Optional[Header], is_torn: bool) -> None:
-        is_named, fits = op <= self.value.head, self.may_be(op, header)
+        is_named, told, stored = op <= self.value.head, self.fitting(op, header), self.fitting(op, entry)
         denies = header is not None and not (is_torn and self.value.mode == "careful")
-        if self.may_be(op, entry) and not (fits and header.bytes != entry.bytes):
+        if stored is not None and (told is None or told.bytes == stored.bytes):
             self.found["here"].append(op)
             self.found["headless"] += [op] if header is None else []
-        elif fits:
+        elif told is not None:
             self.found["lost"].append(op)
         elif denies:
             self.found["wanted" if is_named else "nothing"].append(op)
@@ -221,6 +241,13 @@ def payload_of(data: bytes, address: int, wanted: bytes, kind: int, op: Optional
     return payload if name(payload) == header.body else None
 
 
+def readable(text: Optional[bytes], what: str) -> bytes:
+    """A text of a checkpoint; ValueError where it can't be read."""
+    if text is None:
+        raise ValueError(f"the {what} of the checkpoint can't be read")
+    return text
+
+
 class Checkpoint:
     """The two texts of the checkpoint's state, None where a block of one is faulty, with its blocks."""
 
@@ -250,28 +277,30 @@ class Checkpoint:
         self.keys = self.text(data, names[counts[0]:], lengths[1])
 
     def text(self, data: bytes, names: Sequence[Tuple[int, bytes]], length: int) -> Optional[bytes]:
-        pieces = []
+        pieces: List[bytes] = []
         for address, wanted in names:
             piece = payload_of(data, address, wanted, DATA_BLOCK)
             self.used.append(address)
-            self.faulty += [address] if piece is None else []
-            pieces.append(piece)
-        return None if None in pieces or sum(map(len, pieces)) != length else b"".join(pieces)
+            if piece is None:
+                self.faulty.append(address)
+            else:
+                pieces.append(piece)
+        return b"".join(pieces) if len(pieces) == len(names) and sum(map(len, pieces)) == length else None
 
     def pairs(self) -> Iterator[Tuple[str, str]]:
-        """The keys with their values."""
-        at = 2
-        for _ in range(number(self.keys, 0, 2)):
-            key, value = self.keys[at], number(self.keys, at + 1, 2)
-            yield self.keys[at + 3:at + 3 + key].decode(), self.keys[at + 3 + key:at + 3 + key + value].decode()
+        """The keys with their values; ValueError where they can't be read."""
+        text, at = readable(self.keys, "keys"), 2
+        for _ in range(number(text, 0, 2)):
+            key, value = text[at], number(text, at + 1, 2)
+            yield text[at + 3:at + 3 + key].decode(), text[at + 3 + key:at + 3 + key + value].decode()
             at += 3 + key + value
 
     def clients(self) -> Dict[int, Tuple[int, int]]:
-        """The clients that have a session, each with the number of its last request and the operation that executed it."""
-        found, at = {}, 2
-        for _ in range(number(self.sessions, 0, 2)):
-            found[number(self.sessions, at, 8)] = number(self.sessions, at + 8, 4), number(self.sessions, at + 12, 8)
-            at += 21 + (2 + number(self.sessions, at + 21, 2) if self.sessions[at + 20] == 5 else 0)
+        """The clients that have a session, each with the number of its last request and the operation that executed it; ValueError where they can't be read."""
+        text, found, at = readable(self.sessions, "sessions"), {}, 2
+        for _ in range(number(text, 0, 2)):
+            found[number(text, at, 8)] = number(text, at + 8, 4), number(text, at + 12, 8)
+            at += 21 + (2 + number(text, at + 21, 2) if text[at + 20] == 5 else 0)
         return found
 
     def line(self) -> str:
@@ -290,7 +319,7 @@ def ranges(numbers: Sequence[int]) -> str:
     return " ".join(f"{low}" if low == high else f"{low}-{high}" for low, high in runs) or "none"
 
 
-def read_sectors(file) -> Tuple[bytes, int]:
+def read_sectors(file: BinaryIO) -> Tuple[bytes, int]:
     """The file's bytes, and how many sectors can't be read; these are no sectors of anything."""
     try:
         return os.pread(file.fileno(), SECTORS * SECTOR, 0), 0
@@ -315,12 +344,22 @@ class Places(NamedTuple):
     def __and__(self, other: "Places") -> "Places":
         return Places(*(mine & others for mine, others in zip(self, other)))
 
-    def count(self) -> int:
+    def total(self) -> int:
         return sum(map(len, self))
 
 
+def whole_line(facts: whole.Facts) -> str:
+    """What a whole quorum needs of a file."""
+    header = "" if facts.checkpoint == 0 else ", whose header is known" if facts.anchored else ", whose header isn't known"
+    return (f"for a whole quorum: checkpoint {facts.checkpoint}{header}; blocks that can't be read: {facts.missing}; above it lost {ranges(facts.lost)}, unknown {ranges(facts.unknown)}; "
+            f"the last operation whose header is known is {facts.last} of at most {facts.checkpoint + SLOTS}")
+
+
 class Report:
-    """What was found in a file."""
+    """What was found in a file. Slots and checkpoint are there where it is a member's, and so has a value."""
+
+    slots: Slots
+    checkpoint: Checkpoint
 
     def __init__(self, path: str) -> None:
         with open(path, "rb") as file:
@@ -342,19 +381,17 @@ class Report:
 
     def facts(self) -> Optional[whole.Facts]:
         """What a whole quorum needs of it; None where it is no member's. What is damaged is what was found so at each look."""
-        if self.value is None:
-            return None
-        found, value, damaged = self.slots.found, self.value, self.places.mended | self.places.unsure
+        return None if self.value is None else self.facts_of(self.value)
+
+    def facts_of(self, value: Value) -> whole.Facts:
+        found, damaged = self.slots.found, self.places.mended | self.places.unsure
         lost, unknown = (tuple(op for op in sorted(found[kind]) if ("operation", op) in damaged) for kind in ("lost", "unknown"))
         last = max(found["here"] + found["lost"] + found["wanted"], default=value.checkpoint)
         return whole.Facts(value.checkpoint, value.checkpoint == 0 or value.checkpoint in value.headers, self.missing, lost, unknown, last)
 
     def damaged(self) -> int:
         """How many places are damaged; of a file that is no member's, more than there are."""
-        return SECTORS if self.value is None else self.places.count()
-
-    def whose(self) -> str:
-        return f"member {self.value.replica} of {self.value.members} of group {self.value.cluster}"
+        return SECTORS if self.value is None else self.places.total()
 
     def as_json(self) -> Dict[str, object]:
         """What a script needs of it; nothing but the path where it is no member's."""
@@ -365,20 +402,20 @@ class Report:
             "file": self.path, "group": value.cluster, "member": value.replica, "members": value.members, "version": value.version, "mode": value.mode,
             "view": value.view, "commit": value.commit, "head": self.slots.head(), "checkpoint": value.checkpoint,
             "keys": None if checkpoint.keys is None else number(checkpoint.keys, 0, 2), "sessions": None if checkpoint.sessions is None else number(checkpoint.sessions, 0, 2),
-            "places": {kind: sorted(found) for kind, found in self.places._asdict().items()}, "whole": self.facts()._asdict(),
+            "places": {kind: sorted(found) for kind, found in self.places._asdict().items()}, "whole": self.facts_of(value)._asdict(),
         }
 
     def health(self) -> str:
         if self.value is None:
             return f"{self.path}: no member"
         kinds = f" (mended {len(self.places.mended)}, unsure {len(self.places.unsure)}, idle {len(self.places.idle)})" if self.damaged() else ""
-        return (f"{self.whose()}: view {self.value.view} commit {self.value.commit} head {self.slots.head()} checkpoint {self.value.checkpoint} "
+        return (f"{self.value.whose()}: view {self.value.view} commit {self.value.commit} head {self.slots.head()} checkpoint {self.value.checkpoint} "
                 f"damaged {self.damaged()}{kinds} written {self.age} s ago")
 
-    def damage_lines(self) -> Iterator[str]:
+    def damage_lines(self, members: int) -> Iterator[str]:
         """How many places are damaged, and what becomes of them while the member runs."""
         yield f"damaged places: {self.damaged()}"
-        others = "the member" if self.value.members == 1 else "the member, which asks the others for what it hasn't itself"
+        others = "the member" if members == 1 else "the member, which asks the others for what it hasn't itself"
         for places, text in ((self.places.mended, f"mended by {others}, while it runs"),
                              (self.places.unsure, "unsure until a further operation is written to each, which 64 further operations of the group are enough for; until then "
                                                   "the member can't deny what may have stood there, and a choice may have to wait for another member"),
@@ -386,21 +423,14 @@ class Report:
             if places:
                 yield f"  {len(places)} {text}: {', '.join(' '.join(map(str, place)) for place in sorted(places))}"
 
-    def whole_line(self) -> str:
-        """What a whole quorum needs of it."""
-        facts = self.facts()
-        header = "" if facts.checkpoint == 0 else ", whose header is known" if facts.anchored else ", whose header isn't known"
-        return (f"for a whole quorum: checkpoint {facts.checkpoint}{header}; blocks that can't be read: {facts.missing}; above it lost {ranges(facts.lost)}, unknown {ranges(facts.unknown)}; "
-                f"the last operation whose header is known is {facts.last} of at most {facts.checkpoint + SLOTS}")
-
     def lines(self) -> List[str]:
         holes = "" if self.blocks >= SECTORS else f", of which {self.blocks} of {SECTORS} sectors have room on the disk"
         unread = f", {self.unread} sectors can't be read" if self.unread else ""
         size = f"{self.length} bytes{holes}{unread}, written {self.age} s ago"
         if self.value is None:
             return [f"{self.path}: no member: no two good copies of the superblock agree; {size}", *self.superblock.lines()]
-        return [f"{self.whose()}, a {self.value.mode} file of version {self.value.version}; {size}", *self.superblock.lines(), self.slots.line(), self.checkpoint.line(),
-                self.whole_line(), *self.damage_lines(), "These are the numbers that were saved last; the member may know more."]
+        return [f"{self.value.whose()}, a {self.value.mode} file of version {self.value.version}; {size}", *self.superblock.lines(), self.slots.line(), self.checkpoint.line(),
+                whole_line(self.facts_of(self.value)), *self.damage_lines(self.value.members), "These are the numbers that were saved last; the member may know more."]
 
 
 def look(path: str) -> Report:

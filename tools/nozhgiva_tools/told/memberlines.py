@@ -31,12 +31,19 @@ class BadRun(Exception):
     """What was given can't be shown; the text says why."""
 
 
+class Remark(NamedTuple):
+    """What a keeper remarked, and when, where that is told."""
+
+    stamp: Optional[str]
+    text: str
+
+
 class Line(NamedTuple):
     """What a member put out, when where that is told, and what its keeper remarked since the line before."""
 
     text: str
     stamp: Optional[str] = None
-    remarks: tuple = ()
+    remarks: Tuple[Remark, ...] = ()
 
     def seconds(self) -> Optional[float]:
         """Its time, since the epoch."""
@@ -61,13 +68,14 @@ def read_texts(path: str) -> List[str]:
 
 def lines_of(path: str, texts: List[str]) -> List[Line]:
     """The lines of a file. In one with times what is no output is left out; in a plain one there is nothing else."""
-    lines, remarks = [], []
+    lines: List[Line] = []
+    remarks: List[Remark] = []
     for number, text in enumerate(texts, 1):
         stamped = STAMP.fullmatch(text)
         stamp, text = (stamped[1], stamped[2]) if stamped else (None, text)
         remark = REMARK.fullmatch(text)
         if remark is not None:
-            remarks.append((stamp, remark[2]))
+            remarks.append(Remark(stamp, remark[2]))
         elif OUTPUT.fullmatch(text):
             lines.append(Line(text, stamp, tuple(remarks)))
             remarks = []
@@ -78,7 +86,7 @@ def lines_of(path: str, texts: List[str]) -> List[Line]:
     return lines
 
 
-def part_order(path: str, lines: List[Line]):
+def part_order(path: str, lines: List[Line]) -> Tuple[float, int]:
     """By what the files of one member are put in order: their times; else the numbers behind their names, the greatest first."""
     match = PART.fullmatch(path)
     return (lines[0].seconds() or 0.0, -int(match[2]) if match else 1)
@@ -92,7 +100,7 @@ def is_part(path: str, other: str) -> bool:
 
 def read_members(paths: List[str]) -> Tuple[Dict[int, List[Line]], int]:
     """The lines of each member, by its number, its files one behind the other; and how many files have none, of members that said nothing."""
-    files: Dict[int, List[tuple]] = {}
+    files: Dict[int, List[Tuple[str, List[Line]]]] = {}
     silent = 0
     for path in map(str, paths):
         lines = lines_of(path, read_texts(path))
