@@ -1,12 +1,14 @@
 """Writes lines with times to a file that is put aside when it has grown, and leaves out what repeats, without ever holding up who reads."""
 
+import enum
+import io
 import os
 import queue
 import sys
 import threading
 import time
 from collections import OrderedDict
-from typing import BinaryIO, Callable, List, NamedTuple, Optional
+from typing import Callable, List, NamedTuple, Optional, Protocol, Union
 
 from nozhgiva_tools.told.lines import Line
 
@@ -67,20 +69,38 @@ class Thinner:
         return self.count <= self.most or line.kind in self.ALWAYS
 
 
+class Log(Protocol):
+    """Where a writer's lines go. `name`: what it is called where it can't be written."""
+
+    name: str
+
+    def open(self) -> None:
+        """Opens it anew, where it has a path."""
+
+    def write(self, text: bytes) -> None:
+        """Adds the text; OSError where it can't be written whole."""
+
+
 class Rotating:
     """A file that lines are added to. Once it has `most` bytes it is put aside as FILE.1, what was FILE.1 as FILE.2, and so on to FILE.`kept`.
     Where it can't be opened, that is tried again with the next lines, at most once in AGAIN seconds."""
 
     def __init__(self, path: str, most: int, kept: int) -> None:
         self.path, self.most, self.kept = path, most, kept
-        self.file: Optional[BinaryIO] = None
+        self.name = f"the log {path}"
+        self.file: Optional[io.FileIO] = None
         self.size, self.tried = 0, NEVER
 
     def open(self) -> None:
         """Opens it anew, by its path: what somebody moved away is left alone from then on."""
+        self.opened()
+
+    def opened(self) -> io.FileIO:
+        """The file, opened anew."""
         fresh = open(self.path, "ab", buffering=0, opener=private)
         self.close()
         self.file, self.size = fresh, fresh.tell()
+        return fresh
 
     def close(self) -> None:
         if self.file is not None:
@@ -89,20 +109,19 @@ class Rotating:
 
     def write(self, text: bytes) -> None:
         """Adds the text; OSError where it can't be written whole."""
-        if self.file is None:
-            self.try_again()
+        file = self.try_again() if self.file is None else self.file
         while text:
-            count = self.file.write(text)
+            count = file.write(text)
             self.size += count
             text = text[count:]
         if self.size >= self.most:
             self.put_aside()
 
-    def try_again(self) -> None:
+    def try_again(self) -> io.FileIO:
         if time.monotonic() - self.tried < AGAIN:
             raise OSError("the log isn't open")
         self.tried = time.monotonic()
-        self.open()
+        return self.opened()
 
     def put_aside(self) -> None:
         for number in range(self.kept, 1, -1):
@@ -111,25 +130,32 @@ class Rotating:
         if self.kept:
             os.replace(self.path, f"{self.path}.1")
         fresh = open(self.path, "wb", buffering=0, opener=private)
-        self.file.close()
+        self.close()
         self.file, self.size = fresh, 0
 
 
 class Waiting(NamedTuple):
-    """A line that waits to be written: when it came, in seconds since the epoch, and whether it is said too. None in its place: the file is opened anew."""
+    """A line that waits to be written: when it came, in seconds since the epoch, and whether it is said too."""
 
     seconds: float
-    text: Optional[bytes]
+    text: bytes
     said: bool
+
+
+class Order(enum.Enum):
+    """What is done behind the lines that wait: the file is opened anew, or nothing more is written."""
+
+    REOPEN = enum.auto()
+    END = enum.auto()
 
 
 class Writer:
     """Writes lines in a thread of its own: who gives them never waits, neither for a slow disk nor for a full one. What can't be written, or
     comes while MOST_WAITING lines wait, is dropped and counted. `spell` gives what is written of a line."""
 
-    def __init__(self, file: Optional[Rotating], say: Callable[[str], None] = lambda text: None, spell: Callable[[bytes], bytes] = bytes) -> None:
+    def __init__(self, file: Optional[Log], say: Callable[[str], None] = lambda text: None, spell: Callable[[bytes], bytes] = bytes) -> None:
         self.file, self.say, self.spell = file, say, spell
-        self.waiting: "queue.Queue[Optional[Waiting]]" = queue.Queue(MOST_WAITING)
+        self.waiting: "queue.Queue[Union[Waiting, Order]]" = queue.Queue(MOST_WAITING)
         self.dropped = 0
         self.complained: Optional[str] = None  # why the log couldn't be written last
         self.thread = threading.Thread(target=self.work, daemon=True)
@@ -145,7 +171,7 @@ class Writer:
     def reopen(self) -> None:
         """The file is opened anew, behind the lines that wait: it may have been moved away."""
         try:
-            self.waiting.put_nowait(Waiting(0.0, None, False))
+            self.waiting.put_nowait(Order.REOPEN)
         except queue.Full:
             pass  # A disk that hangs: nothing is opened there.
 
@@ -153,34 +179,35 @@ class Writer:
         more = True
         while more:
             batch = self.take()
-            more = None not in batch
-            self.write([item for item in batch if item is not None])
+            more = Order.END not in batch
+            self.write(batch)
 
-    def take(self) -> List[Optional[Waiting]]:
+    def take(self) -> List[Union[Waiting, Order]]:
         """What waits, at least one and at most a thousand."""
         batch = [self.waiting.get()]
         while len(batch) < 1000 and not self.waiting.empty():
             batch.append(self.waiting.get())
         return batch
 
-    def write(self, batch: List[Waiting]) -> None:
+    def write(self, batch: List[Union[Waiting, Order]]) -> None:
         """Writes the lines, in runs between which the file is opened anew."""
         run: List[Waiting] = []
         for item in batch:
-            if item.text is None:
+            if isinstance(item, Waiting):
+                run.append(item)
+            elif item is Order.REOPEN:
                 self.write_run(run)
                 self.open_anew()
                 run = []
-            else:
-                run.append(item)
         self.write_run(run)
 
     def open_anew(self) -> None:
+        if self.file is None:
+            return
         try:
-            if self.file is not None:
-                self.file.open()
+            self.file.open()
         except OSError as error:
-            self.complain(error)
+            self.complain(self.file, error)
 
     def write_run(self, run: List[Waiting]) -> None:
         self.say_all(run)
@@ -191,7 +218,7 @@ class Writer:
             self.complained = None
         except OSError as error:
             self.dropped += len(run)
-            self.complain(error)
+            self.complain(self.file, error)
 
     def say_all(self, run: List[Waiting]) -> None:
         for item in run:
@@ -204,16 +231,16 @@ class Writer:
         except (OSError, ValueError):
             pass  # Nobody reads it any more.
 
-    def complain(self, error: OSError) -> None:
+    def complain(self, file: Log, error: OSError) -> None:
         """Says once why the log can't be written."""
         if error.strerror is not None and error.strerror != self.complained:
             self.complained = error.strerror
-            self.try_say(f"the log {self.file.path} can't be written: {error.strerror}; its lines are dropped, and the member runs all the same")
+            self.try_say(f"{file.name} can't be written: {error.strerror}; its lines are dropped, and the member runs all the same")
 
     def end(self, most: float = 2.0) -> None:
         """Writes what waits, for at most so many seconds."""
         try:
-            self.waiting.put(None, timeout=most)
+            self.waiting.put(Order.END, timeout=most)
         except queue.Full:
             return
         self.thread.join(most)

@@ -8,6 +8,7 @@ a minute is written, heartbeats among them, and at most --most of all in a secon
 on standard error too. Without --log the lines go to standard output, and watch ends once nobody reads that."""
 
 import argparse
+import errno
 import os
 import selectors
 import sys
@@ -88,20 +89,34 @@ def follow(watch: Watch, stream: int) -> None:
 class Standard:
     """Standard output in the place of a log. Once nobody reads it there is nothing to do any more."""
 
+    name = "standard output"
+
+    def open(self) -> None:
+        """It has no path by which it could be opened anew."""
+
     def write(self, text: bytes) -> None:
+        if sys.stdout is None:  # It was closed before this began.
+            raise OSError(errno.EBADF, os.strerror(errno.EBADF))
         try:
-            sys.stdout.buffer.write(text)
-            sys.stdout.buffer.flush()
+            while text:
+                text = text[os.write(sys.stdout.fileno(), text):]
         except BrokenPipeError:
             os._exit(0)
+
+
+def log_of(words: argparse.Namespace) -> log.Log:
+    """Where the lines go; OSError where that can't be opened."""
+    if not words.log:
+        return Standard()
+    file = log.Rotating(words.log, words.log_size * 1_000_000, words.log_files)
+    file.open()
+    return file
 
 
 def main() -> int:
     words = parse_words()
     try:
-        file = log.Rotating(words.log, words.log_size * 1_000_000, words.log_files) if words.log else Standard()
-        if words.log:
-            file.open()
+        file = log_of(words)
     except OSError as error:
         print(f"watch: refused: {error}", file=sys.stderr)
         return 2
