@@ -67,6 +67,7 @@ class Tallying(unittest.TestCase):
             ("in version 2 there is room", report(32, many, [], 2), [applied(33, 40, 0, "register"), applied(34, 1, 1, "put a x")], 1, 33),
             ("a jump: nothing is known until the file is read", report(32, {7: (3, 30)}, ["a"]), [applied(97, 7, 4, "put b x")], None, None),
             ("a line that was cut", report(32, {7: (3, 30)}, ["a"]), ["commit 0 op 33 view 0"], None, None),
+            ("cut before its key", report(32, {7: (3, 30)}, ["a"]), [applied(33, 7, 4, "put"), applied(34, 7, 5, "del")], 1, 1),
         ]:
             with self.subTest(name):
                 tally = self.tally(start, *lines)
