@@ -17,6 +17,7 @@ import argparse
 import os
 import random
 import shutil
+import socket
 import sys
 
 from nozhgiva_tools.told.lines import spelling
@@ -96,7 +97,7 @@ def main() -> int:
     return code
 
 
-def keep(words: argparse.Namespace, lock: keeper.Lock, listener: doors.socket.socket) -> int:
+def keep(words: argparse.Namespace, lock: keeper.Lock, listener: socket.socket) -> int:
     """Keeps the member to its end, and gives the code that this comes to."""
     file = log.Rotating(words.log, words.log_size * 1_000_000, words.log_files) if words.log else None
     writer = log.Writer(file, log.to_standard_error, spelling(words.no_values))

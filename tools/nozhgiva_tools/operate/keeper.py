@@ -11,7 +11,7 @@ import socket
 import subprocess
 import time
 from collections import Counter
-from typing import Callable, Dict, List, NamedTuple, Optional
+from typing import Callable, Dict, IO, List, NamedTuple, Optional
 
 from nozhgiva_tools.told import datafile
 from nozhgiva_tools.told.lines import parse, Reply, Splitter
@@ -22,7 +22,7 @@ from .heard import Heard
 from .log import private, Thinner, Writer
 from .looking import Looker
 from .policy import Policy
-from .pulse import Pulse
+from .processes import Child
 from .renewal import Asking, GETS, Renewal
 from .tally import Tally
 from .vitals import Life
@@ -171,9 +171,8 @@ class Keeper:
         self.pause, self.pauses = pauses.start, pauses
         self.clock: Callable[[], float] = time.monotonic
         self.selector = selectors.DefaultSelector()
-        self.child: Optional[subprocess.Popen] = None
+        self.child: Optional[Child] = None
         self.splitter = Splitter()
-        self.since: Optional[float] = None
         self.start_at: Optional[float] = self.clock()
         self.kill_at: Optional[float] = None
         self.minute = self.clock() + MINUTE
@@ -198,7 +197,6 @@ class Keeper:
         self.look_began: Optional[float] = None  # of the look under way, or the last one
         self.looked: Optional[float] = None  # when the look began that `report` is of
         self.tally = Tally()
-        self.pulse: Optional[Pulse] = None
         self.beat_at = self.clock()
         self.renewal: Optional[Renewal] = None
         self.renewed = self.waiting = False  # whether this life of the member had its slots written anew; whether that waits for room
@@ -217,8 +215,8 @@ class Keeper:
         return health.line(self.policy, self.clock(), self.life())
 
     def life(self) -> Life:
-        silent = self.pulse.silent(self.clock()) if self.pulse is not None else 0.0
-        return Life(self.words.replica, self.since, self.restarts, self.ends, self.lines, self.writer.dropped, silent, self.report, self.tally, self.demand, self.looked, self.no_file, self.is_corrupt)
+        since, silent = (self.child.since, self.child.pulse.silent(self.clock())) if self.child is not None else (None, 0.0)
+        return Life(self.words.replica, since, self.restarts, self.ends, self.lines, self.writer.dropped, silent, self.report, self.tally, self.demand, self.looked, self.no_file, self.is_corrupt)
 
     def say_health(self) -> None:
         self.say(f"{self.health()} left_out={self.thinner.left_out}")
@@ -283,19 +281,20 @@ class Keeper:
 
     def next_time(self) -> float:
         """Seconds until the clock is to be looked at."""
-        times = [self.minute] + [at for door in self.doors for at in door.next_time()]
-        times += [at for at in (self.post_at, self.start_at, self.kill_at, self.look_at, self.beat_at, self.renewal and self.renewal.due) if at is not None]
+        times = [self.minute, self.beat_at] + [at for door in self.doors for at in door.next_time()]
+        renewal = self.renewal.due if self.renewal is not None else None
+        times += [at for at in (self.post_at, self.start_at, self.kill_at, self.look_at, renewal) if at is not None]
         return max(0.0, min(times) - self.clock())
 
     def look_at_clock(self) -> None:
         now = self.clock()
-        if self.child is not None and self.child.poll() is not None:
-            self.take_end()
+        if self.child is not None and self.child.process.poll() is not None:
+            self.take_end(self.child)
         if self.start_at is not None and now >= self.start_at:
             self.start()
         if self.kill_at is not None and now >= self.kill_at and self.child is not None:
             self.kill_at = None
-            self.child.kill()
+            self.child.process.kill()
         if self.renewal is not None:
             self.renewal.look_at_clock(now)
         for door in self.doors:
@@ -309,11 +308,11 @@ class Keeper:
             self.look()
         if now >= self.beat_at:
             self.beat_at = now + BEAT
-            if self.pulse is not None:
-                self.pulse.silent(now)
+            if self.child is not None:
+                self.child.pulse.silent(now)
             if self.note is not None and now >= self.note_at:
                 self.keep_note()
-        if self.post_at is not None and now >= self.post_at:
+        if self.poster is not None and self.post_at is not None and now >= self.post_at:
             self.post_at = now + POST
             self.poster.post(self.metrics())
         if now >= self.minute:
@@ -335,27 +334,28 @@ class Keeper:
             self.code = why.code
             return
         try:
-            self.child = subprocess.Popen(self.words.command(), stdin=subprocess.DEVNULL, stdout=subprocess.PIPE, stderr=subprocess.PIPE, pass_fds=[self.lock.file.fileno()])
+            process = subprocess.Popen(self.words.command(), stdin=subprocess.DEVNULL, stdout=subprocess.PIPE, stderr=subprocess.PIPE, pass_fds=[self.lock.file.fileno()])
         except OSError as error:
             self.say(f"the member couldn't be started: {error}")
             self.start_later()
             return
-        self.since = self.clock()
-        self.pulse, self.program = Pulse(self.child.pid, self.since), metrics.name_of(self.words.program)
-        self.look_at, self.renewed, self.waiting, self.opened, self.had_open = self.since + FIRST_LOOK, False, False, False, False
-        self.policy.begin(self.since)
+        child = self.child = Child(process, self.clock())
+        self.program = metrics.name_of(self.words.program)
+        self.look_at, self.renewed, self.waiting, self.opened, self.had_open = child.since + FIRST_LOOK, False, False, False, False
+        self.policy.begin(child.since)
         self.splitter = Splitter()
-        self.lock.tell(f"keeper {os.getpid()}, member {self.child.pid}")
-        self.widen()
-        self.selector.register(self.child.stdout, selectors.EVENT_READ, self.read_lines)
-        self.selector.register(self.child.stderr, selectors.EVENT_READ, self.read_errors)
-        for stream in (self.child.stdout, self.child.stderr):
+        self.lock.tell(f"keeper {os.getpid()}, member {process.pid}")
+        self.widen(child.output)
+        self.selector.register(child.output, selectors.EVENT_READ, lambda: self.read_lines(child))
+        self.selector.register(child.errors, selectors.EVENT_READ, lambda: self.read_errors(child))
+        for stream in (child.output, child.errors):
             os.set_blocking(stream.fileno(), False)
-        self.say(f"member {self.words.replica} started, process {self.child.pid}")
+        self.say(f"member {self.words.replica} started, process {process.pid}")
 
-    def widen(self) -> None:
+    @staticmethod
+    def widen(stream: IO[bytes]) -> None:
         try:
-            fcntl.fcntl(self.child.stdout, F_SETPIPE_SZ, PIPE)
+            fcntl.fcntl(stream, F_SETPIPE_SZ, PIPE)
         except OSError:
             pass  # The system's own size does too.
 
@@ -370,10 +370,10 @@ class Keeper:
             return
         self.wanted = why
         self.say(f"member {self.words.replica} is stopped and started: {why}")
-        self.end_member()
+        self.end_member(self.child)
 
-    def end_member(self) -> None:
-        self.child.terminate()
+    def end_member(self, child: Child) -> None:
+        child.process.terminate()
         self.kill_at = self.clock() + KILLED
 
     def leave(self) -> None:
@@ -383,16 +383,17 @@ class Keeper:
         if self.child is None:
             self.code = 0
         else:
-            self.end_member()
+            self.end_member(self.child)
 
-    def take_end(self) -> None:
+    def take_end(self, child: Child) -> None:
         """The member has ended: its last lines, and what comes now."""
-        self.take_rest()
-        self.read_errors()
-        code = self.child.returncode
-        lived = self.clock() - self.since
-        self.close_streams()
-        self.child = self.since = self.kill_at = self.pulse = self.look_at = None
+        self.take_rest(child)
+        self.read_errors(child)
+        code = child.process.returncode
+        lived = self.clock() - child.since
+        for stream in (child.output, child.errors):
+            self.forget(stream)
+        self.child = self.kill_at = self.look_at = None
         self.end_renewal()
         wanted, self.wanted = self.wanted, None
         if code == endings.DISK_FAULT:
@@ -423,18 +424,14 @@ class Keeper:
             return
         self.start_later(grows=code != endings.LINK_FAULT)
 
-    def close_streams(self) -> None:
-        for stream in (self.child.stdout, self.child.stderr):
-            self.forget(stream)
-
-    def forget(self, stream) -> None:
+    def forget(self, stream: IO[bytes]) -> None:
         if not stream.closed:
             self.selector.unregister(stream)
             stream.close()
 
     # What the member writes.
 
-    def read(self, stream) -> Optional[bytes]:
+    def read(self, stream: IO[bytes]) -> Optional[bytes]:
         """What there is, None where there is nothing now; where the stream has ended it is closed."""
         if stream.closed:
             return None
@@ -446,22 +443,22 @@ class Keeper:
             self.forget(stream)
         return piece
 
-    def read_lines(self) -> None:
+    def read_lines(self, child: Child) -> None:
         """Takes what the member has written so far, at most PIECES pieces of it. One that closes its output and doesn't end is ended."""
         for _ in range(PIECES):
-            piece = self.read(self.child.stdout)
+            piece = self.read(child.output)
             if not piece:
                 break
             for text in self.splitter.take(piece):
                 self.hear(text)
-        if piece == b"" and self.kill_at is None and self.child.poll() is None:
+        if piece == b"" and self.kill_at is None and child.process.poll() is None:
             self.kill_at = self.clock() + KILLED
 
-    def take_rest(self) -> None:
+    def take_rest(self, child: Child) -> None:
         """Takes all that an ended member has left, a line that it didn't end among it."""
-        while not self.child.stdout.closed:
+        while not child.output.closed:
             before = self.lines
-            self.read_lines()
+            self.read_lines(child)
             if self.lines == before:
                 break
         rest = self.splitter.end()
@@ -497,8 +494,8 @@ class Keeper:
             self.say(f"member {self.words.replica} is corrupt: {why}: what a client was told was forgotten, as where a file was put back from a copy, or a disk lied")
         self.is_corrupt = True
 
-    def read_errors(self) -> None:
-        piece = self.read(self.child.stderr)
+    def read_errors(self, child: Child) -> None:
+        piece = self.read(child.errors)
         for text in (piece or b"").split(b"\n"):
             if text:
                 self.say(f"member {self.words.replica} says: {text.decode('ascii', 'replace')}")
@@ -509,7 +506,7 @@ class Keeper:
         """Has the file looked at, unless that is under way: what it finds then is taken for as old as its beginning."""
         if self.look_began == self.looked:
             self.look_began = self.clock()
-            self.looker.ask(self.child.pid if self.child is not None else 0)
+            self.looker.ask(self.child.process.pid if self.child is not None else 0)
 
     def look_again(self) -> None:
         """Somebody asks what the file holds: it is looked at again where the last look is old."""
@@ -528,10 +525,10 @@ class Keeper:
         self.tally.begin(self.report)
         if self.child is None or self.look_at is not None:
             return
-        unsure = health.unsure(self.report)
+        unsure, value = health.unsure(self.report), self.report.value if self.report is not None else None
         self.look_at = self.clock() + (SOON if unsure or not health.has_state(self.policy, self.life()) else MINUTE)
-        if unsure and not self.renewed and self.opened and self.renewal is None and self.pauses.renew > 0:
-            self.renew(unsure)
+        if unsure and value is not None and not self.renewed and self.opened and self.renewal is None and self.pauses.renew > 0:
+            self.renew(unsure, value.version)
 
     def keep_note(self) -> None:
         last = self.heard.last
@@ -547,7 +544,7 @@ class Keeper:
         elif before and not self.no_file:
             self.say(f"the file {self.words.file} can be read again")
 
-    def renew(self, unsure: int) -> None:
+    def renew(self, unsure: int, version: int) -> None:
         """Has the group write all slots anew, unless another session would end one that may be at work."""
         held, most = self.tally.sessions, self.tally.most
         if held is None or held >= most - 1:
@@ -558,16 +555,16 @@ class Keeper:
         self.renewed = True
         self.say(f"the file can't tell of {unsure} of its slots: the group is asked {GETS} gets, {self.pauses.renew:g} s apart, which have all slots written anew")
         asking = Asking(self.words.program, self.words.cluster, self.words.addresses)
-        self.renewal = Renewal(asking, self.report.value.version, self.pauses.renew, self.clock(), self.hear_client, self.forget_client)
+        self.renewal = Renewal(asking, version, self.pauses.renew, self.clock(), self.hear_client, self.forget_client)
 
-    def hear_client(self, client: subprocess.Popen) -> None:
-        self.selector.register(client.stdout, selectors.EVENT_READ, self.read_client)
+    def hear_client(self, output: IO[bytes]) -> None:
+        self.selector.register(output, selectors.EVENT_READ, self.read_client)
 
-    def forget_client(self, client: subprocess.Popen) -> None:
-        self.selector.unregister(client.stdout)
+    def forget_client(self, output: IO[bytes]) -> None:
+        self.selector.unregister(output)
 
     def read_client(self) -> None:
-        if self.renewal is None or self.renewal.child is None:
+        if self.renewal is None:
             return
         self.renewal.read(self.clock())
         if self.renewal.is_done:

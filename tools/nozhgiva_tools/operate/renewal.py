@@ -5,7 +5,9 @@ Each operation of the group is written to the next slot of each member, so after
 import os
 import random
 import subprocess
-from typing import Callable, List, NamedTuple, Optional
+from typing import Callable, IO, List, NamedTuple, Optional
+
+from .processes import pipe
 
 GETS = 64
 TURNS = "1000"  # of each line: at most ten seconds where nobody answers
@@ -25,12 +27,36 @@ class Asking(NamedTuple):
         return [self.program, "client", str(self.cluster), number, TURNS] + self.addresses + (["--v2"] if version == 2 else [])
 
 
-class Renewal:
-    """One such run, of gets that are `gap` seconds apart. Who holds it reads from `child` what it says, and lets it look at the clock."""
+class Client:
+    """A client's process: the pipe that it reads, and the one that it writes to."""
 
-    def __init__(self, asking: Asking, version: int, gap: float, now: float, begun: Callable[[subprocess.Popen], None], ended: Callable[[subprocess.Popen], None]) -> None:
+    def __init__(self, command: List[str]) -> None:
+        self.process = subprocess.Popen(command, stdin=subprocess.PIPE, stdout=subprocess.PIPE, stderr=subprocess.DEVNULL)
+        self.input, self.output = pipe(self.process.stdin), pipe(self.process.stdout)
+        os.set_blocking(self.output.fileno(), False)
+
+    def get(self) -> None:
+        """Asks it a get; OSError where it has ended."""
+        self.input.write(f"get {KEY}\n".encode())
+        self.input.flush()
+
+    def end(self) -> None:
+        self.process.kill()
+        self.output.close()
+        try:
+            self.input.close()
+        except OSError:
+            pass
+        self.process.wait()
+
+
+class Renewal:
+    """One such run, of gets that are `gap` seconds apart. Who holds it hears, by `begun` and `ended`, of each client's output, has it read there, and lets it
+    look at the clock."""
+
+    def __init__(self, asking: Asking, version: int, gap: float, now: float, begun: Callable[[IO[bytes]], None], ended: Callable[[IO[bytes]], None]) -> None:
         self.asking, self.version, self.gap, self.begun, self.ended = asking, version, gap, begun, ended
-        self.child: Optional[subprocess.Popen] = None
+        self.client: Optional[Client] = None
         self.answers, self.rest, self.pause = 0, b"", FIRST_PAUSE
         self.due: Optional[float] = now  # when the next client is begun, or the next get asked
 
@@ -42,31 +68,31 @@ class Renewal:
         if self.due is None or now < self.due:
             return
         self.due = None
-        if self.child is None:
+        if self.client is None:
             self.begin(now)
         else:
-            self.get(now)
+            self.get(now, self.client)
 
     def begin(self, now: float) -> None:
         try:
-            self.child = subprocess.Popen(self.asking.command(self.version), stdin=subprocess.PIPE, stdout=subprocess.PIPE, stderr=subprocess.DEVNULL)
+            self.client = Client(self.asking.command(self.version))
         except OSError:
             self.try_later(now)
             return
-        os.set_blocking(self.child.stdout.fileno(), False)
-        self.begun(self.child)
+        self.begun(self.client.output)
 
-    def get(self, now: float) -> None:
+    def get(self, now: float, client: Client) -> None:
         try:
-            self.child.stdin.write(f"get {KEY}\n".encode())
-            self.child.stdin.flush()
+            client.get()
         except OSError:
             self.drop(now)
 
     def read(self, now: float) -> None:
         """What the client says: `session`, and then an answer to each get."""
+        if self.client is None:
+            return
         try:
-            piece = os.read(self.child.stdout.fileno(), 4096)
+            piece = os.read(self.client.output.fileno(), 4096)
         except BlockingIOError:
             return
         *lines, self.rest = (self.rest + piece).split(b"\n")
@@ -92,14 +118,8 @@ class Renewal:
 
     def end(self) -> None:
         self.due = None
-        if self.child is None:
+        if self.client is None:
             return
-        self.ended(self.child)
-        self.child.kill()
-        self.child.stdout.close()
-        try:
-            self.child.stdin.close()
-        except OSError:
-            pass
-        self.child.wait()
-        self.child, self.rest = None, b""
+        self.ended(self.client.output)
+        self.client.end()
+        self.client, self.rest = None, b""

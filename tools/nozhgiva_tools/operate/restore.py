@@ -18,6 +18,7 @@ from nozhgiva_tools import places
 from nozhgiva_tools.told import datafile
 
 from . import backups, standard
+from .processes import pipe
 
 REFUSED, WORDS = 1, 2
 MOST_NAMED = 3  # keys that are named where many are wrong
@@ -72,11 +73,12 @@ class Asker:
         command = [*places.words_of_module("nozhgiva_tools.operate.ask"), "--again", "--for", str(words.most), "--program", words.program, str(words.cluster)] + words.addresses
         command += ["--v2"] * words.v2
         self.child = subprocess.Popen(command, stdin=subprocess.PIPE, stdout=subprocess.PIPE, text=True, bufsize=1)
+        self.input, self.output = pipe(self.child.stdin), pipe(self.child.stdout)
 
     def ask(self, line: str) -> str:
         try:
-            self.child.stdin.write(line + "\n")
-            answer = self.child.stdout.readline().strip()
+            self.input.write(line + "\n")
+            answer = self.output.readline().strip()
         except BrokenPipeError:
             answer = ""
         if answer in ("", "unknown", "not asked"):
@@ -93,11 +95,11 @@ class Asker:
 
     def close(self) -> None:
         try:
-            self.child.stdin.close()
+            self.input.close()
         except BrokenPipeError:
             pass
         self.child.wait()
-        self.child.stdout.close()
+        self.output.close()
 
     def value(self, key: str) -> Optional[str]:
         answer = self.ask(f"get {key}")
