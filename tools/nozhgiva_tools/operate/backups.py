@@ -92,7 +92,8 @@ def read_once(data: bytes) -> Tuple[Backup, Above]:
 
 def read_above(entries: Entries, table: Table) -> Above:
     """What stands above the commit number, as far as each entry names the one before it as its parent."""
-    op, changes = entries.value.commit, []
+    op = entries.value.commit
+    changes: List[Tuple[int, Change]] = []
     before = entries.value.headers.get(op)
     while True:
         entry = entries.read(op + 1)
@@ -164,7 +165,8 @@ KEY, VALUE = r"([!-~]{1,64})", r"([!-~]{1,3000})"
 
 def read_change(line: str) -> Tuple[int, Change]:
     op, put, key, value, gone = taken(rf"uncommitted (\d+) (?:(put) {KEY} {VALUE}|del {KEY})", line)
-    return int(op), ("put", key, value) if put else ("del", gone)
+    change: Change = ("put", key, value) if put else ("del", gone)
+    return int(op), change
 
 
 def read(text: bytes) -> Backup:
@@ -179,7 +181,7 @@ def read(text: bytes) -> Backup:
     count, above = map(int, taken(r"keys (\d+) uncommitted (\d+)", lines[4]))
     if len(lines) != 5 + count + above or count > datafile.KEYS:
         raise Damaged("it has other lines than its fifth one says")
-    keys = dict(taken(f"key {KEY} {VALUE}", line) for line in lines[5:5 + count])
+    keys = {key: value for key, value in (taken(f"key {KEY} {VALUE}", line) for line in lines[5:5 + count])}
     return Backup(group, member, members, version, made, op, keys, [read_change(line) for line in lines[5 + count:]])
 
 

@@ -2,7 +2,7 @@
 
 Nothing here reads a clock or a socket, so that it is a function of what was told."""
 
-from typing import Dict, Iterable, List, NamedTuple, Optional, Tuple
+from typing import Dict, Iterable, List, NamedTuple, Optional, Tuple, TypedDict
 
 from nozhgiva_tools.told import whole
 
@@ -73,6 +73,13 @@ class Known(NamedTuple):
         return "leads" if self.reply.kind in LEADS else "answers"
 
 
+class Leader(NamedTuple):
+    """A member that leads, and the view that it leads."""
+
+    member: int
+    view: int
+
+
 class Verdict(NamedTuple):
     """What is to be said of a group. `why`: a sentence for each thing that isn't well or isn't known. `may_change`: whether its view may just be changing."""
 
@@ -84,10 +91,16 @@ class Verdict(NamedTuple):
     may_change: bool = False
 
 
-def leader_of(members: List[Known]) -> Optional[int]:
+def leader_of(members: List[Known]) -> Optional[Leader]:
     """The member that leads the newest view that anybody leads."""
-    leading = [member for member, known in enumerate(members) if known.leads() and known.view() is not None]
-    return max(leading, key=lambda member: members[member].view(), default=None)
+    views = [(member, known.view()) for member, known in enumerate(members) if known.leads()]
+    newest = max((Leader(member, view) for member, view in views if view is not None), key=lambda leader: leader.view, default=None)
+    return newest
+
+
+def newest_view(members: List[Known]) -> Optional[int]:
+    """The newest view that any member is known to be in."""
+    return max((view for view in map(Known.view, members) if view is not None), default=None)
 
 
 def commit_of(members: List[Known]) -> Optional[int]:
@@ -95,27 +108,26 @@ def commit_of(members: List[Known]) -> Optional[int]:
     return max((max(number(known.line, "commit"), number(known.line, "applied")) for known in members if known.line is not None), default=None)
 
 
-def absence(members: List[Known], leader: Optional[int]) -> Optional[str]:
+def absence(members: List[Known], leader: Optional[Leader]) -> Optional[str]:
     """Why nobody can answer, as also in the midst of a view change; None where somebody may."""
     size = len(members)
     least = REPLICATION[size]
     dark = sum(known.is_dark() for known in members)
     if leader is None:
         return None if dark >= least else "no member leads"
-    view = members[leader].view()
-    taking_part = [known.is_in(view) for known in members]
+    taking_part = [known.is_in(leader.view) for known in members]
     if sum(part is not False for part in taking_part) < least:
-        return f"member {leader} leads view {view}, and too few take part in it: {sum(part is True for part in taking_part)} of {size}, where it takes {least}"
+        return f"member {leader.member} leads view {leader.view}, and too few take part in it: {sum(part is True for part in taking_part)} of {size}, where it takes {least}"
     return None
 
 
-def standstill(members: List[Known], leader: Optional[int]) -> Optional[str]:
+def standstill(members: List[Known], leader: Optional[Leader]) -> Optional[str]:
     """Why the group doesn't answer although it could; None where it does."""
     if leader is None:
         return None
-    view, stands = members[leader].view(), seconds(members[leader].line or {}, "stands")
+    stands = seconds(members[leader.member].line or {}, "stands")
     if stands > STANDS:
-        return f"member {leader} leads view {view} and has committed nothing for {stands:.1f} s though something is open"
+        return f"member {leader.member} leads view {leader.view} and has committed nothing for {stands:.1f} s though something is open"
     waits = in_vain(members)
     return f"clients have been asking in vain for {waits:.1f} s" if waits > STANDS else None
 
@@ -155,12 +167,16 @@ def unbegun(members: List[Known], is_led: bool) -> Optional[str]:
             "(a slow network, slow disks, too little processor time), or doesn't arrive, or one can take no log of another one")
 
 
-def present(members: List[Known], leader: Optional[int]) -> Dict[int, Optional[whole.Facts]]:
+def present(members: List[Known], leader: Optional[Leader]) -> Dict[int, Optional[whole.Facts]]:
     """The members that run and take part in the newest view, with what is known of their files."""
     if leader is None:
         return {}
-    view = members[leader].view()
-    return {member: known.facts() for member, known in enumerate(members) if known.is_in(view) and known.goes_on()}
+    return {member: known.facts() for member, known in enumerate(members) if known.is_in(leader.view) and known.goes_on()}
+
+
+def those_known(found: Dict[int, Optional[whole.Facts]]) -> Dict[int, whole.Facts]:
+    """The members of whose files something is known."""
+    return {member: facts for member, facts in found.items() if facts is not None}
 
 
 def is_late(members: List[Known]) -> bool:
@@ -185,7 +201,7 @@ def stops(members: List[Known], verdict: "Verdict", has_keepers: bool) -> List[S
         answer = Stop(False, [whole.Reason("silent" if verdict.code == SILENT else "too_little",
                                            "the group doesn't answer now" if verdict.code == SILENT else "it isn't known whether the group answers")])
         return [answer if known.state() != "down" else Stop(None, [whole.Reason("down", "it doesn't run")]) for known in members]
-    taking_part, found = present(members, verdict.leader), []
+    taking_part, found = present(members, leader_of(members)), []
     for member, known in enumerate(members):
         if known.state() == "down":
             found.append(Stop(None, [whole.Reason("down", "it doesn't run")]))
@@ -195,9 +211,9 @@ def stops(members: List[Known], verdict: "Verdict", has_keepers: bool) -> List[S
     return found
 
 
-def quorums(members: List[Known], leader: Optional[int]) -> List[Tuple[int, ...]]:
+def quorums(members: List[Known]) -> List[Tuple[int, ...]]:
     """The smallest quorums that are known to be whole, of the members that take part."""
-    return whole.whole_quorums({member: facts for member, facts in present(members, leader).items() if facts is not None}, len(members))
+    return whole.whole_quorums(those_known(present(members, leader_of(members))), len(members))
 
 
 def with_state(members: List[Known]) -> List[int]:
@@ -217,20 +233,20 @@ def scarcity(members: List[Known]) -> Optional[str]:
 
 def unwhole(members: List[Known], taking_part: Iterable[int]) -> Optional[str]:
     """Why no quorum is whole although enough members take part and are known; None where one is."""
-    known = {member: members[member].facts() for member in taking_part if members[member].facts() is not None}
+    known = those_known({member: members[member].facts() for member in taking_part})
     if len(known) < whole.VIEW_CHANGE[len(members)] or whole.whole_quorums(known, len(members)):
         return None
     return f"no quorum is whole: {'; '.join(reason.text for reason in whole.lacks(known))}"
 
 
-def is_known(members: List[Known], leader: Optional[int]) -> bool:
+def is_known(members: List[Known], leader: Optional[Leader]) -> bool:
     """Whether enough is known to say that the group answers."""
     if leader is None:
         return False
-    return sum(known.is_in(members[leader].view()) is True for known in members) >= REPLICATION[len(members)]
+    return sum(known.is_in(leader.view) is True for known in members) >= REPLICATION[len(members)]
 
 
-def complaints(members: List[Known], leader: Optional[int], has_keepers: bool) -> List[str]:
+def complaints(members: List[Known], leader: Optional[Leader], has_keepers: bool) -> List[str]:
     """What isn't well at single members, a sentence each."""
     found = []
     for member, known in enumerate(members):
@@ -244,10 +260,10 @@ def complaints(members: List[Known], leader: Optional[int], has_keepers: bool) -
             found.append(f"member {member} doesn't answer the probe")
         if known.place is not None and known.place != member:
             found.append(f"the address at place {member} is member {known.place}'s: the addresses are in another order")
-        if leader is not None and member != leader and known.leads():
+        if leader is not None and member != leader.member and known.leads():
             found.append(f"member {member} takes itself for the one that leads, in view {known.view()}")
-        elif leader is not None and known.reply is not None and known.is_in(members[leader].view()) is False and known.goes_on():
-            found.append(f"member {member} is in view {known.reply.view}, and member {leader} leads view {members[leader].view()}")
+        elif leader is not None and known.reply is not None and known.is_in(leader.view) is False and known.goes_on():
+            found.append(f"member {member} is in view {known.reply.view}, and member {leader.member} leads view {leader.view}")
         if known.line is not None and number(known.line, "damaged"):
             found.append(f"member {member}: {known.line['damaged']} damaged places in its file")
     return found
@@ -277,16 +293,16 @@ def judge_answers(members: List[Known], has_keepers: bool) -> Verdict:
     why = complaints(members, leader, has_keepers)
     absent = absence(members, leader)
     silent = absent or standstill(members, leader)
-    view = members[leader].view() if leader is not None else max((known.view() for known in members if known.view() is not None), default=None)
+    which, view = (leader.member, leader.view) if leader is not None else (None, newest_view(members))
     if silent is not None:
         begins = unbegun(members, is_led=absent is None)
         running = [member for member, known in enumerate(members) if known.state() not in ("down", "hangs")]
         told = [why for why in (f"the group doesn't answer: {silent}", begins, unwhole(members, running), scarcity(members)) if why is not None]
-        return Verdict(SILENT, leader, view, commit_of(members), told + why, may_change=absent is not None)
+        return Verdict(SILENT, which, view, commit_of(members), told + why, may_change=absent is not None)
     if not is_known(members, leader):
-        return Verdict(UNKNOWN, leader, view, commit_of(members), ["too little is known to tell whether the group answers"] + why)
+        return Verdict(UNKNOWN, which, view, commit_of(members), ["too little is known to tell whether the group answers"] + why)
     why = [reason for reason in (unwhole(members, present(members, leader)), scarcity(members)) if reason is not None] + why
-    return Verdict(AILS if why else WELL, leader, view, commit_of(members), why)
+    return Verdict(AILS if why else WELL, which, view, commit_of(members), why)
 
 
 def behind(known: Known, commit: Optional[int]) -> Optional[int]:
@@ -299,30 +315,97 @@ def behind(known: Known, commit: Optional[int]) -> Optional[int]:
 LIMITS: Dict[str, Dict[str, int]] = {"1": {"sessions": 32, "keys": 128}, "2": {"sessions": 64, "keys": 128}}
 
 
-def as_json(cluster: int, members: List[Known], verdict: Verdict, has_keepers: bool = True) -> Dict[str, object]:
+class ReasonTold(TypedDict):
+    name: str
+    text: str
+
+
+class FactsTold(TypedDict):
+    """What a member's file holds of what a whole quorum needs (whole.Facts)."""
+
+    checkpoint: int
+    anchored: bool
+    missing: int
+    lost: Tuple[int, ...]
+    unknown: Tuple[int, ...]
+    last: int
+
+
+class MemberTold(TypedDict):
+    """What a script or a page is told of a member; None where it isn't known."""
+
+    member: int
+    state: str
+    leads: bool
+    well: Optional[str]
+    view: Optional[int]
+    commit: Optional[int]
+    applied: Optional[int]
+    behind: Optional[int]
+    up: Optional[float]
+    stands: Optional[float]
+    restarts: Optional[int]
+    ends: Optional[int]
+    version: Optional[int]
+    mode: Optional[str]
+    keys: Optional[int]
+    most_keys: Optional[int]
+    sessions: Optional[int]
+    most_sessions: Optional[int]
+    damaged: Optional[int]
+    unsure: Optional[int]
+    asks: Optional[str]
+    mends: Optional[str]
+    answers: Optional[str]
+    has_state: Optional[bool]
+    root: Optional[str]
+    fault: Optional[str]
+    may_be_stopped: Optional[bool]
+    why_not: List[ReasonTold]
+    whole: Optional[FactsTold]
+
+
+class GroupTold(TypedDict):
+    """What a script or a page is told of a group; quorums and who has the state by the keepers alone."""
+
+    group: int
+    code: int
+    verdict: str
+    leader: Optional[int]
+    view: Optional[int]
+    commit: Optional[int]
+    why: List[str]
+    whole_quorums: Optional[List[List[int]]]
+    view_change_quorum: int
+    with_state: Optional[List[int]]
+    members: List[MemberTold]
+
+
+def as_json(cluster: int, members: List[Known], verdict: Verdict, has_keepers: bool = True) -> GroupTold:
     """All of it, for a script or a page."""
     found = stops(members, verdict, has_keepers)
     return {
         "group": cluster, "code": verdict.code, "verdict": NAMES[verdict.code], "leader": verdict.leader, "view": verdict.view, "commit": verdict.commit, "why": verdict.why,
-        "whole_quorums": [list(quorum) for quorum in quorums(members, verdict.leader)] if has_keepers else None, "view_change_quorum": whole.VIEW_CHANGE[len(members)],
+        "whole_quorums": [list(quorum) for quorum in quorums(members)] if has_keepers else None, "view_change_quorum": whole.VIEW_CHANGE[len(members)],
         "with_state": with_state(members) if has_keepers else None,
-        "members": [dict(member_json(member, known, verdict), **stop_json(known, found[member])) for member, known in enumerate(members)],
+        "members": [member_json(member, known, verdict, found[member]) for member, known in enumerate(members)],
     }
 
 
-def stop_json(known: Known, stop: Stop) -> Dict[str, object]:
-    facts = known.facts()
-    return {"may_be_stopped": stop.may, "why_not": [reason._asdict() for reason in stop.why], "whole": facts._asdict() if facts is not None else None}
+def facts_json(facts: Optional[whole.Facts]) -> Optional[FactsTold]:
+    if facts is None:
+        return None
+    return {"checkpoint": facts.checkpoint, "anchored": facts.anchored, "missing": facts.missing, "lost": facts.lost, "unknown": facts.unknown, "last": facts.last}
 
 
-def member_json(member: int, known: Known, verdict: Verdict) -> Dict[str, object]:
+def member_json(member: int, known: Known, verdict: Verdict, stop: Stop) -> MemberTold:
     line = known.line or {}
 
     def count(name: str) -> Optional[int]:
         return int(line[name]) if line.get(name, "-").isdigit() else None
 
     limits, state = LIMITS.get(line.get("version", ""), {}), known.state()
-    if state == "changes" and verdict.leader is not None and known.is_in(verdict.view):
+    if state == "changes" and verdict.leader is not None and verdict.view is not None and known.is_in(verdict.view):
         state = "follows"  # The change is over: its reply is newer than its keeper's line.
     return {
         "member": member, "state": state, "leads": member == verdict.leader, "well": line.get("well"), "view": known.view(), "commit": count("commit"), "applied": count("applied"),
@@ -332,6 +415,7 @@ def member_json(member: int, known: Known, verdict: Verdict) -> Dict[str, object
         "damaged": count("damaged"), "unsure": count("unsure"), "asks": dash(line, "asks"), "mends": dash(line, "mends"), "answers": known.reply.kind if known.reply else None,
         "has_state": known.has_state(), "root": dash(line, "root"),
         "fault": known.fault or None,
+        "may_be_stopped": stop.may, "why_not": [{"name": reason.name, "text": reason.text} for reason in stop.why], "whole": facts_json(known.facts()),
     }
 
 

@@ -6,9 +6,10 @@ import selectors
 import threading
 import time
 from collections import deque
-from typing import Deque, Dict, List, Optional
+from typing import Deque, Dict, List, Optional, TypedDict, Union
 
 from . import doors, judging
+from .judging import GroupTold
 from .surveying import Survey
 
 EACH = 0.5  # seconds from sample to sample
@@ -17,9 +18,20 @@ PAGE = os.path.join(os.path.dirname(os.path.realpath(__file__)), "page.html")
 POLICY = "default-src 'none'; style-src 'unsafe-inline'; script-src 'unsafe-inline'; connect-src 'self'; img-src data:"
 
 
-def short(told: Dict, seconds: float) -> Dict:
-    """A sample as it is remembered: what the charts of the page show."""
-    members = [[member["state"], member["behind"], member["view"], member["restarts"], member["ends"], member["well"]] for member in told["members"]]
+class Sample(TypedDict):
+    """What is remembered of a moment: what the charts of the page show. Of each member its state, how far it is behind, its view, restarts and ends, and whether
+    it is well."""
+
+    t: float
+    code: int
+    leader: Optional[int]
+    view: Optional[int]
+    commit: Optional[int]
+    members: List[List[Union[str, int, None]]]
+
+
+def short(told: GroupTold, seconds: float) -> Sample:
+    members: List[List[Union[str, int, None]]] = [[member["state"], member["behind"], member["view"], member["restarts"], member["ends"], member["well"]] for member in told["members"]]
     return {"t": round(seconds, 2), "code": told["code"], "leader": told["leader"], "view": told["view"], "commit": told["commit"], "members": members}
 
 
@@ -28,8 +40,8 @@ class Sampler:
 
     def __init__(self, survey: Survey, has_keepers: bool) -> None:
         self.survey, self.has_keepers = survey, has_keepers
-        self.kept: Deque[Dict] = deque(maxlen=KEPT)
-        self.latest: Optional[Dict] = None
+        self.kept: Deque[Sample] = deque(maxlen=KEPT)
+        self.latest: Optional[Dict[str, object]] = None  # the group as it is told, and when that was
         self.settling = judging.Settling()
         threading.Thread(target=self.work, daemon=True).start()
 
@@ -49,7 +61,7 @@ class Sampler:
 
     def since(self, seconds: float) -> bytes:
         """What is known now, and the samples after a moment."""
-        samples: List[Dict] = [sample for sample in list(self.kept) if sample["t"] > seconds]
+        samples = [sample for sample in list(self.kept) if sample["t"] > seconds]
         return json.dumps({"now": round(time.time(), 2), "latest": self.latest, "samples": samples}, separators=(",", ":")).encode()
 
 

@@ -73,6 +73,7 @@ class Probe:
         self.places: Dict[int, int] = {}
         self.refused: Set[int] = set()
         self.selector = selectors.DefaultSelector()
+        self.sockets: List[socket.socket] = []  # all that were opened
         self.datagrams: Dict[int, socket.socket] = {}
 
     def ask(self, seconds: float) -> Dict[int, Reply]:
@@ -88,8 +89,8 @@ class Probe:
                 if not ready:
                     self.send_again()
         finally:
-            for key in list(self.selector.get_map().values()):
-                key.fileobj.close()
+            for one in self.sockets:
+                one.close()
             self.selector.close()
         return self.replies
 
@@ -101,6 +102,7 @@ class Probe:
         except OSError:
             return
         one = socket.socket(family, kind)
+        self.sockets.append(one)
         one.setblocking(False)
         one.connect_ex(where)
         if is_stream:

@@ -17,8 +17,15 @@ class Stopped(Exception):
     """The roll doesn't go on; its text says why."""
 
 
+class Clients(NamedTuple):
+    """How the clients are held back, and let go again."""
+
+    hold: Callable[[], None]
+    release: Callable[[], None]
+
+
 class Hands(NamedTuple):
-    """What a roll does to the outside. `health` gives None where nobody answers; `hold` and `release` are of the clients, and may be None."""
+    """What a roll does to the outside. `health` gives None where nobody answers; `hold` and `release` are of the clients, and may both be None."""
 
     health: Callable[[int], Optional[Health]]
     restart: Callable[[int], None]
@@ -27,6 +34,10 @@ class Hands(NamedTuple):
     sleep: Callable[[float], None]
     clock: Callable[[], float]
     say: Callable[[str], None]
+
+    def clients(self) -> Optional[Clients]:
+        """How the clients are held; None where they aren't."""
+        return Clients(self.hold, self.release) if self.hold is not None and self.release is not None else None
 
 
 class Bounds(NamedTuple):
@@ -79,7 +90,8 @@ def settle(hands: Hands, members: List[int], member: int, bounds: Bounds, age: f
 
     What a member has applied is compared with what the others had committed a look ago: a backup hears of a commit by the next prepare, so under
     load it never has what is committed at this instant."""
-    began, seen, held = hands.clock(), 0, False
+    began, seen, clients = hands.clock(), 0, hands.clients()
+    held: Optional[Clients] = None  # once they are
     goal = committed(hands, members, member)
     try:
         while seen < LOOKS:
@@ -89,14 +101,14 @@ def settle(hands: Hands, members: List[int], member: int, bounds: Bounds, age: f
             goal = committed(hands, members, member)
             seen = seen + 1 if why is None else 0
             if why is not None and spent > bounds.whole:
-                raise Stopped(advice(member, why, bounds, hands.hold is not None))
-            if why is not None and spent > bounds.hold and hands.hold is not None and not held:
-                held = True
+                raise Stopped(advice(member, why, bounds, clients is not None))
+            if why is not None and spent > bounds.hold and clients is not None and held is None:
+                held = clients
                 hands.say(f"member {member} doesn't catch up ({why}): the clients are held")
-                hands.hold()
+                held.hold()
     finally:
-        if held:
-            hands.release()
+        if held is not None:
+            held.release()
             hands.say("the clients are let go")
     return hands.clock() - began
 
@@ -148,11 +160,12 @@ def unwhole(lines: Dict[int, Health], member: int) -> Optional[str]:
 
 def check(hands: Hands, members: List[int], chosen: List[int]) -> None:
     """A roll begins, and goes on, only with a group that is well, and in which what stays goes on without the one that is restarted."""
-    lines = {member: hands.health(member) for member in members}
-    for member, line in lines.items():
-        why = trouble(line, stays=any(other != member for other in chosen))
+    told = {member: hands.health(member) for member in members}
+    for member, health in told.items():
+        why = trouble(health, stays=any(other != member for other in chosen))
         if why is not None:
             raise Stopped(f"member {member} {why}")
+    lines = {member: health for member, health in told.items() if health is not None}
     if not any(line["state"] == "leads" for line in lines.values()):
         raise Stopped("no member leads")
     for member in chosen:

@@ -3,7 +3,7 @@
 import argparse
 import os
 import sys
-from typing import Callable, NoReturn
+from typing import Callable, NoReturn, Union
 
 INTERRUPTED = 130
 UNREAD = 141  # as a shell says of a program whose reader has gone
@@ -38,6 +38,7 @@ def counted(text: str) -> int:
 
 def end(main: Callable[[], int]) -> NoReturn:
     """Runs a script to its end."""
+    code: Union[str, int, None]
     try:
         try:
             code = main()

@@ -71,8 +71,8 @@ def check_places(parser: argparse.ArgumentParser, words: argparse.Namespace) -> 
 
 
 def survey_of(words: argparse.Namespace, wait: float) -> surveying.Survey:
-    asked = [surveying.source(member, words.keepers, words.sockets, words.health, wait) for member in range(len(words.addresses))]
-    return surveying.Survey(words.cluster, words.addresses, asked if has_keepers(words) else None, wait)
+    found = [surveying.source(member, words.keepers, words.sockets, words.health, wait) for member in range(len(words.addresses))]
+    return surveying.Survey(words.cluster, words.addresses, [source for source in found if source is not None] if has_keepers(words) else None, wait)
 
 
 def has_keepers(words: argparse.Namespace) -> bool:

@@ -1,5 +1,6 @@
 """Asks all members of a group, and then all their keepers."""
 
+import functools
 import subprocess
 import threading
 from typing import Callable, Dict, List, Optional, Tuple
@@ -15,10 +16,10 @@ Source = Callable[[], str]  # gives a line of health; OSError, ValueError or Tim
 def source(member: int, ports: Optional[List[str]], sockets: Optional[str], command: Optional[str], wait: float) -> Optional[Source]:
     """Where a member's line of health comes from."""
     if ports is not None:
-        return lambda: asking.ask_port(ports[member], wait)
+        return functools.partial(asking.ask_port, ports[member], wait)
     if sockets is not None:
-        return lambda: asking.ask(sockets.replace("{}", str(member)), "health", wait)
-    return None if command is None else lambda: told_by(command.replace("{}", str(member)), wait)
+        return functools.partial(asking.ask, sockets.replace("{}", str(member)), "health", wait)
+    return None if command is None else functools.partial(told_by, command.replace("{}", str(member)), wait)
 
 
 def told_by(command: str, wait: float) -> str:

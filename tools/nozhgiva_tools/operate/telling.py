@@ -2,6 +2,8 @@
 
 from typing import Dict, List, Optional
 
+from .judging import GroupTold, MemberTold
+
 SAID = {"well": "answers, and all is well", "ails": "answers, and something ails", "unknown": "may answer or not: too little is known", "silent": "DOESN'T ANSWER",
         "corrupt": "IS CORRUPT: something that was acknowledged was forgotten"}
 
@@ -24,7 +26,7 @@ def shown(value: object) -> str:
     return "-" if value is None else str(value)
 
 
-def row(member: Dict) -> List[str]:
+def row(member: MemberTold) -> List[str]:
     file = f"v{member['version']} {member['mode']}" if member["version"] else "-"
     damage = shown(member["damaged"]) + (f" ({member['unsure']} unsure)" if member["unsure"] else "")
     well = member["well"] or ("-" if member["fault"] is None else "no keeper")
@@ -32,20 +34,20 @@ def row(member: Dict) -> List[str]:
             shown(member["ends"]), file, of(member["keys"], member["most_keys"]), of(member["sessions"], member["most_sessions"]), damage, member["asks"] or member["mends"] or "-", may_stop(member)]
 
 
-def may_stop(member: Dict) -> str:
+def may_stop(member: MemberTold) -> str:
     """The column: `yes`, or `no` with the names of why."""
     if member["may_be_stopped"] is None:
         return "-"
     return "yes" if member["may_be_stopped"] else "no: " + ",".join(sorted({reason["name"] for reason in member["why_not"]}))
 
 
-def stop_lines(told: Dict) -> List[str]:
+def stop_lines(told: GroupTold) -> List[str]:
     """Which quorums are whole, and why members may not be stopped, alike ones in one line."""
-    if told["whole_quorums"] is None:
+    of, having, quorums = told["view_change_quorum"], told["with_state"], told["whole_quorums"]
+    if having is None or quorums is None:
         return []
-    of, having = told["view_change_quorum"], told["with_state"]
     lines = [f"the whole state is at {len(having)} of {len(told['members'])} members: {' '.join(map(str, having)) or 'none'}",
-             f"whole quorums, of {of}: {', '.join(' '.join(map(str, quorum)) for quorum in told['whole_quorums']) or 'none'}"]
+             f"whole quorums, of {of}: {', '.join(' '.join(map(str, quorum)) for quorum in quorums) or 'none'}"]
     why: Dict[str, List[int]] = {}
     for member in told["members"]:
         if member["may_be_stopped"] is not None:
@@ -60,7 +62,7 @@ def stop_lines(told: Dict) -> List[str]:
 NAMES = ["member", "state", "well", "view", "commit", "behind", "up", "restarts", "ends", "file", "keys", "sessions", "damaged", "asks", "may be stopped"]
 
 
-def table(told: Dict) -> str:
+def table(told: GroupTold) -> str:
     """A line on the group, what isn't well, and a line on each member."""
     head = f"group {told['group']} {SAID[told['verdict']]}"
     if told["leader"] is not None:

@@ -105,7 +105,7 @@ def of_file(life: Life) -> Dict[str, object]:
     value = report.value if report is not None else None
     return {
         "unsure": told(unsure(report) if value else None),
-        "damaged": told(len(report.places.mended) + len(report.places.unsure) if value else None),
+        "damaged": told(len(report.places.mended) + len(report.places.unsure) if report is not None and value is not None else None),
         "version": told(value.version if value else None),
         "mode": told(value.mode if value else None),
         "keys": told(tally.keys if tally else None),

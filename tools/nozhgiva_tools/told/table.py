@@ -1,12 +1,13 @@
 """The replicated state, by docs/STATE.md: what the entries of a log make of sessions and keys."""
 
-from typing import Dict, NamedTuple, Optional, Tuple
+from typing import Dict, Literal, NamedTuple, Optional, Tuple, Union
 
 from .datafile import Checkpoint, Header, KEYS, number, SESSIONS
 
 REGISTER, PUT, DELETE = 1, 2, 4  # the first byte of an operation
 
-Change = Tuple[str, ...]  # ("put", KEY, VALUE) or ("del", KEY)
+Change = Union[Tuple[Literal["put"], str, str], Tuple[Literal["del"], str]]
+"""`put` with a key and its value, or `del` with a key."""
 
 
 class Session(NamedTuple):
