@@ -3,15 +3,23 @@
 import contextlib
 import socket
 import threading
+from typing import Callable, Dict, Iterable, List, Optional, Tuple, Union
 
 from nozhgiva import links
-from nozhgiva.messages import HEADER, Get, Outcome, OutcomeKind, Put, Register, Reply, ReplyKind, decode, size_of
+from nozhgiva.messages import HEADER, Get, Operation, Outcome, OutcomeKind, Put, Register, Reply, ReplyKind, Request, decode, size_of
 
 OK = Outcome(OutcomeKind.OK)
 SESSION = Outcome(OutcomeKind.SESSION)
 
 
-def reply_to(request, member, kind=ReplyKind.OUTCOME, *, view=0, op=1, outcome=OK):
+def request_of(data: bytes) -> Request:
+    """The request that a client sent."""
+    request = decode(data)
+    assert isinstance(request, Request)
+    return request
+
+
+def reply_to(request: Request, member: int, kind: ReplyKind = ReplyKind.OUTCOME, *, view: int = 0, op: int = 1, outcome: Optional[Outcome] = OK) -> Reply:
     """A reply of a member to a request; op and outcome count only where it has one."""
     executed = kind == ReplyKind.OUTCOME
     op, outcome = (op, outcome) if executed else (0, None)
@@ -22,16 +30,16 @@ class State:
     """Keys and sessions, and a member's answers: each number of a client is executed once. `quiet` says of a number whether its answer is
     lost. What is asked in another version than `version`, or of another group than `cluster`, it doesn't hear. It has room for `room` keys."""
 
-    def __init__(self, quiet=lambda number: False, version=1, cluster=5):
-        self.keys = {}
-        self.executed = []
-        self.last = {}
+    def __init__(self, quiet: Callable[[int], bool] = lambda number: False, version: int = 1, cluster: int = 5) -> None:
+        self.keys: Dict[str, str] = {}
+        self.executed: List[Operation] = []
+        self.last: Dict[int, Tuple[int, int, Optional[Outcome]]] = {}  # by the client: its last number, the operation that executed it, and the outcome
         self.quiet = quiet
         self.version, self.cluster = version, cluster
         self.room = 128
         self.turn = threading.Lock()
 
-    def outcome(self, operation):
+    def outcome(self, operation: Operation) -> Outcome:
         if isinstance(operation, Register):
             return SESSION
         if isinstance(operation, Put):
@@ -44,8 +52,8 @@ class State:
             return Outcome(OutcomeKind.ABSENT)
         return Outcome(OutcomeKind.VALUE, value) if isinstance(operation, Get) else OK
 
-    def __call__(self, member, data):
-        request = decode(data)
+    def __call__(self, member: int, data: bytes) -> List[bytes]:
+        request = request_of(data)
         if (request.version, request.cluster) != (self.version, self.cluster):
             return []
         with self.turn:
@@ -66,20 +74,20 @@ class MemoryLink:
     text is a trouble of the system. A receive lets the time of `clock` go by until the next one comes. Requests of another version than
     `version` are noted as probes, and nobody answers them."""
 
-    def __init__(self, answer, version=1):
+    def __init__(self, answer: Callable[[int, Request], Iterable[Tuple[float, Union[Reply, bytes, str]]]], version: int = 1) -> None:
         self.answer = answer
         self.version = version
-        self.probes = []
+        self.probes: List[Tuple[float, int]] = []
         self.time = 0.0
-        self.sent = []
-        self.waiting = []
+        self.sent: List[Tuple[float, int]] = []
+        self.waiting: List[Tuple[float, links.Came]] = []
         self.is_open = True
 
-    def clock(self):
+    def clock(self) -> float:
         return self.time
 
-    def send(self, member, data):
-        request = decode(data)
+    def send(self, member: int, data: bytes) -> None:
+        request = request_of(data)
         if request.version != self.version:
             self.probes.append((self.time, member))
             return
@@ -89,7 +97,7 @@ class MemoryLink:
             self.waiting.append((self.time + delay, came))
             self.waiting.sort()
 
-    def receive(self, within):
+    def receive(self, within: float) -> Optional[links.Came]:
         until = self.time + within
         if not self.waiting or self.waiting[0][0] > until:
             self.time = until
@@ -98,14 +106,14 @@ class MemoryLink:
         self.time = max(at, self.time)
         return came
 
-    def close(self):
+    def close(self) -> None:
         self.is_open = False
 
 
 class Members:
     """Members over UDP on loopback, each a thread. `answer(member, data)` gives the datagrams that come back."""
 
-    def __init__(self, size, answer):
+    def __init__(self, size: int, answer: Callable[[int, bytes], Iterable[bytes]]) -> None:
         self.answer = answer
         self.sockets = [socket.socket(socket.AF_INET, socket.SOCK_DGRAM) for _ in range(size)]
         for member in self.sockets:
@@ -113,17 +121,17 @@ class Members:
         self.addresses = [f"127.0.0.1:{member.getsockname()[1]}" for member in self.sockets]
         self.threads = [threading.Thread(target=self._serve, args=(number,)) for number in range(size)]
 
-    def _serve(self, number):
+    def _serve(self, number: int) -> None:
         while (datagram := self.sockets[number].recvfrom(65_536))[0]:
             for answer in self.answer(number, datagram[0]):
                 self.sockets[number].sendto(answer, datagram[1])
 
-    def __enter__(self):
+    def __enter__(self) -> "Members":
         for thread in self.threads:
             thread.start()
         return self
 
-    def __exit__(self, *_):
+    def __exit__(self, *_: object) -> None:
         for member, thread in zip(self.sockets, self.threads):
             member.sendto(b"", member.getsockname())
             thread.join()
@@ -134,7 +142,7 @@ class Streams:
     """Members over TCP on loopback, each with a listener; the streams are answered one message a time by `answer(member, data)`, whose
     pieces are sent one after the other; None closes the stream. `made` counts the streams, and `ended` says whether one has ended."""
 
-    def __init__(self, size, answer):
+    def __init__(self, size: int, answer: Callable[[int, bytes], Iterable[Optional[bytes]]]) -> None:
         self.answer = answer
         self.listeners = [socket.create_server(("127.0.0.1", 0)) for _ in range(size)]
         self.addresses = [f"tcp:127.0.0.1:{listener.getsockname()[1]}" for listener in self.listeners]
@@ -143,7 +151,7 @@ class Streams:
         for number in range(size):
             threading.Thread(target=self._listen, args=(number,), daemon=True).start()
 
-    def _listen(self, number):
+    def _listen(self, number: int) -> None:
         while True:
             try:
                 stream, _ = self.listeners[number].accept()
@@ -154,7 +162,7 @@ class Streams:
                 self._serve(number, stream)
             self.ended[number].set()
 
-    def _serve(self, number, stream):
+    def _serve(self, number: int, stream: socket.socket) -> None:
         waiting = b""
         while data := stream.recv(65_536):
             waiting += data
@@ -165,10 +173,10 @@ class Streams:
                         return
                     stream.sendall(piece)
 
-    def __enter__(self):
+    def __enter__(self) -> "Streams":
         return self
 
-    def __exit__(self, *_):
+    def __exit__(self, *_: object) -> None:
         for listener in self.listeners:
             listener.shutdown(socket.SHUT_RDWR)
             listener.close()
