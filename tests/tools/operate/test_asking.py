@@ -10,11 +10,11 @@ import time
 import unittest
 from typing import Callable, Dict, List, Sequence, Tuple
 
-from fakes import Members, reply_to, State
-from running import free_addresses
+from fakes import Members, reply_to, request_of, State
 
-from nozhgiva.messages import decode, ReplyKind
+from nozhgiva.messages import ReplyKind, Request
 from nozhgiva_tools.places import OPERATE
+from nozhgiva_tools.run.ports import free_addresses
 
 HERE = str(OPERATE)
 TOP = os.path.dirname(HERE)
@@ -39,7 +39,7 @@ def run(words: Sequence[str], lines: str = "", **more: str) -> "subprocess.Compl
 
 
 class Asking(unittest.TestCase):
-    def ask(self, answer: Callable, lines: str, *options: str, size: int = 2) -> Tuple[str, int, str]:
+    def ask(self, answer: Callable[[int, bytes], List[bytes]], lines: str, *options: str, size: int = 2) -> Tuple[str, int, str]:
         """What `ask` answers, its code, and what it says."""
         with Members(size, answer) as members:
             made = run([ASK, *options, "5", *members.addresses], lines)
@@ -48,7 +48,7 @@ class Asking(unittest.TestCase):
     def registers(self, state: State) -> int:
         return [str(operation) for operation in state.executed].count("register")
 
-    def test_each_kind_of_answer_in_one_session(self):
+    def test_each_kind_of_answer_in_one_session(self) -> None:
         state = State()
         lines = "put a 1\nget a\ndel a\ndel a\nget a\nput one-too-many x\n"
         self.assertEqual(self.ask(state, lines), ("ok\nvalue 1\nok\nabsent\nabsent\nfull\n", 0, ""))
@@ -56,7 +56,7 @@ class Asking(unittest.TestCase):
         self.assertEqual(self.ask(state, ""), ("", 0, ""))
         self.assertEqual(self.registers(state), 1)
 
-    def test_a_put_whose_answers_are_lost_is_asked_again_and_executed_once(self):
+    def test_a_put_whose_answers_are_lost_is_asked_again_and_executed_once(self) -> None:
         for options in ((), ("--again",)):
             with self.subTest(options):
                 lost = iter([True] * 3)
@@ -64,7 +64,7 @@ class Asking(unittest.TestCase):
                 self.assertEqual(self.ask(state, "put a 1\nget a\n", *options), ("ok\nvalue 1\n", 0, ""))
                 self.assertEqual([str(operation) for operation in state.executed], ["register", "put a (1 bytes)", "get a"])
 
-    def test_a_put_that_stays_unknown(self):
+    def test_a_put_that_stays_unknown(self) -> None:
         for options in ((), ("--again",)):
             with self.subTest(options):
                 state = State(quiet=lambda number: number == 1)
@@ -74,14 +74,15 @@ class Asking(unittest.TestCase):
                 self.assertNotIn("secret", said)
                 self.assertEqual([str(operation) for operation in state.executed], ["register", "put a (6 bytes)"])
 
-    def test_a_session_that_is_ended(self):
+    def test_a_session_that_is_ended(self) -> None:
         """A get is asked again in a new one; a put isn't, with --again too, since it may have been executed."""
         for line, wanted, sessions in (("get a", ("absent\n", 0), 2), ("put a 1", ("unknown\n", 13), 1)):
             with self.subTest(line):
-                state, ended = State(), []
+                state = State()
+                ended: List[Request] = []
 
                 def answer(member: int, data: bytes) -> List[bytes]:
-                    request = decode(data)
+                    request = request_of(data)
                     if request.number and not ended:
                         ended.append(request)
                         return [reply_to(request, member, ReplyKind.EVICTED).encode()]
@@ -90,14 +91,14 @@ class Asking(unittest.TestCase):
                 self.assertEqual(((text, code), self.registers(state)), (wanted, sessions))
                 self.assertEqual("evicted" in said, sessions == 1)
 
-    def test_nobody_answers(self):
+    def test_nobody_answers(self) -> None:
         begun = time.monotonic()
         made = run([ASK, "--for", "1", "5", *free_addresses(2)], "put a 1\n")
         self.assertEqual((made.stdout, made.returncode), ("not asked\n", 13))
         self.assertIn("no member runs at these addresses", made.stderr)
         self.assertLess(time.monotonic() - begun, 10)
 
-    def test_a_line_that_is_none_says_why(self):
+    def test_a_line_that_is_none_says_why(self) -> None:
         state = State()
         for line, why in [
             ("foo secret", "a line is put KEY VALUE, get KEY, del KEY, and begins with no other word"),
@@ -115,9 +116,11 @@ class Asking(unittest.TestCase):
                 self.assertTrue(said.startswith(f"ask: refused: line 2: {why}"), said)
                 self.assertNotIn("cret", said)
 
-    def test_words_in_place_of_lines(self):
+    def test_words_in_place_of_lines(self) -> None:
         absent, full = "ask: absent: there is no color\n", "ask: full: the key is new, and the group holds as many as it can; nothing has changed\n"
-        for call in (lambda words, group: [NOZHGIVA, *words, *group], lambda words, group: [NOZHGIVA, "ask", *group, *words], lambda words, group: [ASK, *group, *words]):
+        calls: List[Callable[[List[str], List[str]], List[str]]] = [
+            lambda words, group: [NOZHGIVA, *words, *group], lambda words, group: [NOZHGIVA, "ask", *group, *words], lambda words, group: [ASK, *group, *words]]
+        for call in calls:
             with Members(2, State()) as members:
                 for words, wanted in [
                     (["put", "color", "green"], ("ok\n", 0, "")), (["get", "color"], ("green\n", 0, "")), (["del", "color"], ("ok\n", 0, "")),
@@ -128,7 +131,7 @@ class Asking(unittest.TestCase):
                         made = run(call(words, ["5", *members.addresses]))
                         self.assertEqual((made.stdout, made.returncode, made.stderr), wanted)
 
-    def test_the_group_of_the_environment(self):
+    def test_the_group_of_the_environment(self) -> None:
         state = State()
         with Members(2, state) as members, tempfile.NamedTemporaryFile("w", suffix="group") as file:
             file.write(f'# of all members\nCLUSTER=5\nADDRS="{" ".join(members.addresses)}"\nOPTIONS=--careful\n')
@@ -149,11 +152,11 @@ class Asking(unittest.TestCase):
                 self.assertEqual((made.stdout, made.returncode), ("", 2))
                 self.assertIn(why, made.stderr)
 
-    def test_what_is_wrong_is_said_within_a_second(self):
+    def test_what_is_wrong_is_said_within_a_second(self) -> None:
         """Another number, and a port at which nobody listens: it goes on asking, and says so. Another order: it is answered, and says so."""
         def turned(place: int, data: bytes) -> List[bytes]:
             member = (place + 1) % 3
-            return state(0, data) if member == 0 else [reply_to(decode(data), member, ReplyKind.REDIRECT).encode()]
+            return state(0, data) if member == 0 else [reply_to(request_of(data), member, ReplyKind.REDIRECT).encode()]
         state = State()
         with Members(3, State(cluster=6)) as other, Members(3, turned) as members:
             for addresses, why, wanted in ((other.addresses, "another group", "not asked\n"), (free_addresses(3), "no member runs", "not asked\n"),
@@ -169,14 +172,14 @@ class Asking(unittest.TestCase):
                         self.assertLess(time.monotonic() - begun, SOON + 0.5)  # with what it takes to start
                         self.assertEqual(asks.stdout.read(), wanted)
 
-    def test_another_version_is_found_within_a_second(self):
+    def test_another_version_is_found_within_a_second(self) -> None:
         for version, options in ((2, ()), (1, ("--v2",))):
             with self.subTest(version):
                 begun = time.monotonic()
                 self.assertEqual(self.ask(State(version=version), "put a 1\n", *options, size=3), ("ok\n", 0, ""))
                 self.assertLess(time.monotonic() - begun, SOON + 0.5)
 
-    def test_wrong_words(self):
+    def test_wrong_words(self) -> None:
         for words, why in ((["x", "a:1", "b:1"], "'x' is none"), (["5"], "the addresses of all members"), (["5", "a", "b:1"], "HOST:PORT"), (["5", "a:1", "tcp:b:1"], "tcp:"),
                            (["get"], "it is get KEY"), (["5", "a:1", "b:1", "put", "k"], "it is put KEY VALUE"), (["--for", "0", "5", "a:1", "b:1"], "--for is above 0")):
             with self.subTest(words):
@@ -184,7 +187,7 @@ class Asking(unittest.TestCase):
                 self.assertEqual((made.stdout, made.returncode), ("", 2))
                 self.assertIn(why, made.stderr)
 
-    def test_streams_that_are_none(self):
+    def test_streams_that_are_none(self) -> None:
         with Members(2, State()) as members:
             group = " ".join(["5", *members.addresses])
             for line, code, why in (("ask {} > /dev/full < lines", 6, "standard output can't be written: no space left on device"), ("put color green {} > /dev/full", 6, "standard output can't"),
@@ -198,7 +201,7 @@ class Asking(unittest.TestCase):
                     self.assertIn(why, made.stderr)
 
     @unittest.skipUnless(shutil.which("strace"), "no strace")
-    def test_one_put_starts_at_most_two_processes_and_makes_at_most_800_system_calls(self):
+    def test_one_put_starts_at_most_two_processes_and_makes_at_most_800_system_calls(self) -> None:
         with Members(3, State()) as members, tempfile.NamedTemporaryFile() as trace:
             # A trace that can't be made where others may not be traced.
             if subprocess.run(["strace", "-o", "/dev/null", "true"], capture_output=True).returncode:
@@ -217,7 +220,7 @@ class Asking(unittest.TestCase):
 class Watching(unittest.TestCase):
     LINES = "start 2 view 0 log_view 0 commit 0\n" + "".join(f"send {n} 2 1 commit view 3 op 9 commit 9\n" for n in range(1000)) + "commit 2 op 9 view 3 client 1 request 1 put a b\ncommit 2 op"
 
-    def test_to_standard_output(self):
+    def test_to_standard_output(self) -> None:
         made = subprocess.run([os.path.join(HERE, "watch")], input=self.LINES, capture_output=True, text=True)
         lines = [line.split(" ", 1)[1] for line in made.stdout.splitlines()]
         self.assertEqual(lines[:4], ["start 2 view 0 log_view 0 commit 0", "send 0 2 1 commit view 3 op 9 commit 9", "commit 2 op 9 view 3 client 1 request 1 put a b", "commit 2 op"])
@@ -226,11 +229,11 @@ class Watching(unittest.TestCase):
         self.assertEqual(len(lines), 5)
         self.assertTrue(made.stderr.startswith("watch: member=2"))
 
-    def test_a_log_that_cannot_be_written_holds_nobody_up(self):
+    def test_a_log_that_cannot_be_written_holds_nobody_up(self) -> None:
         made = subprocess.run([os.path.join(HERE, "watch"), "--log", "/dev/full"], input=self.LINES, capture_output=True, text=True, timeout=60)
         self.assertEqual(made.returncode, 0)
 
-    def test_a_log_that_cannot_be_made(self):
+    def test_a_log_that_cannot_be_made(self) -> None:
         made = subprocess.run([os.path.join(HERE, "watch"), "--log", "/no/such/log"], input="", capture_output=True, text=True)
         self.assertEqual(made.returncode, 2)
         self.assertIn("watch: refused", made.stderr)

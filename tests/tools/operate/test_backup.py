@@ -124,7 +124,7 @@ class Groups(Folder):
                 self.assertEqual((code, text), (1, ""))
                 self.assertIn(wanted, said)
 
-    def test_a_group_is_lost_and_had_back(self):
+    def test_a_group_is_lost_and_had_back(self) -> None:
         """The first client's line K is operation K + 1, behind its register, so what each backup has to hold follows from its operation alone. A change of view
         has a member save a commit number above its checkpoint's."""
         lines = [f"del k{i % 7}" if i % 5 == 4 else f"put k{i % 29} v{i}" for i in range(130)] + [f"put long {'x' * 1024}"]
@@ -158,7 +158,7 @@ class Groups(Folder):
         answers = new.ask([f"get {name}" for name in names])
         self.assertEqual(answers, [f"value {wanted[name]}" if name in wanted else "absent" for name in names])
 
-    def test_a_file_that_is_written_to_meanwhile(self):
+    def test_a_file_that_is_written_to_meanwhile(self) -> None:
         lines = [f"put k{i % 128} {'v' * (i % 700)}{i}" for i in range(60000)]
         group = self.members(5, 1, "--v2")
         client, answers = group.begin(lines)
@@ -186,7 +186,7 @@ class Groups(Folder):
         with unittest.mock.patch("nozhgiva_tools.told.datafile.read_sectors", return_value=(half, 0)):
             self.assertRaises(backups.Unreadable, backups.read_file, file)
 
-    def test_a_value_that_the_new_group_does_not_take(self):
+    def test_a_value_that_the_new_group_does_not_take(self) -> None:
         old, new = self.members(5, 1, "--v2"), self.members(6, 2)
         old.ask(["put short s", f"put long {'x' * 1025}"] + ["get short"] * 30)
         kept = self.path("backup")
@@ -199,7 +199,7 @@ class Groups(Folder):
 class Texts(Folder):
     BACKUP = backups.Backup(5, 0, 3, 1, "2026-01-02T03:04:05Z", 96, {"a": "1", "b": "~" * 1024}, [(97, ("put", "c", "3")), (98, ("del", "a"))])
 
-    def test_one_text_worked_by_hand(self):
+    def test_one_text_worked_by_hand(self) -> None:
         body = ("nozhgiva backup 1\ngroup 5 member 0 of 3 version 1\nmade 2026-01-02T03:04:05Z\nop 96\nkeys 2 uncommitted 2\nkey a 1\nkey b " + "~" * 1024 + "\n"
                 "uncommitted 97 put c 3\nuncommitted 98 del a\n").encode()
         text = body + b"sha256 " + hashlib.sha256(body).hexdigest().encode() + b"\n"
@@ -207,7 +207,7 @@ class Texts(Folder):
         self.assertEqual(backups.read(text), self.BACKUP)
         self.assertEqual(backups.keys_after(self.BACKUP, True), {"a": None, "b": "~" * 1024, "c": "3"})
 
-    def test_each_damaged_or_cut_text_is_refused(self):
+    def test_each_damaged_or_cut_text_is_refused(self) -> None:
         text = backups.spell(self.BACKUP)
         for at in range(len(text)):
             with self.assertRaises(backups.Damaged, msg=f"cut at {at}"):
@@ -215,7 +215,7 @@ class Texts(Folder):
             with self.assertRaises(backups.Damaged, msg=f"damaged at {at}"):
                 backups.read(text[:at] + bytes([text[at] ^ 1]) + text[at + 1:])
 
-    def test_what_is_refused_before_anybody_is_asked(self):
+    def test_what_is_refused_before_anybody_is_asked(self) -> None:
         text = backups.spell(self.BACKUP)
         body = text[:text.index(b"sha256 ")].replace(b"keys 2", b"keys 1")
         other = body + f"sha256 {hashlib.sha256(body).hexdigest()}\n".encode()
@@ -231,7 +231,7 @@ class Texts(Folder):
                 self.assertIn(wanted, said)
                 self.assertLess(time.monotonic() - begun, 30)
 
-    def test_words(self):
+    def test_words(self) -> None:
         kept = self.path("given", backups.spell(self.BACKUP))
         for words, wanted in [((kept, "--check"), 0), ((kept,), 2), ((kept, "6"), 2), ((kept, "6", *NOBODY, "--check"), 2), (("/no/such", "--check"), 1),
                               ((kept, "6", "no-address", "127.0.0.1:2"), 2), ((kept, "6", *NOBODY, "--for", "0.5", "--program", "/bin/false"), 13)]:
@@ -255,7 +255,7 @@ def entry(op: int, client: int, request: int, version: int = 1) -> Header:
 class Tables(unittest.TestCase):
     """What docs/STATE.md promises of sessions, which decides what of a log is executed."""
 
-    def test_rows(self):
+    def test_rows(self) -> None:
         put, delete, register = b"\2\1\0\1kw", b"\4\1k", b"\1"
         for what, client, request, body, change in [
             ("the next number", 7, 4, put, ("put", "k", "w")), ("the same number again", 7, 3, put, None), ("an older one", 7, 2, put, None), ("a gap", 7, 5, put, None),
@@ -266,13 +266,13 @@ class Tables(unittest.TestCase):
                 self.assertEqual(table.apply(entry(10, client, request), body), change)
                 self.assertEqual(table.keys, {"k": "v"} if change is None else after([" ".join(change)]))
 
-    def test_the_session_that_was_used_longest_ago_gives_way(self):
+    def test_the_session_that_was_used_longest_ago_gives_way(self) -> None:
         for version, count in ((1, 32), (2, 64)):
             table = Table({}, {client: Session(0, 100 - client) for client in range(count)})
             table.apply(entry(200, 900, 0, version), b"\1")
             self.assertEqual((len(table.sessions), count - 1 in table.sessions, 900 in table.sessions), (count, False, True))
 
-    def test_a_key_too_many(self):
+    def test_a_key_too_many(self) -> None:
         table = Table({str(key): "v" for key in range(128)}, {7: Session(0, 1)})
         self.assertIsNone(table.apply(entry(2, 7, 1), b"\2\1\0\1kw"))
         self.assertEqual(table.apply(entry(3, 7, 2), b"\2\1\0\x015w"), ("put", "5", "w"))

@@ -8,6 +8,7 @@ import subprocess
 import tempfile
 import time
 import unittest
+from typing import Tuple
 
 from nozhgiva_tools.operate import asking
 from nozhgiva_tools.run import built as program
@@ -19,13 +20,13 @@ START = "say start 0 view 0 log_view 0 commit 0"
 
 
 class Files(Keeping):
-    def refused(self, path: str) -> tuple:
+    def refused(self, path: str) -> Tuple[int, str]:
         """How a keeper of this path ends: its code, and what it says."""
         words = [os.path.join(HERE, "keep"), "--program", MEMBER, "5", "0", path, "127.0.0.1:1", "127.0.0.1:2"]
         made = subprocess.run(words, capture_output=True, text=True, timeout=60)
         return made.returncode, made.stderr
 
-    def test_a_file_is_never_made(self):
+    def test_a_file_is_never_made(self) -> None:
         kept = self.keep("stand")
         folder = kept.folder.name
         os.mkdir(f"{folder}/mounted")
@@ -41,7 +42,7 @@ class Files(Keeping):
         self.assertEqual(os.listdir(f"{folder}/mounted"), [])
         self.assertEqual([name for name in sorted(os.listdir(folder)) if name not in before and not name.startswith("0")], [])
 
-    def test_a_file_that_has_gone_is_no_reason_to_start(self):
+    def test_a_file_that_has_gone_is_no_reason_to_start(self) -> None:
         kept = self.keep("stand")
         self.assertTrue(kept.until(lambda: kept.starts() == 1))
         os.unlink(kept.file)
@@ -52,15 +53,15 @@ class Files(Keeping):
         self.assertEqual(code, 9)
         self.assertIn("there is no file", said)
 
-    def test_a_file_that_cannot_be_read_is_told_while_its_member_runs(self):
+    def test_a_file_that_cannot_be_read_is_told_while_its_member_runs(self) -> None:
         """Removed; written over; put back; and another file under its name, of which its member has nothing."""
         kept = self.keep(f"{START}\nopen\nstand")
 
         def is_told(*words: str) -> bool:
             return kept.until(lambda: all(f" {word} " in kept.ask("health") for word in words), 40)
 
-        with open(kept.file, "rb") as file:
-            data = file.read()
+        with open(kept.file, "rb") as whole:
+            data = whole.read()
         self.assertTrue(is_told("well=yes", "has_state=yes", "version=1"))
         os.rename(kept.file, kept.file + ".away")
         self.assertTrue(is_told("well=no_file", "has_state=no", "version=-"))
@@ -78,7 +79,7 @@ class Files(Keeping):
         self.assertEqual((log.count("can't be read as a member's: what its member has is lost once it ends"), log.count("can be read again")), (2, 1), log)
         self.assertEqual(kept.starts(), 1)
 
-    def test_no_program(self):
+    def test_no_program(self) -> None:
         kept = self.keep("stand", program="/no/such/program")
         code, said = kept.end(by_itself=True)
         self.assertEqual(code, 2)
@@ -86,7 +87,7 @@ class Files(Keeping):
 
 
 class Passing(Keeping):
-    def test_a_fault_of_the_disk_before_the_file_is_open_is_tried_again_a_few_times(self):
+    def test_a_fault_of_the_disk_before_the_file_is_open_is_tried_again_a_few_times(self) -> None:
         kept = self.keep(f"exit 7\n\nexit 7\n\n{START}\nstand")
         self.assertTrue(kept.until(lambda: kept.starts() == 3))
         self.assertTrue(kept.until(lambda: "view=0" in kept.ask("health")))
@@ -96,28 +97,28 @@ class Passing(Keeping):
         self.assertEqual(said.count("and is started again"), 5)
         self.assertIn("lslocks", said)
 
-    def test_a_port_that_is_taken_is_tried_again_soon(self):
+    def test_a_port_that_is_taken_is_tried_again_soon(self) -> None:
         kept = self.keep("\n\n".join(["exit 8"] * 12 + ["stand"]))  # whose pauses are 220 s where each is twice the one before
         self.assertTrue(kept.until(lambda: kept.starts() == 13, 120))
 
 
 class Logs(Keeping):
-    def test_a_log_that_cannot_be_opened_holds_nobody_up(self):
+    def test_a_log_that_cannot_be_opened_holds_nobody_up(self) -> None:
         kept = self.keep(f"{START}\nbeat 60 commit 0 op 12 view 0", "--log", "/dev/null/log")
         self.assertTrue(kept.until(lambda: "applied=12" in kept.ask("health")))
         self.assertIn("can't be written: Not a directory", kept.end()[1])
 
-    def test_a_log_of_five_gigabytes_is_put_aside(self):
+    def test_a_log_of_five_gigabytes_is_put_aside(self) -> None:
         kept = Kept(f"{START}\nbeat 60 commit 0 op 12 view 0", begins=False)
         self.addCleanup(kept.end)
         with open(kept.file + ".log", "wb") as file:
             file.truncate(5_000_000_000)
-        kept.child = kept.begin()
+        kept.begun = kept.begin()
         self.assertTrue(kept.until(lambda: "applied=12" in kept.ask("health")))
         kept.child.send_signal(signal.SIGUSR1)
         self.assertTrue(kept.until(lambda: os.path.exists(kept.file + ".log.1") and os.path.getsize(kept.file + ".log.1") > 5_000_000_000 > 10_000 * os.path.getsize(kept.file + ".log")))
 
-    def test_hup_opens_the_log_anew_and_restarts_nobody(self):
+    def test_hup_opens_the_log_anew_and_restarts_nobody(self) -> None:
         kept = self.keep(f"{START}\nstand")
         self.assertTrue(kept.until(lambda: "Z start 0 view 0" in kept.log()))
         os.rename(kept.file + ".log", kept.file + ".moved")
@@ -127,7 +128,7 @@ class Logs(Keeping):
         self.assertTrue(kept.until(lambda: "member=0" in kept.log()))
         self.assertEqual(kept.starts(), 1)
 
-    def test_hup_before_it_takes_signals(self):
+    def test_hup_before_it_takes_signals(self) -> None:
         """The start of Python is made slow, and the keeper gets its HUP in it."""
         made = tempfile.TemporaryDirectory(prefix="vr-hup-")
         self.addCleanup(made.cleanup)
@@ -148,12 +149,12 @@ class Logs(Keeping):
 
 
 class Living(Keeping):
-    def test_a_member_that_is_alone_leads_once_it_has_chosen(self):
+    def test_a_member_that_is_alone_leads_once_it_has_chosen(self) -> None:
         kept = Kept(f"{START}\nsay choose 0 view 1 log 0 commit 0 head 3 own hhh\nstand", alone=True)
         self.addCleanup(kept.end)
         self.assertTrue(kept.until(lambda: "well=yes state=leads view=1" in kept.ask("health")))
 
-    def test_a_member_that_hangs_is_told(self):
+    def test_a_member_that_hangs_is_told(self) -> None:
         kept = self.keep(f"{START}\nstand")
         self.assertTrue(kept.until(lambda: "well=yes state=follows" in kept.ask("health")))
         os.kill(kept.member(), signal.SIGSTOP)
@@ -161,7 +162,7 @@ class Living(Keeping):
         os.kill(kept.member(), signal.SIGCONT)
         self.assertTrue(kept.until(lambda: "well=yes" in kept.ask("health")))
 
-    def test_who_asks_and_says_nothing_holds_nobody_up(self):
+    def test_who_asks_and_says_nothing_holds_nobody_up(self) -> None:
         kept = self.keep(f"{START}\nstand")
         self.assertTrue(kept.until(lambda: "view=0" in kept.ask("health")))
         silent = []
@@ -187,10 +188,10 @@ class Unsure(Keeping):
         with open(kept.file, "r+b") as file:
             file.seek((datafile.HEADERS + 20) * datafile.SECTOR)
             file.write(bytes([255]) * 64)
-        kept.child = kept.begin()
+        kept.begun = kept.begin()
         return kept
 
-    def test_it_is_told_and_all_slots_are_written_anew_once(self):
+    def test_it_is_told_and_all_slots_are_written_anew_once(self) -> None:
         kept = self.damaged(f"{START}\nstand\n\n{self.CLIENT}\n\nstand")
         self.assertTrue(kept.until(lambda: "well=unsure" in kept.ask("health") and " unsure=1 " in kept.ask("health"), 40))
         made = subprocess.run([os.path.join(HERE, "health"), kept.file + ".socket"], capture_output=True, text=True)
@@ -198,7 +199,7 @@ class Unsure(Keeping):
         self.assertTrue(kept.until(lambda: "64 gets were answered" in kept.log(), 40))
         self.assertFalse(kept.until(lambda: kept.starts() > 2, 2))
 
-    def test_no_session_is_ended_for_it(self):
+    def test_no_session_is_ended_for_it(self) -> None:
         registers = "\n".join(f"say commit 0 op {op} view 0 client {op} request 0 register" for op in range(1, 32))
         kept = self.damaged(f"{START}\n{registers}\nstand\n\nstand")
         self.assertTrue(kept.until(lambda: "31 of 32 sessions are in use" in kept.log(), 40))

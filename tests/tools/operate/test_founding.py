@@ -31,7 +31,7 @@ def message(command: int, replica: int, op: int = 0, commit: int = 0, cluster: i
 
 
 class Judging(unittest.TestCase):
-    def test_what_is_refused(self):
+    def test_what_is_refused(self) -> None:
         rows: List[Tuple[Heard, str]] = [
             (Heard({}, None), "^$"),
             (Heard({0: 0, 2: 2}, 0), "^$"),
@@ -44,7 +44,7 @@ class Judging(unittest.TestCase):
             with self.subTest(str(heard)):
                 self.assertRegex(judge(CLUSTER, 1, PLACES, heard, ""), why)
 
-    def test_what_members_send(self):
+    def test_what_members_send(self) -> None:
         rows: List[Tuple[List[bytes], Dict[int, Optional[int]], Optional[int]]] = [
             ([message(9, 0)], {0: None}, None),
             ([message(8, 2)], {2: None}, 0),
@@ -59,7 +59,7 @@ class Judging(unittest.TestCase):
                     listening.hear([b"".join(data)] if joined else data)
                     self.assertEqual((listening.ear.members, listening.ear.head), (members, head))
 
-    def test_an_address_that_cant_be_heard(self):
+    def test_an_address_that_cant_be_heard(self) -> None:
         with socket.socket(socket.AF_INET, socket.SOCK_DGRAM) as one:
             one.bind(("127.0.0.1", 0))
             self.assertRegex(Ear(CLUSTER, 3, f"127.0.0.1:{one.getsockname()[1]}").why, "is taken by another process")
@@ -86,7 +86,7 @@ class Listening:
 
 
 class Sectors(unittest.TestCase):
-    def test_a_disk_a_partition_and_what_is_none(self):
+    def test_a_disk_a_partition_and_what_is_none(self) -> None:
         with tempfile.TemporaryDirectory() as folder:
             device = os.stat(folder).st_dev
             number, system = f"{os.major(device)}:{os.minor(device)}", os.path.join(folder, "sys")
@@ -101,14 +101,14 @@ class Sectors(unittest.TestCase):
                 self.assertEqual(sectors.physical_sector(folder, system, mounts), size)
                 os.unlink(os.path.join(place, "physical_block_size"))
 
-    def test_a_file_system_without_a_number_of_its_own(self):
+    def test_a_file_system_without_a_number_of_its_own(self) -> None:
         with tempfile.TemporaryDirectory() as folder:
             mounts = os.path.join(folder, "mounts")
             with open(mounts, "w") as file:
                 file.write("22 1 0:7 / /data rw,relatime shared:1 - btrfs /dev/null rw\n23 1 0:8 / /other rw - tmpfs tmpfs rw\n")
             self.assertEqual([sectors.source_of(number, mounts) for number in ("0:7", "0:8", "0:9")], ["1:3", None, None])
 
-    def test_what_is_said(self):
+    def test_what_is_said(self) -> None:
         self.assertEqual([sectors.warning("/d", size) for size in (None, 512)], ["", ""])
         self.assertIn("the disk of /d has physical sectors of 4096 bytes", sectors.warning("/d", 4096))
 
@@ -124,7 +124,7 @@ class Real(unittest.TestCase):
         words = [os.path.join(HERE, "ask"), "--program", group.program, "--again", "--for", "120", str(CLUSTER)] + group.addresses
         self.assertEqual(subprocess.run(words, input="put color green\n", capture_output=True, text=True).stdout, "ok\n")
 
-    def test_a_member_that_was_killed_before_a_put_isnt_remade(self):
+    def test_a_member_that_was_killed_before_a_put_isnt_remade(self) -> None:
         for scheme in ("", "tcp:"):
             with self.subTest(scheme):
                 group = Group(3, Net(3), scheme, options=("--patience", "60"))
@@ -141,7 +141,7 @@ class Real(unittest.TestCase):
                 self.assert_refused(self.make(group, 1, again), "member 0 of group 5 runs at ", again)
                 self.assertEqual(self.make(group, 1, again, "--anyway")[0], 0)
 
-    def test_a_host_that_nobody_knows(self):
+    def test_a_host_that_nobody_knows(self) -> None:
         with tempfile.TemporaryDirectory() as folder:
             path = os.path.join(folder, "0")
             words = [os.path.join(HERE, "make-member"), "--program", program.PATH, str(CLUSTER), "0", path, Net(1).hosts[0], "host.invalid:4000"]
@@ -152,7 +152,7 @@ class Real(unittest.TestCase):
         self.assertRegex(made[1], why)
         self.assertEqual((made[0], os.path.lexists(path)), (1, False))
 
-    def test_members_of_a_new_group(self):
+    def test_members_of_a_new_group(self) -> None:
         """All before one is started, and the last one beside others whose log is empty."""
         with tempfile.TemporaryDirectory() as folder:
             group = Group(3, Net(3), options=("--patience", "60"))
@@ -167,7 +167,7 @@ class Real(unittest.TestCase):
             code, said = self.make(group, 2, os.path.join(folder, "last"))
             self.assertEqual(code, 0, said)
 
-    def test_nothing_is_waited_for_where_all_addresses_refuse(self):
+    def test_nothing_is_waited_for_where_all_addresses_refuse(self) -> None:
         begun = time.monotonic()
         self.assertEqual(founding.refusal(CLUSTER, 0, Net(8).hosts[5:], patience=30.0), "")
         self.assertLess(time.monotonic() - begun, 10)

@@ -5,6 +5,7 @@ import os
 import subprocess
 import tempfile
 import unittest
+from typing import Dict, List, Tuple
 
 from nozhgiva_tools.places import OPERATE, words_of_module
 from nozhgiva_tools.run import built as program
@@ -24,7 +25,7 @@ def prepare(op: int) -> int:
 
 @unittest.skipUnless(program.is_there(), program.MISSING)
 class Inspecting(unittest.TestCase):
-    def test_whole_and_damaged_files(self):
+    def test_whole_and_damaged_files(self) -> None:
         made = subprocess.run(words_of_module("tests.program.inspect_check"), capture_output=True, text=True)
         self.assertEqual(made.returncode, 0, made.stdout + made.stderr)
 
@@ -40,7 +41,7 @@ class Inspecting(unittest.TestCase):
         with open(path, "rb") as file:
             return file.read()
 
-    def test_what_becomes_of_damage(self):
+    def test_what_becomes_of_damage(self) -> None:
         """By docs/RULES.md (The opening, Visiting, ask): what is asked for, what waits until its slot is written, and what nothing stands on."""
         with tempfile.TemporaryDirectory(prefix="vr-inspect-") as folder:
             whole, path = self.file_of_one(folder), os.path.join(folder, "damaged")
@@ -58,19 +59,20 @@ class Inspecting(unittest.TestCase):
             self.assertIn("for a whole quorum: checkpoint 64, whose header is known; blocks that can't be read: 0; above it lost 69, unknown 75 128; "
                           "the last operation whose header is known is 70 of at most 128", told)
 
-    def test_what_a_whole_quorum_needs(self):
+    def test_what_a_whole_quorum_needs(self) -> None:
         with tempfile.TemporaryDirectory(prefix="vr-inspect-") as folder:
             whole, path = self.file_of_one(folder), os.path.join(folder, "damaged")
             root = int.from_bytes(whole[48:56], "big")
             fine = {"checkpoint": 64, "anchored": True, "missing": 0, "lost": [], "unknown": [], "last": 70}
-            for name, places, changed in [
+            rows: List[Tuple[str, List[int], Dict[str, object]]] = [
                 ("nothing is damaged", [], {}),
                 ("an entry", [prepare(66) + 200], {"lost": [66]}),
                 ("an entry of the checkpoint", [prepare(64) + 200], {}),
                 ("a slot that was never used", [header_sector(100)], {"unknown": [100]}),
                 ("the root", [datafile.GRID * datafile.SECTOR + datafile.BLOCK * root + 140], {"missing": 1}),
                 ("a copy of the superblock", [9], {}),
-            ]:
+            ]
+            for name, places, changed in rows:
                 with self.subTest(name):
                     data = bytearray(whole)
                     for at in places:

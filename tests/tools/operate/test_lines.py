@@ -59,24 +59,24 @@ VALUES = [
 
 
 class Lines(unittest.TestCase):
-    def test_values_are_left_out(self):
+    def test_values_are_left_out(self) -> None:
         for text, shown in VALUES:
             with self.subTest(text):
                 self.assertEqual(without_value(text.encode()), shown.encode())
 
-    def test_rows(self):
+    def test_rows(self) -> None:
         for text, line in ROWS:
             with self.subTest(text):
                 self.assertEqual(parse(text.encode()), line)
 
-    def test_pieces_of_any_length(self):
+    def test_pieces_of_any_length(self) -> None:
         text = b"commit 0 op 1\nreply 0\n\nstart 1 view 2"
         for length in range(1, len(text) + 1):
             splitter = Splitter()
             lines = [line for at in range(0, len(text), length) for line in splitter.take(text[at:at + length])]
             self.assertEqual((lines, splitter.end()), ([b"commit 0 op 1", b"reply 0", b""], b"start 1 view 2"), length)
 
-    def test_a_line_that_never_ends_is_given_up(self):
+    def test_a_line_that_never_ends_is_given_up(self) -> None:
         splitter = Splitter()
         for _ in range(1000):
             self.assertEqual(list(splitter.take(b"x" * 1000)), [])

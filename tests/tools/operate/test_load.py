@@ -1,19 +1,20 @@
 """Which answers one register can give."""
 
 import unittest
+from typing import Dict, List, Optional
 
 from tests.group.load import Asked, first_fault, NEVER
 
 
-def put(value, begun, ended):
+def put(value: str, begun: float, ended: float) -> Asked:
     return Asked(True, "k", value, begun, ended)
 
 
-def got(value, begun, ended):
+def got(value: Optional[str], begun: float, ended: float) -> Asked:
     return Asked(False, "k", value, begun, ended)
 
 
-RIGHT = {
+RIGHT: Dict[str, List[Asked]] = {
     "nothing": [],
     "absent before the first put": [got(None, 0, 1), put("a", 2, 3), got("a", 4, 5)],
     "absent while the first put is under way": [put("a", 0, 5), got("a", 1, 2), got("a", 3, 4)],
@@ -37,13 +38,13 @@ WRONG = {
 
 
 class Register(unittest.TestCase):
-    def test_right(self):
+    def test_right(self) -> None:
         for name, history in RIGHT.items():
             with self.subTest(name):
                 self.assertIsNone(first_fault(history))
                 self.assertIsNone(first_fault(reversed(history)))
 
-    def test_wrong(self):
+    def test_wrong(self) -> None:
         for name, history in WRONG.items():
             with self.subTest(name):
                 self.assertIsNotNone(first_fault(history))

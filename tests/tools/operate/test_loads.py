@@ -73,20 +73,20 @@ class Loads(unittest.TestCase):
         self.addCleanup(made.replay.end)
         return made
 
-    def test_a_plain_loop_leaves_one_copy(self):
+    def test_a_plain_loop_leaves_one_copy(self) -> None:
         made = self.group()
         for member in (1, 2):
             made.restart(member)
             made.group.go_on(3)
-            self.assertEqual(made.health(member)["state"], "follows")
+            self.assertEqual((made.health(member) or {}).get("state"), "follows")
         self.assertEqual(made.answers_without(0), 0)
 
-    def test_a_roll_that_holds_the_clients_leaves_three(self):
+    def test_a_roll_that_holds_the_clients_leaves_three(self) -> None:
         made = self.group()
         rolling.roll(made.hands(True), [0, 1, 2], self.BOUNDS, [1, 2])
         self.assertGreater(made.answers_without(0), 50)
 
-    def test_a_roll_without_a_hold_stops_before_the_next(self):
+    def test_a_roll_without_a_hold_stops_before_the_next(self) -> None:
         made = self.group()
         with self.assertRaisesRegex(rolling.Stopped, "hold the clients back"):
             rolling.roll(made.hands(False), [0, 1, 2], self.BOUNDS, [1, 2])

@@ -13,7 +13,7 @@ import time
 import unittest
 import urllib.error
 import urllib.request
-from typing import Dict, Set
+from typing import Dict, List, Set
 
 from nozhgiva_tools.operate import metrics
 from nozhgiva_tools.places import TOP
@@ -48,9 +48,9 @@ class Metrics(Keeping):
 
     def get(self, port: str, path: str = "/metrics") -> str:
         with urllib.request.urlopen(f"http://{port}{path}", timeout=30) as answer:
-            return answer.read().decode()
+            return str(answer.read(), "utf-8")
 
-    def test_what_a_member_did(self):
+    def test_what_a_member_did(self) -> None:
         port = free_addresses(1)[0]
         with tempfile.TemporaryDirectory(prefix="vr-metrics-") as folder:
             file = os.path.join(folder, "vr.prom")
@@ -75,19 +75,22 @@ class Metrics(Keeping):
             os.kill(kept.member(), signal.SIGKILL)
             self.assertTrue(kept.until(lambda: read(self.get(port)).get('member_ends_total code="signal_9"') == "1"))
 
-    def test_what_its_file_is(self):
+    def test_what_its_file_is(self) -> None:
         """Once it was looked at, and once it is gone."""
         port = free_addresses(1)[0]
         kept = self.kept_at(port)
 
         def is_told(**values: str) -> bool:
-            return kept.until(lambda: kept.ask("health") and values.items() <= {name.replace(" trouble=", "_").replace('"', ""): value for name, value in read(self.get(port)).items()}.items(), 40)
+            def told() -> Dict[str, str]:
+                return {name.replace(" trouble=", "_").replace('"', ""): value for name, value in read(self.get(port)).items()}
+
+            return kept.until(lambda: bool(kept.ask("health")) and values.items() <= told().items(), 40)
 
         self.assertTrue(is_told(member_has_state="1", member_trouble_no_file="0", group_members="2"))
         os.unlink(kept.file)
         self.assertTrue(is_told(member_has_state="0", member_trouble_no_file="1"))
 
-    def test_the_file_of_a_member_that_asks_for_blocks_is_looked_at_soon(self):
+    def test_the_file_of_a_member_that_asks_for_blocks_is_looked_at_soon(self) -> None:
         """Within some seconds, and not only within a minute, though nobody asks for its health; and though what it asks for is nothing that it lacks."""
         port = free_addresses(1)[0]
         kept = self.keep("say start 0 view 0 log_view 0 commit 0\nwait 7\nbeat 90 send 1 0 1 get_block 4", "--metrics", port, "--patience", "0")
@@ -97,14 +100,14 @@ class Metrics(Keeping):
         self.assertTrue(kept.until(lambda: read(self.get(port))['member_trouble trouble="no_file"'] == "1", 25))
 
     @unittest.skipUnless(shutil.which("promtool"), "no promtool (Debian's prometheus)")
-    def test_the_format(self):
+    def test_the_format(self) -> None:
         port = free_addresses(1)[0]
         self.kept_at(port)
         text = self.get(port)
         made = subprocess.run(["promtool", "check", "metrics"], input=text, capture_output=True, text=True)
         self.assertEqual((made.returncode, made.stdout, made.stderr), (0, "", ""))
 
-    def test_other_paths_and_words(self):
+    def test_other_paths_and_words(self) -> None:
         port = free_addresses(1)[0]
         self.kept_at(port)
         for path in ("/", "/metrics/x", "/restart"):
@@ -115,7 +118,7 @@ class Metrics(Keeping):
                 one.sendall(asked)
                 self.assertTrue(one.recv(1000).startswith(front), asked)
 
-    def test_strangers_keep_nobody_out_and_the_member_is_heard(self):
+    def test_strangers_keep_nobody_out_and_the_member_is_heard(self) -> None:
         """Half a request, no request, one without end, a reader that never reads: two hundred of them."""
         port = free_addresses(1)[0]
         kept = self.kept_at(port)
@@ -133,7 +136,7 @@ class Metrics(Keeping):
         self.assertTrue(kept.until(lambda: int(read(self.get(port))["lines_total"]) > before + 5))
         self.assertIn("restarts=0", kept.ask("health"))
 
-    def test_a_port_that_is_taken_holds_nobody_up(self):
+    def test_a_port_that_is_taken_holds_nobody_up(self) -> None:
         with socket.create_server(("127.0.0.1", 0)) as taken:
             kept = self.keep(PLAN, "--metrics", f"127.0.0.1:{taken.getsockname()[1]}")
             self.assertTrue(kept.until(lambda: "view=5" in kept.ask("health")))
@@ -145,11 +148,11 @@ def names_in(text: str) -> Set[str]:
 
 
 class Rules(unittest.TestCase):
-    def expressions(self) -> list:
+    def expressions(self) -> List[str]:
         with open(os.path.join(FILES, "dashboard.json")) as file:
             return [target["expr"] for panel in json.load(file)["panels"] for target in panel["targets"]]
 
-    def test_the_names_are_those_that_are_told(self):
+    def test_the_names_are_those_that_are_told(self) -> None:
         with open(TOP / "tools/nozhgiva_tools/operate/metrics.py") as file:
             told = set(re.findall(r'(?:one|by_label|Metric)\("(\w+)", "(?:gauge|counter)"', file.read()))
         with open(os.path.join(FILES, "alerts.yml")) as file:
@@ -158,21 +161,21 @@ class Rules(unittest.TestCase):
         self.assertGreater(len(told), 25)
         self.assertEqual(set(metrics.REPLIES.values()), {"answered", "busy", "redirected", "old", "gap", "evicted"})
 
-    def test_each_alert_has_a_test(self):
+    def test_each_alert_has_a_test(self) -> None:
         with open(os.path.join(FILES, "alerts.yml")) as rules, open(os.path.join(FILES, "alerts-test.yml")) as tests:
             alerts, tested = re.findall(r"- alert: (\w+)", rules.read()), tests.read()
         for alert in alerts:
             self.assertGreaterEqual(tested.count(f"alertname: {alert}\n"), 2, alert)
 
     @unittest.skipUnless(shutil.which("promtool"), "no promtool (Debian's prometheus)")
-    def test_the_alerts_fire(self):
+    def test_the_alerts_fire(self) -> None:
         made = subprocess.run(["promtool", "test", "rules", "alerts-test.yml"], cwd=FILES, capture_output=True, text=True)
         self.assertEqual(made.returncode, 0, made.stdout + made.stderr)
         made = subprocess.run(["promtool", "check", "config", "--syntax-only", "prometheus.yml"], cwd=FILES, capture_output=True, text=True)
         self.assertEqual(made.returncode, 0, made.stdout + made.stderr)
 
     @unittest.skipUnless(shutil.which("promtool"), "no promtool (Debian's prometheus)")
-    def test_the_dashboards_questions_are_ones(self):
+    def test_the_dashboards_questions_are_ones(self) -> None:
         with tempfile.NamedTemporaryFile("w", suffix=".yml") as file:
             rules = [{"record": f"panel:{number}", "expr": text.replace("$group", "5")} for number, text in enumerate(self.expressions())]
             json.dump({"groups": [{"name": "dashboard", "rules": rules}]}, file)
@@ -180,5 +183,5 @@ class Rules(unittest.TestCase):
             made = subprocess.run(["promtool", "check", "rules", "--lint=none", file.name], capture_output=True, text=True)
         self.assertEqual(made.returncode, 0, made.stdout + made.stderr)
 
-    def test_files(self):
-        self.assertEqual(sorted(map(os.path.basename, glob.glob(os.path.join(FILES, "*")))), ["alerts-test.yml", "alerts.yml", "dashboard.json", "prometheus.yml"])
+    def test_files(self) -> None:
+        self.assertEqual(sorted(os.path.basename(path) for path in glob.glob(os.path.join(FILES, "*"))), ["alerts-test.yml", "alerts.yml", "dashboard.json", "prometheus.yml"])

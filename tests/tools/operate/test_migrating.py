@@ -5,7 +5,7 @@ import os
 import subprocess
 import time
 import unittest
-from typing import Any, Callable, Dict, List, Optional, Set
+from typing import Callable, Dict, List, Optional, Set, TypeVar
 
 from nozhgiva_tools.operate import migrate_group as script
 from nozhgiva_tools.operate.migrating import File, HANDOVER, Hands, Walk
@@ -17,6 +17,7 @@ from nozhgiva_tools.told import datafile
 from tests.group.commanded import Commands
 
 HERE = str(OPERATE)
+Answer = TypeVar("Answer")
 
 
 class Killed(Exception):
@@ -46,15 +47,23 @@ class Played:
 
     def leads(self) -> Optional[int]:
         running = [member for member in range(self.size) if self.since[member] is not None and self.version[member] == self.answers()]
-        return self.leader if self.leader in running else min(running, default=None)
+        if self.leader in running:
+            return self.leader
+        return min(running, default=None)
 
     def health(self, member: int) -> Optional[Dict[str, str]]:
-        if self.since[member] is None:
+        since = self.since[member]
+        if since is None:
             return None
-        is_in = self.version[member] == self.answers() and self.now - self.since[member] >= self.rising
+        is_in = self.version[member] == self.answers() and self.now - since >= self.rising
         state = "changes" if not is_in else "leads" if member == self.leads() else "follows"
         return {"member": str(member), "well": "yes" if is_in else "changes", "state": state, "applied": "100", "commit": "100", "asks": "-", "mends": "-", "unsure": "0",
-                "up": f"{self.now - self.since[member]:.1f}"}
+                "up": f"{self.now - since:.1f}"}
+
+    def states(self) -> List[str]:
+        """Those of the members that run."""
+        told = [self.health(member) for member in range(self.size)]
+        return [line["state"] for line in told if line is not None]
 
     def stop(self, member: int) -> None:
         self.done.append(f"stop {member}")
@@ -76,9 +85,9 @@ class Played:
         self.now += seconds
         self.silent += seconds * (self.answers() is None)
 
-    def step(self, what: Callable[[int], Any]) -> Callable[[int], Any]:
+    def step(self, what: Callable[[int], Answer]) -> Callable[[int], Answer]:
         """What ends the walk where it is to be killed."""
-        def made(member: int) -> Any:
+        def made(member: int) -> Answer:
             if self.steps is not None and len(self.done) >= self.steps:
                 raise Killed
             return what(member)
@@ -103,7 +112,7 @@ def one(member: int) -> List[str]:
 
 
 class Walking(unittest.TestCase):
-    def test_one_after_the_other_and_who_leads_last(self):
+    def test_one_after_the_other_and_who_leads_last(self) -> None:
         for size in (3, 4, 5, 6):
             for leader in (0, size - 1):
                 with self.subTest((size, leader)):
@@ -113,10 +122,10 @@ class Walking(unittest.TestCase):
                     self.assertEqual(played.silent, 0)
                     self.assertEqual(played.walk(), [])
 
-    def test_a_group_of_two_is_moved_at_once(self):
+    def test_a_group_of_two_is_moved_at_once(self) -> None:
         self.assertEqual(Played(2).walk(), ["stop 1", "stop 0", "move 1", "move 0", "start 1", "start 0"])
 
-    def test_what_was_broken_off_goes_on(self):
+    def test_what_was_broken_off_goes_on(self) -> None:
         played = Played(3)
         played.codes[1] = 7
         self.assertRegex(played.walk()[-1], "member 1: migrate ended with 7")
@@ -124,7 +133,7 @@ class Walking(unittest.TestCase):
         played.since[1] = played.now
         self.assertEqual(played.walk(), one(1) + one(2) + one(0))
 
-    def test_killed_after_a_stop_before_a_move(self):
+    def test_killed_after_a_stop_before_a_move(self) -> None:
         """Whoever isn't moved and has no keeper is started first; the walk is as ever then."""
         for size in (2, 3, 4, 5, 6):
             for member in range(size):
@@ -135,7 +144,7 @@ class Walking(unittest.TestCase):
                     self.assertEqual((done[0], sorted(step for step in done if step.startswith("move"))), (f"start {member}", [f"move {other}" for other in range(size)]))
                     self.assertNotIn(None, played.since.values())
 
-    def test_killed_after_any_step(self):
+    def test_killed_after_any_step(self) -> None:
         """However many steps were made of a walk, and wherever one is killed that is run again, what is run in the end ends well."""
         for size in (2, 3, 4, 5, 6):
             steps = len(Played(size).walk())
@@ -148,7 +157,7 @@ class Walking(unittest.TestCase):
                         self.assertFalse([step for step in played.walk() if step.split()[0] not in ("start", "stop", "move")])
                         self.assertEqual((set(played.version.values()), None in played.since.values()), ({2}, False))
 
-    def test_killed_after_its_last_start(self):
+    def test_killed_after_its_last_start(self) -> None:
         """Run again it waits until the member that was started last is where it should be."""
         for size in (2, 3, 6):
             with self.subTest(size):
@@ -157,11 +166,11 @@ class Walking(unittest.TestCase):
                 played.walk(steps=steps - 1)
                 played.start(0)
                 played.rising = 3.0
-                self.assertIn("changes", [played.health(member)["state"] for member in range(size)])
+                self.assertIn("changes", played.states())
                 self.assertEqual(played.walk(), [])
-                self.assertNotIn("changes", [played.health(member)["state"] for member in range(size)])
+                self.assertEqual((len(played.states()), "changes" in played.states()), (size, False))
 
-    def test_a_member_that_lost_something_stops_it_before_the_handover(self):
+    def test_a_member_that_lost_something_stops_it_before_the_handover(self) -> None:
         played = Played(3)
         played.loses[1] = {"operation 97"}
         done = played.walk()
@@ -171,7 +180,7 @@ class Walking(unittest.TestCase):
         self.assertEqual(played.walk()[:-1], [])
         self.assertEqual(played.walk(1), ["stop 2", "move 2", "start 1", "start 2"] + one(0))
 
-    def test_one_that_lost_something_at_the_handover_is_not_started_before_all_are_moved(self):
+    def test_one_that_lost_something_at_the_handover_is_not_started_before_all_are_moved(self) -> None:
         played = Played(3)
         played.loses[2] = {"operation 97"}
         done = played.walk()
@@ -183,19 +192,19 @@ class Walking(unittest.TestCase):
         self.assertGreater(min(i for i, step in enumerate(done) if step.startswith("start")), done.index("move 0"))
         self.assertEqual(played.answers(), 2)
 
-    def test_damage_that_is_there_before(self):
+    def test_damage_that_is_there_before(self) -> None:
         played = Played(3)
         played.lost[2] = {"operation 5"}
         self.assertRegex(played.walk()[0], "member 2's file has damage .operation 5.. Wait until it is mended")
 
-    def test_handovers_as_the_page_has_them(self):
+    def test_handovers_as_the_page_has_them(self) -> None:
         with open(DOCS / "NODE.md") as file:
             rows = [line.split("|") for line in file if line.startswith(("| 3 |", "| 4 |", "| 5 |", "| 6 |")) and "the " in line.split("|")[3]]
         self.assertEqual({int(row[1]): int(row[3].split()[1][0]) for row in rows}, {size: move for size, move in HANDOVER.items() if size > 2})
 
 
 class Lock(unittest.TestCase):
-    def test_a_walk_waits_for_the_commands_of_one_that_was_killed(self):
+    def test_a_walk_waits_for_the_commands_of_one_that_was_killed(self) -> None:
         words = argparse.Namespace(cluster=CLUSTER, stop=f"stop {os.getpid()}", start="start", migrate="move")
         path = script.lock_path(words)
         self.assertNotEqual(path, script.lock_path(argparse.Namespace(**dict(vars(words), stop="stop"))))
@@ -237,7 +246,7 @@ class Real(unittest.TestCase):
         self.addCleanup(commands.stop_all)
         return commands.words()
 
-    def test_a_group_whose_first_member_loses_an_entry_in_its_move(self):
+    def test_a_group_whose_first_member_loses_an_entry_in_its_move(self) -> None:
         group = Group(3, Net(3))
         self.addCleanup(group.end)
         words = self.begin(group)
@@ -259,6 +268,6 @@ class Real(unittest.TestCase):
         self.assertEqual(moved.returncode, 0, moved.stdout + moved.stderr)
         self.assertEqual(self.ask(group, "get k1\nget k7\n", "--v2"), "value v1\nvalue v7\n")
 
-    def test_walks_that_are_killed_are_run_again(self):
+    def test_walks_that_are_killed_are_run_again(self) -> None:
         made = subprocess.run(words_of_module("tests.group.killed", "--short"), capture_output=True, text=True, env=dict(os.environ, NOZHGIVA_PROGRAM=program.PATH))
         self.assertEqual(made.returncode, 0, made.stdout + made.stderr)

@@ -14,11 +14,11 @@ from nozhgiva_tools.operate.noting import Note
 from nozhgiva_tools.places import DOCS
 from nozhgiva_tools.run import built as program
 from nozhgiva_tools.run.ports import free_addresses
+from nozhgiva_tools.run.real import CLUSTER, Group, Net
 from nozhgiva_tools.told import datafile
 
 from .files import fresh
 from .test_keep import HERE, Keeping, Kept
-from .test_status import CLUSTER, Group, Net
 
 START = "say start 0 view 0 log_view 0 commit 0"
 APPLIED = "say commit 0 op 9 view 0 client 7 request 1 put a"
@@ -49,7 +49,7 @@ class Played(Keeping):
         kept = Kept(f"{START}\nstand", begins=False)
         self.addCleanup(kept.end)
         self.put(kept, sequence)
-        kept.child = kept.begin()
+        kept.begun = kept.begin()
         return kept
 
     def put(self, kept: Kept, sequence: int) -> None:
@@ -60,8 +60,8 @@ class Played(Keeping):
         """Ends the keeper, and starts it anew."""
         kept.child.terminate()
         kept.child.communicate(timeout=30)
-        kept.child = kept.begin()
-        return kept.child
+        kept.begun = kept.begin()
+        return kept.begun
 
     def test_an_older_file_is_refused_and_a_later_one_is_not(self) -> None:
         kept = self.kept_on(7)
@@ -71,13 +71,13 @@ class Played(Keeping):
         kept.child.terminate()
         kept.child.communicate(timeout=30)
         self.put(kept, 6)
-        kept.child = kept.begin()
+        kept.begun = kept.begin()
         said = kept.child.communicate(timeout=30)[1]
         self.assertEqual((kept.child.returncode, kept.starts()), (endings.OLDER, 2))
         self.assertIn(OLDER, said)
         self.assertIn("its superblock is of sequence 6, and was of 7", said)
         self.put(kept, 8)
-        kept.child = kept.begin()
+        kept.begun = kept.begin()
         self.assertTrue(kept.until(lambda: kept.starts() == 3))
 
     def test_what_was_seen_last_is_noted_at_the_end(self) -> None:
@@ -93,11 +93,11 @@ class Played(Keeping):
         kept = Kept(f"{START}\nwait 5\nexit 0", "--pause", "8", begins=False)
         self.addCleanup(kept.end)
         self.put(kept, 7)
-        kept.child = kept.begin()
+        kept.begun = kept.begin()
         self.assertTrue(kept.until(lambda: "sequence 7 head 0" in kept.lock()))
         self.assertTrue(kept.until(lambda: "state=down" in kept.ask("health")))
         self.put(kept, 6)
-        self.assertTrue(kept.until(lambda: [kept.ask("health")] and kept.child.poll() is not None, 30))
+        self.assertTrue(kept.until(lambda: bool([kept.ask("health")]) and kept.child.poll() is not None, 30))
         self.assertEqual((kept.child.returncode, kept.starts()), (endings.OLDER, 1))
 
     def test_the_file_of_another_group_is_no_older_one(self) -> None:
@@ -113,7 +113,7 @@ class Played(Keeping):
         kept = Kept(f"{START}\nwait 2\nexit 7", begins=False)
         self.addCleanup(kept.end)
         self.put(kept, 7)
-        kept.child = kept.begin()
+        kept.begun = kept.begin()
         self.assertEqual(kept.child.wait(30), 7)
         self.assertNotIn("sequence", kept.lock())
 
@@ -133,7 +133,7 @@ class Contradictions(Keeping):
                 self.assertTrue(kept.until(lambda: "op 9 as " in kept.lock()))
                 kept.child.terminate()
                 kept.child.communicate(timeout=30)
-                kept.child = kept.begin()
+                kept.begun = kept.begin()
                 self.assertTrue(kept.until(lambda: kept.starts() == 2 and "applied=9 " in kept.ask("health")))
                 self.assertEqual("well=corrupt " in kept.ask("health"), is_told)
 

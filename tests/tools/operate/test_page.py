@@ -30,6 +30,7 @@ class Page(Keeping):
         port = free_addresses(1)[0]
         words = [os.path.join(HERE, "status"), "5", *free_addresses(3), "--sockets", sockets, "--page", port]
         child = subprocess.Popen(words, stdout=subprocess.PIPE, text=True)
+        assert child.stdout is not None
         self.addCleanup(child.stdout.close)
         self.addCleanup(child.wait)
         self.addCleanup(child.kill)
@@ -44,7 +45,7 @@ class Page(Keeping):
             self.assertRaises(urllib.error.HTTPError, urllib.request.urlopen, f"http://{port}{path}", timeout=30)
 
     @unittest.skipUnless(find_browser(), "no Chromium")
-    def test_what_it_shows(self):
+    def test_what_it_shows(self) -> None:
         port = self.serve()
         self.check_served(port)
         browser = Browser()

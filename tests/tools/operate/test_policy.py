@@ -1,9 +1,9 @@
 """Who is restarted, and who is never touched: by lines and times alone."""
 
 import unittest
-from typing import Iterator, List, Optional, Tuple
+from typing import Callable, Dict, Iterable, Iterator, List, Optional, Tuple
 
-from nozhgiva_tools.operate.policy import GAP, GROWTH, Policy
+from nozhgiva_tools.operate.policy import GAP, GROWTH, Policy, Seen
 from nozhgiva_tools.told.lines import parse
 
 Timed = Tuple[float, str]
@@ -18,7 +18,7 @@ def each_tick(begin: float, end: float, *lines: str) -> Iterator[Timed]:
             yield number / 10, line.format(n=number)
 
 
-def merged(*parts) -> List[Timed]:
+def merged(*parts: Iterable[Timed]) -> List[Timed]:
     return sorted((timed for part in parts for timed in part), key=lambda timed: timed[0])
 
 
@@ -31,7 +31,7 @@ APPLIED = "commit 0 op {} view 0 client 1 request 1 put a b"
 ASK = "send 3 0 1 get_prepare op {} made 0"
 BLOCK = "send 3 0 1 get_block {}"
 
-UNTOUCHED = {
+UNTOUCHED: Dict[str, Iterable[Timed]] = {
     "an idle primary": merged(START, beats(0, LONG, 7, 7)),
     "an idle backup: no lines at all": START,
     "a busy primary: always some wait, and the commit number rises": merged(START, beats(0, LONG, "1{n}", "{n}"), each_tick(0, LONG, "reply 0 client 1 request {n} busy")),
@@ -66,30 +66,30 @@ TOUCHED = {
 }
 
 
-def first_restart(lines: List[Timed], draw: float = 0.0) -> Tuple[Optional[float], Optional[str]]:
+def first_restart(lines: Iterable[Timed], draw: float = 0.0) -> Optional[Tuple[float, str]]:
+    """When a restart is asked for first, and why."""
     policy = Policy(PATIENCE, lambda: draw)
     for now, text in lines:
         reason = policy.hear(now, parse(text.encode()))
         if reason is not None:
             return now, reason
-    return None, None
+    return None
 
 
 class Table(unittest.TestCase):
-    def test_untouched(self):
+    def test_untouched(self) -> None:
         for name, lines in UNTOUCHED.items():
             with self.subTest(name):
-                self.assertEqual(first_restart(lines), (None, None))
+                self.assertIsNone(first_restart(lines))
 
-    def test_touched(self):
+    def test_touched(self) -> None:
         for name, (lines, at, what) in TOUCHED.items():
             with self.subTest(name):
-                now, reason = first_restart(lines)
-                self.assertIsNotNone(now)
+                now, reason = first_restart(lines) or (0.0, "none")
                 self.assertAlmostEqual(now, at, delta=0.3)
                 self.assertIn(what, reason)
 
-    def test_never_with_no_patience(self):
+    def test_never_with_no_patience(self) -> None:
         for name, (lines, _, _) in TOUCHED.items():
             with self.subTest(name):
                 policy = Policy(0, lambda: 0.0)
@@ -99,14 +99,14 @@ class Table(unittest.TestCase):
 class Growing(unittest.TestCase):
     """A restart that doesn't help is asked for later and later."""
 
-    def restarts(self, lines: List[Timed], draw=lambda: 0.0) -> List[float]:
+    def restarts(self, lines: List[Timed], draw: Callable[[], float] = lambda: 0.0) -> List[float]:
         policy, times = Policy(PATIENCE, draw), []
         for now, text in lines:
             if policy.hear(now, parse(text.encode())) is not None:
                 times.append(now)
         return times
 
-    def test_it_doubles_up_to_a_bound(self):
+    def test_it_doubles_up_to_a_bound(self) -> None:
         times = self.restarts(merged(START, beats(0, 2500, 9, 7)))
         gaps = [after - before for before, after in zip([0.0] + times, times)]
         patiences = [5, 10, 20, 40, 80, 160, 320, 320, 320, 320, 320, 320]
@@ -115,11 +115,11 @@ class Growing(unittest.TestCase):
             self.assertAlmostEqual(gap, patience, delta=1)
         self.assertEqual(GROWTH, 64)
 
-    def test_it_goes_back_after_a_long_time_of_going_on(self):
+    def test_it_goes_back_after_a_long_time_of_going_on(self) -> None:
         times = self.restarts(merged(START, beats(0, 6, 9, 7), beats(6, 200, "1{n}", "{n}"), beats(200, 230, 99999, 1999)))
         self.assertEqual([round(time) for time in times], [5, 205, 215])
 
-    def test_two_by_chance_apart(self):
+    def test_two_by_chance_apart(self) -> None:
         lines = merged(START, beats(0, 600, 9, 7))
         one, other = iter([0.1, 0.9, 0.2, 0.8] * 9), iter([0.7, 0.3, 0.6, 0.1] * 9)
         for a, b in zip(self.restarts(lines, lambda: next(one)), self.restarts(lines, lambda: next(other))):
@@ -129,26 +129,27 @@ class Growing(unittest.TestCase):
 class Knowing(unittest.TestCase):
     """What is told of a member by its health."""
 
-    def seen(self, *lines: Timed):
+    def seen(self, *lines: Timed) -> Seen:
         policy = Policy(PATIENCE, lambda: 0.0)
         for now, text in lines:
             policy.hear(now, parse(text.encode()))
         return policy.seen
 
-    def test_how_far_it_has_applied(self):
+    def test_how_far_it_has_applied(self) -> None:
         start = (0.0, "start 0 view 0 log_view 0 commit 64")
-        for lines, op in [
+        rows: List[Tuple[List[Timed], int]] = [
             ([start], 64),
             ([start, (0.1, BLOCK.format(0))], 0),
             ([start, (0.1, BLOCK.format(0)), (0.2, BLOCK.format(1)), (0.4, APPLIED.format(70))], 70),
             ([start, (0.1, APPLIED.format(65)), (20.0, BLOCK.format(3))], 65),
             ([start, (0.1, APPLIED.format(65)), (0.2, "send 4 0 1 get_sync view 0"), (0.5, BLOCK.format(0))], 0),
             ([], 0),
-        ]:
+        ]
+        for lines, op in rows:
             with self.subTest(str(lines)):
                 self.assertEqual(self.seen(*lines).caught_up_to(), op)
 
-    def test_what_it_waits_for_and_what_it_mends(self):
+    def test_what_it_waits_for_and_what_it_mends(self) -> None:
         applied, block, entry = (0.1, APPLIED.format(65)), ("get_block", "3"), ("get_prepare", "op", "60", "made", "0")
         for lines, now, waits, mends in [
             ([applied, (20.0, BLOCK.format(3))], 20.5, None, block),

@@ -29,7 +29,7 @@ class Real(unittest.TestCase):
             self.assertLess(time.monotonic(), end)
             time.sleep(0.1)
 
-    def test_two_members_whose_files_cant_tell_of_a_slot(self):
+    def test_two_members_whose_files_cant_tell_of_a_slot(self) -> None:
         """Each alone denies nothing of it; once its slots are written anew the group goes on without the member that led."""
         group = Group(3, Net(3), options=("--patience", "60", "--renew", "0.02"))
         self.addCleanup(group.end)
@@ -51,7 +51,7 @@ class Real(unittest.TestCase):
         group.stop(group.await_leader(120))
         self.assertEqual(self.ask(group, "get color\n"), "value green\n")
 
-    def test_a_group_of_one(self):
+    def test_a_group_of_one(self) -> None:
         with tempfile.TemporaryDirectory(prefix="vr-one-") as folder:
             path, address = os.path.join(folder, "0"), Net(1).hosts[0]
             words = ["--program", program.PATH, str(CLUSTER), "0", path, address]
@@ -68,7 +68,7 @@ class Real(unittest.TestCase):
             child.terminate()
             self.assertEqual(child.wait(30), 0)
 
-    def test_a_kill_and_a_roll(self):
+    def test_a_kill_and_a_roll(self) -> None:
         group = Group(3, Net(3), options=("--patience", "60"))
         self.addCleanup(group.end)
         group.start_all()

@@ -5,6 +5,7 @@ import os
 import subprocess
 import tempfile
 import unittest
+from typing import List, Tuple
 
 from nozhgiva_tools.places import OPERATE
 
@@ -12,13 +13,13 @@ HERE = str(OPERATE)
 UNREAD = 141
 
 
-def scripts() -> list:
+def scripts() -> List[str]:
     """All that a person runs."""
     paths = [path for path in glob.glob(os.path.join(HERE, "*"))]
     return sorted(path for path in paths if os.path.isfile(path) and os.access(path, os.X_OK))
 
 
-def run_unread(words: list) -> tuple:
+def run_unread(words: List[str]) -> Tuple[int, str]:
     """How it ends where nobody reads its output: its code, and what it says."""
     reader, writer = os.pipe()
     os.close(reader)
@@ -28,7 +29,7 @@ def run_unread(words: list) -> tuple:
 
 
 class Scripts(unittest.TestCase):
-    def test_help_and_wrong_words(self):
+    def test_help_and_wrong_words(self) -> None:
         self.assertGreater(len(scripts()), 10)
         for path in scripts():
             with self.subTest(os.path.relpath(path, HERE)):
@@ -39,7 +40,7 @@ class Scripts(unittest.TestCase):
                 self.assertEqual(made.returncode, 2, made.stderr)
                 self.assertNotIn("Traceback", made.stderr)
 
-    def test_a_reader_that_has_gone(self):
+    def test_a_reader_that_has_gone(self) -> None:
         with tempfile.NamedTemporaryFile() as file:
             file.write(bytes(10_000))
             file.flush()
@@ -55,7 +56,7 @@ class Scripts(unittest.TestCase):
 
 
 class Unit(unittest.TestCase):
-    def test_the_sample_of_the_groups_file_is_read_by_a_shell(self):
+    def test_the_sample_of_the_groups_file_is_read_by_a_shell(self) -> None:
         with open(os.path.join(HERE, "..", "packaging", "nozhgiva@.service")) as file:
             lines = [line[4:] for line in file if line.startswith(("#   CLUSTER=", "#   ADDRS="))]
         self.assertEqual(len(lines), 2)
@@ -65,7 +66,7 @@ class Unit(unittest.TestCase):
             made = subprocess.run(["sh", "-c", '. "$1"; set -- $CLUSTER $ADDRS; echo $# $1 $4', "sh", sample.name], capture_output=True, text=True)
         self.assertEqual((made.stdout, made.stderr), ("4 5 10.0.0.3:4000\n", ""))
 
-    def test_a_reload_opens_the_log_anew_and_no_start_makes_a_member(self):
+    def test_a_reload_opens_the_log_anew_and_no_start_makes_a_member(self) -> None:
         with open(os.path.join(HERE, "..", "packaging", "nozhgiva@.service")) as file:
             words = [line.strip() for line in file if not line.startswith("#")]
         self.assertIn("ExecReload=kill -HUP $MAINPID", words)

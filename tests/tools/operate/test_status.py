@@ -7,10 +7,10 @@ import socket
 import subprocess
 import time
 import unittest
-from typing import Callable, Optional, Tuple
+from typing import Callable, Dict, Optional, Tuple
 
 from nozhgiva_tools.operate import asking
-from nozhgiva_tools.operate.judging import AILS, as_json, CORRUPT, judge, Known, SILENT, UNKNOWN, WELL
+from nozhgiva_tools.operate.judging import AILS, as_json, CORRUPT, GroupTold, judge, Known, SILENT, UNKNOWN, WELL
 from nozhgiva_tools.operate.probing import Reply
 from nozhgiva_tools.operate.telling import stop_lines, table
 from nozhgiva_tools.places import OPERATE
@@ -21,7 +21,7 @@ from nozhgiva_tools.run.real import CLUSTER, Group, Net
 HERE = str(OPERATE)
 
 
-def line(member: int, state: str, view: int = 3, **more: str) -> dict:
+def line(member: int, state: str, view: int = 3, **more: str) -> Dict[str, str]:
     told = {"member": str(member), "well": "yes", "state": state, "view": str(view), "applied": "40", "commit": "40", "stands": "0.0", "up": "9.0", "unsure": "0", "damaged": "0",
             "version": "1", "mode": "strict", "keys": "7", "sessions": "2", "restarts": "0", "ends": "0", "asks": "-", "mends": "-"}
     return dict(told, **more)
@@ -84,7 +84,7 @@ PROBED = [
 
 
 class Judging(unittest.TestCase):
-    def test_rows(self):
+    def test_rows(self) -> None:
         for has_keepers, rows in ((True, ROWS), (False, PROBED)):
             for name, members, code, leader in rows:
                 with self.subTest(name):
@@ -95,31 +95,31 @@ class Judging(unittest.TestCase):
                     self.assertEqual(len(table(told).splitlines()), 2 + len(verdict.why) + len(members) + len(stop_lines(told)))
                     json.dumps(told)
 
-    def test_without_keepers_nothing_is_said_of_the_commit_number(self):
+    def test_without_keepers_nothing_is_said_of_the_commit_number(self) -> None:
         for has_keepers, rows in ((True, ROWS[:1]), (False, PROBED[:1])):
             for _, members, _, _ in rows:
                 told = as_json(5, members, judge(members, has_keepers), has_keepers)
                 self.assertEqual((told["commit"], "; commit" in table(told).splitlines()[0]), (40 if has_keepers else None, has_keepers))
 
-    def test_no_member_of_a_corrupt_group_may_be_stopped(self):
+    def test_no_member_of_a_corrupt_group_may_be_stopped(self) -> None:
         members = [known(0, "leads", checkpoint="64", root="aa"), known(1, "follows", checkpoint="64", root="bb"), known(2, "follows", checkpoint="64", root="bb")]
         told = as_json(5, members, judge(members, True))
         self.assertEqual((told["code"], told["verdict"], told["why"][0]), (5, "corrupt", "member 0 and members 1, 2 hold different states of checkpoint 64"))
         self.assertEqual([(member["may_be_stopped"], member["why_not"][0]["name"]) for member in told["members"]], [(False, "corrupt")] * 3)
         self.assertTrue(table(told).startswith("group 5 IS CORRUPT"))
 
-    def test_how_far_one_is_behind(self):
+    def test_how_far_one_is_behind(self) -> None:
         members = [LEADS, known(1, "follows", applied="12"), known(2, "follows", applied="0")]
         self.assertEqual([member["behind"] for member in as_json(5, members, judge(members, True))["members"]], [0, 28, None])
 
 
 @unittest.skipUnless(program.is_there(), program.MISSING)
 class Real(unittest.TestCase):
-    def status(self, group: Group, *more: str, cluster: int = CLUSTER) -> Tuple[int, dict]:
+    def status(self, group: Group, *more: str, cluster: int = CLUSTER) -> Tuple[int, GroupTold]:
         made = subprocess.run([os.path.join(HERE, "status"), str(cluster)] + group.addresses + ["--json", *more], capture_output=True, text=True)
         return made.returncode, json.loads(made.stdout)
 
-    def until(self, code: int, group: Group, *more: str, what: Callable[[dict], bool] = lambda told: True) -> dict:
+    def until(self, code: int, group: Group, *more: str, what: Callable[[GroupTold], bool] = lambda told: True) -> GroupTold:
         """Looks until it ends with a code, and tells this."""
         end = time.monotonic() + 60
         while True:
@@ -128,7 +128,7 @@ class Real(unittest.TestCase):
                 return told
             self.assertLess(time.monotonic(), end, told)
 
-    def test_three_members_by_their_keepers_ports(self):
+    def test_three_members_by_their_keepers_ports(self) -> None:
         ports, group = free_addresses(3), Group(3, Net(3), options=("--patience", "60"))
         self.addCleanup(group.end)
         for member in range(3):
@@ -137,6 +137,7 @@ class Real(unittest.TestCase):
         group.await_leader(120)
         keepers = ("--keepers", ",".join(ports))
         told = self.until(WELL, group, *keepers)
+        assert told["leader"] is not None
         leader, follower = told["leader"], (told["leader"] + 1) % 3
         self.assertEqual([member["state"] for member in told["members"]].count("follows"), 2)
         told = self.until(WELL, group, *keepers, what=lambda told: all(member["may_be_stopped"] for member in told["members"]))
@@ -157,7 +158,7 @@ class Real(unittest.TestCase):
         told = self.until(SILENT, group, *keepers)
         self.assertIn("no process listens at its address", " ".join(told["why"]))
 
-    def test_strangers_at_the_port(self):
+    def test_strangers_at_the_port(self) -> None:
         """Who connects and is silent, reads slowly or sends garbage keeps nobody from an answer, and the answer is the same."""
         port, group = free_addresses(1)[0], Group(2, Net(2), "tcp:", ("--patience", "60"))
         self.addCleanup(group.end)
