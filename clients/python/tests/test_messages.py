@@ -3,9 +3,11 @@
 import random
 import subprocess
 import sys
+import types
 import unittest
 from pathlib import Path
 
+from nozhgiva import records
 from nozhgiva.asking import is_answer
 from nozhgiva.messages import (
     Delete, Fault, Get, HEADER, Header, LARGEST_VALUE, Outcome, OutcomeKind, Put, Refused, Register, Reply, ReplyKind, Request, decode,
@@ -175,6 +177,10 @@ class Faults(unittest.TestCase):
         for command in range(1, 20):
             if command not in (4, 5):
                 self.assertEqual(fault_of(sealed(header._replace(command=command), body)), Fault.OTHER_COMMAND)
+
+    def test_a_record_without_fields(self):
+        """As `Register`: in Python 3.9 such a class has no annotations, as what stands here has none."""
+        self.assertEqual(records._fields_of(types.SimpleNamespace()), {})
 
     def test_the_size_of_a_message_in_a_stream(self):
         data = PUT.encode()

@@ -36,7 +36,7 @@ class Field:
 def _fields_of(cls: Any) -> Dict[str, Field]:
     """The fields of a class that is to be one of records, by their names. A default stays as the class's own attribute."""
     fields = {}
-    for name in cls.__annotations__:
+    for name in getattr(cls, "__annotations__", ()):  # In Python 3.9 a class without any has none.
         given = cls.__dict__.get(name, MISSING)
         fields[name] = given if isinstance(given, Field) else Field(given)
         if given is not MISSING and fields[name].default is MISSING:
