@@ -8,10 +8,12 @@ import subprocess
 import time
 import unittest
 from typing import Callable, Dict, Optional, Tuple
+from unittest import mock
 
 from nozhgiva_tools.operate import asking
 from nozhgiva_tools.operate.judging import AILS, as_json, CORRUPT, GroupTold, judge, Known, SILENT, UNKNOWN, WELL
 from nozhgiva_tools.operate.probing import Reply
+from nozhgiva_tools.operate.surveying import Survey
 from nozhgiva_tools.operate.telling import stop_lines, table
 from nozhgiva_tools.places import OPERATE
 from nozhgiva_tools.run import built as program
@@ -107,6 +109,13 @@ class Judging(unittest.TestCase):
         self.assertEqual((told["code"], told["verdict"], told["why"][0]), (5, "corrupt", "member 0 and members 1, 2 hold different states of checkpoint 64"))
         self.assertEqual([(member["may_be_stopped"], member["why_not"][0]["name"]) for member in told["members"]], [(False, "corrupt")] * 3)
         self.assertTrue(table(told).startswith("group 5 IS CORRUPT"))
+
+    def test_why_no_keeper_answers(self) -> None:
+        """By the system's words, else by those of what went wrong; an answer of none is told too."""
+        for why, told in [(ConnectionRefusedError(111, "Connection refused"), "Connection refused"), (socket.timeout("timed out"), "timed out"), (OSError(), "nothing came")]:
+            lines: Dict[int, Tuple[Optional[Dict[str, str]], str]] = {}
+            Survey(5, [], None, 1.0).hear(0, mock.Mock(side_effect=why), lines)
+            self.assertEqual(lines, {0: (None, f"no keeper answers ({told})")})
 
     def test_how_far_one_is_behind(self) -> None:
         members = [LEADS, known(1, "follows", applied="12"), known(2, "follows", applied="0")]

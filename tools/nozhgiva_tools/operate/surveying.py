@@ -50,7 +50,7 @@ class Survey:
             line = health.read(one())
             lines[member] = (line, "") if line["member"] == str(member) else (None, f"its keeper's line is of member {line['member']}")
         except (OSError, ValueError, subprocess.TimeoutExpired) as why:
-            lines[member] = None, f"no keeper answers ({getattr(why, 'strerror', None) or why or 'nothing came'})"
+            lines[member] = None, f"no keeper answers ({getattr(why, 'strerror', None) or str(why) or 'nothing came'})"
 
     def known(self, member: int, lines: Dict[int, Tuple[Optional[Health], str]], probe: Probe) -> Known:
         line, fault = lines.get(member, (None, ""))
