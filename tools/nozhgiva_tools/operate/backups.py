@@ -164,9 +164,11 @@ KEY, VALUE = r"([!-~]{1,64})", r"([!-~]{1,3000})"
 
 
 def read_change(line: str) -> Tuple[int, Change]:
-    op, put, key, value, gone = taken(rf"uncommitted (\d+) (?:(put) {KEY} {VALUE}|del {KEY})", line)
-    change: Change = ("put", key, value) if put else ("del", gone)
-    return int(op), change
+    found = re.fullmatch(rf"uncommitted (\d+) put {KEY} {VALUE}", line)
+    if found is not None:
+        return int(found[1]), ("put", found[2], found[3])
+    op, key = taken(rf"uncommitted (\d+) del {KEY}", line)
+    return int(op), ("del", key)
 
 
 def read(text: bytes) -> Backup:

@@ -445,6 +445,7 @@ class Keeper:
 
     def read_lines(self, child: Child) -> None:
         """Takes what the member has written so far, at most PIECES pieces of it. One that closes its output and doesn't end is ended."""
+        piece: Optional[bytes] = None
         for _ in range(PIECES):
             piece = self.read(child.output)
             if not piece:
