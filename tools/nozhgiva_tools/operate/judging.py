@@ -316,6 +316,8 @@ LIMITS: Dict[str, Dict[str, int]] = {"1": {"sessions": 32, "keys": 128}, "2": {"
 
 
 class ReasonTold(TypedDict):
+    """Why a member may not be stopped (whole.Reason)."""
+
     name: str
     text: str
 
