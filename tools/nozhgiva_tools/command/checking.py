@@ -73,7 +73,8 @@ def pytest_words() -> Optional[List[str]]:
     """The words that run pytest: of this Python, or Debian's; None where there is none."""
     if importlib.util.find_spec(PYTEST):
         return [sys.executable, "-B", "-m", PYTEST]
-    return next(([found] for found in map(shutil.which, ("pytest-3", PYTEST)) if found), None)
+    found = shutil.which("pytest-3") or shutil.which(PYTEST)
+    return [found] if found else None
 
 
 def words_to_run(words: Sequence[str]) -> List[str]:
@@ -90,7 +91,7 @@ def words_to_run(words: Sequence[str]) -> List[str]:
     return words_of_module(first, *rest) if "." in first and "/" not in first else list(words)
 
 
-def with_words(check: "Check", words: Sequence[str]) -> "Check":
+def with_words(check: Check, words: Sequence[str]) -> Check:
     """A check with other words than its own; those of pytest come behind its own."""
     kept = len(check.command) if PYTEST in check.command else next(at for at, word in enumerate(check.command) if word != "env" and "=" not in word) + 1
     kept += check.command[kept - 1] == "nozhgiva"
@@ -130,8 +131,8 @@ class Run:
 
     def __init__(self, top: Path, folder: str, until: float, say: Callable[[str], None]) -> None:
         self.top, self.folder, self.until, self.say = top, folder, until, say
-        self.passed, self.failed, self.left_out = 0, 0, []  # type: int, int, List[str]
-        self.without, self.in_part = 0, 0
+        self.passed, self.failed, self.without, self.in_part = 0, 0, 0, 0
+        self.left_out: List[str] = []
         self.program = find_program()
         self.env = {**os.environ, "PYTHONDONTWRITEBYTECODE": "1", "TMPDIR": folder, **({"NOZHGIVA_PROGRAM": self.program} if self.program else {})}
 

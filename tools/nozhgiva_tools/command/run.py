@@ -97,7 +97,8 @@ def explain(status: int, said: str, played: List[str], number: int) -> int:
 
 
 def play(path: str, lines: List[str], is_whole: bool) -> int:
-    replay, played = replays.Replay(path), []  # type: ignore[var-annotated]
+    replay = replays.Replay(path)
+    played: List[str] = []
     try:
         for number, line in enumerate(lines, 1):
             if not line or line.startswith("#"):

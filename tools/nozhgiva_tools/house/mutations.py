@@ -20,19 +20,51 @@ import importlib.util
 import os
 import re
 import shutil
+import subprocess
 import sys
 import tempfile
 import threading
 import time
 from pathlib import Path
-from types import ModuleType
-from typing import Any, NamedTuple
+from typing import Iterable, NamedTuple, Protocol, cast
 
 from nozhgiva_tools.places import TOP
 
 PRINTING = threading.Lock()
 # What `must_fail` tells of an edit that was refused: kit 13b that it was, 13f by a word, as it tells each other ending too.
 REFUSED = (True, "refused")
+
+
+class Crate(Protocol):
+    """A crate as the toolchain has it."""
+
+    name: str
+    folder: str
+
+    def below(self) -> Iterable[Crate]:
+        """The libraries that it stands on."""
+
+    def ci(self, flags: list[str], tests: bool) -> int:
+        """Proves it from nothing; the status."""
+
+
+class Library(Protocol):
+    """What is called of `rtlib`, on which `rt` stands."""
+
+    def crates_below(self, top: str) -> Iterable[Crate]:
+        """Each crate of a repository, lowest first."""
+
+
+class Toolchain(Protocol):
+    """What is called of the toolchain's `rt`."""
+
+    rtlib: Library
+
+    def checked(self, crate: Crate, texts: dict[str, str], flags: list[str], kept: str) -> subprocess.CompletedProcess[str]:
+        """A check of the crate with these texts in place of its own, over what was kept."""
+
+    def must_fail(self, crate: Crate, edit: str, flags: list[str], kept: str) -> tuple[bool | str, str]:
+        """A try of an edit: what came of it, and what to say."""
 
 
 class Tried(NamedTuple):
@@ -64,7 +96,7 @@ def edits_of(crate: str, with_gate: bool) -> list[Path]:
 def chosen(given: list[str], with_gate: bool) -> dict[str, list[Path]]:
     """The edits to be tried, by crate; a crate or word that names none ends the script."""
     every = sorted(it.name for it in (TOP / "crates").iterdir() if edits_of(it.name, with_gate))
-    found = {}
+    found: dict[str, list[Path]] = {}
     for word in given or every:
         crate, _, only = word.partition(":")
         edits = [it for it in edits_of(crate, with_gate) if only in it.stem]
@@ -75,7 +107,7 @@ def chosen(given: list[str], with_gate: bool) -> dict[str, list[Path]]:
     return found
 
 
-def toolchain() -> ModuleType:
+def toolchain() -> Toolchain:
     """The `rt` of the toolchain, as a module, set up as its gate sets itself up."""
     at = shutil.which("rt")
     if not at:
@@ -93,10 +125,10 @@ def toolchain() -> ModuleType:
     rt.rtlib.guarded()
     rt.Crate.allowed = rt.handles_of(str(TOP))
     rt.rtlib.Crate = rt.Crate
-    return rt
+    return cast(Toolchain, rt)
 
 
-def build_missing(crates: dict[str, Any], wanted: dict[str, list[Path]]) -> None:
+def build_missing(crates: dict[str, Crate], wanted: dict[str, list[Path]]) -> None:
     """Proves the libraries below the wanted crates that no gate left."""
     below = {it.name for name in wanted for it in crates[name].below()}
     for it in crates.values():
@@ -106,14 +138,14 @@ def build_missing(crates: dict[str, Any], wanted: dict[str, list[Path]]) -> None
                 sys.exit(f"./nozhgiva mutations: {it.name} isn't proved here")
 
 
-def try_edit(rt: ModuleType, crate: Any, edit: Path, kept: str) -> Tried:
+def try_edit(rt: Toolchain, crate: Crate, edit: Path, kept: str) -> Tried:
     began = time.monotonic()
     told, text = rt.must_fail(crate, str(edit), ["--jobs", "1"], kept)
     ending = "refused" if told in REFUSED else "let through" if "NOT REFUSED" in text else "bad"
     return Tried(edit.stem, ending, time.monotonic() - began, re.sub(r"^must-fail \S+ ", "", text)[:300])
 
 
-def try_crate(rt: ModuleType, crate: Any, edits: list[Path], ends: float) -> list[Tried]:
+def try_crate(rt: Toolchain, crate: Crate, edits: list[Path], ends: float) -> list[Tried]:
     """Tries a crate's edits over one check of it, and prints what came of each."""
     began = time.monotonic()
     with tempfile.TemporaryDirectory(prefix="wrong-bodies-") as kept:

@@ -15,26 +15,40 @@ import shutil
 import subprocess
 import sys
 import tempfile
+from typing import Dict, List, NamedTuple, Tuple
 
 from nozhgiva_tools.places import TOP
 
-# name, file of crates/vr_rules/specs, what stands there, what stands there then, the crate above
+Libraries = Dict[str, List[str]]
+"""Of each crate of the repository the libraries that its line names."""
+
+
+class Slip(NamedTuple):
+    """A change of one place of a file of crates/vr_rules/specs, and the crate above that is to refuse it."""
+
+    name: str
+    file: str
+    old: str
+    new: str
+    crate: str
+
+
 SLIPS = [
-    ("another-views-vote", "Deciding.antt", "((a.view == r.view) && (nat_lt r.commit a.op", "(nat_le a.view r.view && (nat_lt r.commit a.op", "law_2_chains"),
-    ("same-view-shortens", "Words.antt", "(l.view == r.log_view) && nat_lt (head r) l.head", "(l.view == r.log_view) && nat_lt r.commit l.head", "law_2_chains"),
-    ("leads-on", "Opening.antt", "in_next_view r = record r { view = r.view + 1 }", "in_next_view r = record r { view = r.view }", "law_2_chains"),
-    ("wanted-overwritten", "Deciding.antt", "(is_known h h.op r && is_absent (part_at r h.op))", "(not (is_unknown h.op r) && is_absent (part_at r h.op))", "law_2_chains"),
-    ("past-the-head", "Words.antt", "max r.commit (min c (head r))", "max r.commit c", "law_2_chains"),
-    ("before-its-write", "Rules.antt", "make e = write e ⨾ says (send_to_all (prepare e)) ⨾ advance", "make e = says (send_to_all (prepare e)) ⨾ write e ⨾ advance", "law_2_chains"),
-    ("after-its-superblock", "Words.antt", "does checkpoints ⨾ change (with_checkpoint c) ⨾ save", "change (with_checkpoint c) ⨾ save ⨾ does checkpoints", "law_6_one_log"),
+    Slip("another-views-vote", "Deciding.antt", "((a.view == r.view) && (nat_lt r.commit a.op", "(nat_le a.view r.view && (nat_lt r.commit a.op", "law_2_chains"),
+    Slip("same-view-shortens", "Words.antt", "(l.view == r.log_view) && nat_lt (head r) l.head", "(l.view == r.log_view) && nat_lt r.commit l.head", "law_2_chains"),
+    Slip("leads-on", "Opening.antt", "in_next_view r = record r { view = r.view + 1 }", "in_next_view r = record r { view = r.view }", "law_2_chains"),
+    Slip("wanted-overwritten", "Deciding.antt", "(is_known h h.op r && is_absent (part_at r h.op))", "(not (is_unknown h.op r) && is_absent (part_at r h.op))", "law_2_chains"),
+    Slip("past-the-head", "Words.antt", "max r.commit (min c (head r))", "max r.commit c", "law_2_chains"),
+    Slip("before-its-write", "Rules.antt", "make e = write e ⨾ says (send_to_all (prepare e)) ⨾ advance", "make e = says (send_to_all (prepare e)) ⨾ write e ⨾ advance", "law_2_chains"),
+    Slip("after-its-superblock", "Words.antt", "does checkpoints ⨾ change (with_checkpoint c) ⨾ save", "change (with_checkpoint c) ⨾ save ⨾ does checkpoints", "law_6_one_log"),
 ]
 
 ROOT = str(TOP)
 
 
-def crates():
+def crates() -> Libraries:
     """Each crate of the repository with the libraries that its line names."""
-    found = {}
+    found: Libraries = {}
     with open(os.path.join(ROOT, "crates.txt")) as lines:
         for line in lines:
             line = line.split("#")[0].strip()
@@ -44,11 +58,11 @@ def crates():
     return found
 
 
-def below(crate, libraries):
+def below(crate: str, libraries: Libraries) -> List[str]:
     """The repository's crates that a crate stands on, lowest first."""
-    order = []
+    order: List[str] = []
 
-    def walk(name):
+    def walk(name: str) -> None:
         for library in libraries[name]:
             if library in libraries and library not in order:
                 walk(library)
@@ -58,7 +72,7 @@ def below(crate, libraries):
     return order
 
 
-def command(kit, crate, copy, libraries):
+def command(kit: str, crate: str, copy: str, libraries: Libraries) -> List[str]:
     """The check of a crate over the libraries that are built, but for the copied crate and those above it: these are read anew."""
     line = [os.path.join(kit, "bin", "rattle"), "check", "--crate-name", crate, "src/lib.rt"]
     line += ["-L", "dependency=" + os.path.join(kit, "rlibs")]
@@ -79,65 +93,64 @@ def command(kit, crate, copy, libraries):
     return line + ["--antt-project", logic, "--logic-built", os.path.join(kit, "logic_built"), "--links", crate + "=", "--jobs", "2"]
 
 
-def refusals(kit, slip, libraries):
-    """The lemmas of the crate's own proofs that are refused over the slip."""
-    name, file, old, new, crate = slip
+def refusals(kit: str, slip: Slip, libraries: Libraries) -> List[Tuple[str, str]]:
+    """The lemmas of the crate's own proofs that are refused over the slip, each with its file."""
     with tempfile.TemporaryDirectory() as folder:
         copy = os.path.join(folder, "vr_rules")
         shutil.copytree(os.path.join(ROOT, "crates", "vr_rules"), copy, ignore=shutil.ignore_patterns("out"))
-        path = os.path.join(copy, "specs", file)
+        path = os.path.join(copy, "specs", slip.file)
         with open(path) as source:
             text = source.read()
-        if text.count(old) != 1:
-            sys.exit("%s: its text stands %d times in %s" % (name, text.count(old), file))
+        if text.count(slip.old) != 1:
+            sys.exit("%s: its text stands %d times in %s" % (slip.name, text.count(slip.old), slip.file))
         with open(path, "w") as target:
-            target.write(text.replace(old, new))
-        told = subprocess.run(command(kit, crate, copy, libraries), cwd=os.path.join(ROOT, "crates", crate), capture_output=True, text=True)
+            target.write(text.replace(slip.old, slip.new))
+        told = subprocess.run(command(kit, slip.crate, copy, libraries), cwd=os.path.join(ROOT, "crates", slip.crate), capture_output=True, text=True)
     text = told.stdout + told.stderr
-    refused = re.findall(r"^\./proofs/(\S+?)\.antt:\d+:\d+: error: `([^`]+)`", text, re.M)
+    refused: List[Tuple[str, str]] = re.findall(r"^\./proofs/(\S+?)\.antt:\d+:\d+: error: `([^`]+)`", text, re.M)
     if not refused and "\nlogic=" not in text:
-        sys.exit("%s: the check of %s came to no end:\n%s" % (name, crate, text[-2000:]))
+        sys.exit("%s: the check of %s came to no end:\n%s" % (slip.name, slip.crate, text[-2000:]))
     return refused
 
 
-def make_parser():
+def make_parser() -> argparse.ArgumentParser:
     parser = argparse.ArgumentParser(prog="slips", description=__doc__, formatter_class=argparse.RawDescriptionHelpFormatter)
-    parser.add_argument("names", nargs="*", metavar="NAME", help="one of: " + ", ".join(slip[0] for slip in SLIPS))
+    parser.add_argument("names", nargs="*", metavar="NAME", help="one of: " + ", ".join(slip.name for slip in SLIPS))
     return parser
 
 
-def chosen():
+def chosen() -> List[Slip]:
     """The slips that are asked for; a name of none ends the script."""
     parser = make_parser()
-    names = parser.parse_args().names
-    unknown = sorted(set(names) - {slip[0] for slip in SLIPS})
+    names: List[str] = parser.parse_args().names
+    unknown = sorted(set(names) - {slip.name for slip in SLIPS})
     if unknown:
         parser.error("no slip %s: --help has their names" % ", ".join(unknown))
-    return [slip for slip in SLIPS if not names or slip[0] in names]
+    return [slip for slip in SLIPS if not names or slip.name in names]
 
 
-def say(text):
+def say(text: str) -> None:
     print(text, file=sys.stderr, flush=True)
 
 
-def main():
+def main() -> None:
     slips = chosen()
     if shutil.which("rt") is None:
         say("slips: `rt` isn't in PATH: without Rattle's toolchain nothing can be checked")
         sys.exit(2)
     kit = os.path.dirname(subprocess.run(["rt", "doc"], capture_output=True, text=True, check=True).stdout.strip())
     libraries = crates()
-    for crate in sorted({slip[4] for slip in slips}):
+    for crate in sorted({slip.crate for slip in slips}):
         say("slips: %s is checked as it stands, with all below it" % crate)
         if subprocess.run(["rt", "check"], cwd=os.path.join(ROOT, "crates", crate), stdout=subprocess.DEVNULL).returncode:
             sys.exit("%s isn't proved as it stands" % crate)
     tried, passed = 0, 0
     for slip in slips:
-        say("slips: %s, some 20 s" % slip[0])
+        say("slips: %s, some 20 s" % slip.name)
         refused = refusals(kit, slip, libraries)
         tried += 1
         passed += not refused
-        print("%s: %s" % (slip[0], ", ".join("%s (%s, %s)" % (lemma, slip[4], file) for file, lemma in refused) or "NOT REFUSED"), flush=True)
+        print("%s: %s" % (slip.name, ", ".join("%s (%s, %s)" % (lemma, slip.crate, file) for file, lemma in refused) or "NOT REFUSED"), flush=True)
     print("%d of %d slips refused" % (tried - passed, tried))
     sys.exit(2 if not tried else 1 if passed else 0)
 
