@@ -82,6 +82,17 @@ class Members(unittest.TestCase):
                     (Path(folder) / path.name).write_text("\n".join(texts[-1]) + "\n")
                 self.check(texts, merge_members([Path(folder) / path.name for path in FILES]))
 
+    def test_a_line_without_its_time(self):
+        """Of a log in which a plain line stands in the midst, of an event whose first line has a time, all is shown."""
+        texts = [path.read_text().splitlines() for path in FILES]
+        self.assertEqual(texts[0][7:9], ["send 5 0 2 commit view 0 op 2 commit 1", "send 6 0 1 prepare view 0 op 2 made 0 commit 1"])
+        with tempfile.TemporaryDirectory() as folder:
+            for path, text in zip(FILES, texts):
+                logged = [f"{log.stamp(Kept.EPOCH + 0.3 * at)} {line}" for at, line in enumerate(text)]
+                logged[8] = text[8] if path == FILES[0] else logged[8]
+                (Path(folder) / path.name).write_text("\n".join(logged) + "\n")
+            self.check(texts, merge_members([Path(folder) / path.name for path in FILES]))
+
     def test_outputs_of_replay_without_their_schedule(self):
         lines = [line.strip() for line in (EXAMPLES / "view-change.txt").read_text().splitlines() if line.startswith("  ")]
         with tempfile.TemporaryDirectory() as folder:

@@ -10,12 +10,14 @@ import argparse
 import os
 import sys
 
+from nozhgiva_tools.told.memberlines import BadRun
+
 from .explorer.members import is_outputs
 from .explorer.picture import MOST_STEPS, Picture
-from .explorer.reading import BadRun, read_run
+from .explorer.reading import read_run, ShownRun
 
 
-def read(path):
+def read(path: str) -> ShownRun:
     """The run of a file; BadRun where it can't be drawn."""
     if is_outputs(path):
         raise BadRun(f"{path} has outputs without their schedule: ./nozhgiva explore shows such a run")
@@ -25,13 +27,13 @@ def read(path):
     return run
 
 
-def make_parser():
+def make_parser() -> argparse.ArgumentParser:
     parser = argparse.ArgumentParser(prog="draw", description=__doc__, formatter_class=argparse.RawDescriptionHelpFormatter)
     parser.add_argument("file", metavar="FILE", help="an example, or a plain schedule")
     return parser
 
 
-def main():
+def main() -> int:
     words = make_parser().parse_args()
     try:
         sys.stdout.write(Picture(read(words.file)).svg())

@@ -16,36 +16,39 @@ import json
 import os
 import sys
 from html import escape
+from typing import Tuple
+
+from nozhgiva_tools.told.memberlines import BadRun
 
 from .explorer.members import is_outputs, merge_members, read_outputs
-from .explorer.reading import BadRun, read_run
+from .explorer.reading import read_run, ShownRun
 from .explorer.rules import read_rules
 
 PARTS = os.path.join(os.path.dirname(os.path.abspath(__file__)), "explorer")
 SCRIPTS = ("run.js", "explain.js", "routes.js", "lanes.js", "page.js")
 
 
-def part(name):
+def part(name: str) -> str:
     with open(os.path.join(PARTS, name), encoding="utf-8") as file:
         return file.read()
 
 
-def page_of(title, run):
+def page_of(title: str, run: ShownRun) -> str:
     """The page: the run as JSON, in which no tag can end the script that holds it."""
-    data = json.dumps(run | {"rules": read_rules()}, ensure_ascii=False, separators=(",", ":")).replace("<", "\\u003c")
+    data = json.dumps({**run, "rules": read_rules()}, ensure_ascii=False, separators=(",", ":")).replace("<", "\\u003c")
     script = "\n".join(part(name).replace('"use strict";\n', "") for name in SCRIPTS)
     page = part("page.html").replace("@TITLE@", escape(title)).replace("@STYLE@", part("style.css"))
     return page.replace("@SCRIPT@", '"use strict";\n' + script).replace("@RUN@", data)
 
 
-def run_of(words):
+def run_of(words: argparse.Namespace) -> Tuple[ShownRun, str]:
     """The run that the words ask for, and its title."""
     if words.members:
         return merge_members(words.members), "members " + " ".join(os.path.basename(path) for path in words.members)
     return read_outputs(words.file) if is_outputs(words.file) else read_run(words.file), os.path.basename(words.file)
 
 
-def make_parser():
+def make_parser() -> argparse.ArgumentParser:
     usage = "%(prog)s [-h] FILE\n       %(prog)s [-h] --members LINES [LINES ...]"
     parser = argparse.ArgumentParser(prog="explore", usage=usage, description=__doc__, formatter_class=argparse.RawDescriptionHelpFormatter)
     parser.add_argument("file", nargs="?", metavar="FILE", help="an example, a plain schedule, or what `replay` wrote")
@@ -53,7 +56,7 @@ def make_parser():
     return parser
 
 
-def parse_words():
+def parse_words() -> argparse.Namespace:
     parser = make_parser()
     words = parser.parse_args()
     if (words.file is None) == (words.members is None):
@@ -61,7 +64,7 @@ def parse_words():
     return words
 
 
-def main():
+def main() -> int:
     words = parse_words()
     try:
         run, title = run_of(words)

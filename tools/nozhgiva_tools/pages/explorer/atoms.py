@@ -1,6 +1,6 @@
 """What members put out, in its least pieces: lines that are surely of one event, and the messages in them."""
 
-from typing import Dict, List, Optional
+from typing import Dict, List
 
 from nozhgiva_tools.told.memberlines import Line, owner_of
 
@@ -9,41 +9,78 @@ VIEW_CHANGE = {1: 1, 2: 2, 3: 2, 4: 3, 5: 3, 6: 4}
 TO_ALL = ("prepare", "beat", "start_view_change")
 LOGS = ("start_view", "sync_view")
 ANSWERS = ("redirect", "busy", "answer")
+NOT_SENT = -1
+"""The number of a message that isn't sent yet, or isn't shown."""
 
 
-def field(words: List[str], name: str) -> Optional[int]:
-    """The number behind a word where it last stands; None where it isn't there."""
-    at = max((place for place, word in enumerate(words[:-1]) if word == name), default=-1)
-    return int(words[at + 1]) if at >= 0 and words[at + 1].isdigit() else None
+NUMBERS = ("view", "op", "commit", "head", "checkpoint")
 
 
-class Message:
-    """What a `send` line says. `number` is its number in the run that is put together, `came` whether something answered it."""
+def numbers_of(words: List[str]) -> Dict[str, int]:
+    """The numbers of what a line says, by the words that they first stand behind: what a client put stands last, and may be such words."""
+    found: Dict[str, int] = {}
+    for name, text in zip(words[1:], words[2:]):
+        if name in NUMBERS and text.isdigit():
+            found.setdefault(name, int(text))
+    return found
+
+
+class Said:
+    """What a line says. By its kind it has some numbers; who asks it for another is wrong, and gets a KeyError."""
+
+    def __init__(self, words: List[str]) -> None:
+        self.numbers = numbers_of(words)
+
+    @property
+    def view(self) -> int:
+        return self.numbers["view"]
+
+    @property
+    def op(self) -> int:
+        return self.numbers["op"]
+
+    @property
+    def commit(self) -> int:
+        return self.numbers["commit"]
+
+    @property
+    def head(self) -> int:
+        return self.numbers["head"]
+
+
+class Message(Said):
+    """What a `send` line says. `came` is whether something answered it."""
 
     def __init__(self, words: List[str], atom: "Atom") -> None:
+        super().__init__(words[4:])
         self.sender, self.to, self.words, self.atom = int(words[2]), int(words[3]), words[4:], atom
         self.kind = self.words[0]
-        self.view, self.op, self.commit = field(self.words, "view"), field(self.words, "op"), field(self.words[1:], "commit")
-        self.block = int(self.words[1]) if self.kind.endswith("_block") else None
-        self.checkpoint = field(self.words, "checkpoint")
-        self.number: Optional[int] = None
+        if self.kind.endswith("_block"):
+            self.numbers["block"] = int(self.words[1])
+        self.number = NOT_SENT
         self.came = False
 
-    def numbers(self) -> Dict[str, Optional[int]]:
+    @property
+    def is_sent(self) -> bool:
+        """Whether it has its number, in the run that is put together."""
+        return self.number != NOT_SENT
+
+    def told(self) -> Dict[str, int]:
         """Its numbers by the names that told.json has for them."""
-        op = self.op if self.block is None else self.block
-        return {"v": self.view, "k": op, "c": self.commit, "h": op, "p": self.checkpoint}
+        names = {"v": "view", "k": "block" if "block" in self.numbers else "op", "c": "commit", "p": "checkpoint"}
+        told = {letter: self.numbers[name] for letter, name in names.items() if name in self.numbers}
+        if "k" in told:
+            told["h"] = told["k"]
+        return told
 
 
-class Atom:
+class Atom(Said):
     """Lines that are surely of one event. Its place is its number at its member; `clock` has of each member how many atoms surely came before."""
 
     def __init__(self, line: Line, kind: str) -> None:
         self.words = line.text.split(" ")
+        super().__init__(self.words[4:] if self.words[0] == "send" else self.words)
         self.lines, self.kind = [line], kind
-        said = self.words[4:] if self.words[0] == "send" else self.words
-        self.view, self.op, self.commit = field(said, "view"), field(said, "op"), field(said[1:], "commit")
-        self.head = field(said, "head")
         self.messages: List[Message] = []
         self.replies = False
         self.member = self.place = self.life = 0

@@ -1,7 +1,7 @@
 """What an event at a member answers: the messages of which some must have come before it; and by that, what surely came before what."""
 
 from bisect import bisect_left
-from typing import Dict, Iterable, List, NamedTuple, Optional
+from typing import Dict, Iterable, List, NamedTuple, Optional, Set, Tuple
 
 from .atoms import Atom, LOGS, Message, REPLICATION, VIEW_CHANGE
 
@@ -10,6 +10,9 @@ MOST_TELLING = 100
 """The most messages that are looked at for who told a commit number."""
 SKEW = 1.0
 """Seconds by which the clocks of two members may differ, and a line may be read late."""
+KEYS = ("view", "op", "block")
+Key = Tuple[int, str, Optional[str], Optional[int]]
+"""By what messages are found: to whom, their kind, and the value of one of KEYS, or none of them."""
 
 
 def is_thinned(atoms: List[Atom]) -> bool:
@@ -40,11 +43,11 @@ class Group:
         members.update({index: [] for index in missing if len(missing) <= silent})
         self.whole = {index: index in members and not any(atom.missing for atom in members[index]) for index in range(self.size)}
         self.thinned = {index: index in members and is_thinned(members[index]) for index in range(self.size)}
-        self.by_key: Dict[tuple, List[Message]] = {}
+        self.by_key: Dict[Key, List[Message]] = {}
         self.by_commit: Dict[int, List[Message]] = {index: [] for index in range(self.size)}
         for message in messages:
             for key in self.keys_of(message):
-                self.by_key.setdefault((message.to, *key), []).append(message)
+                self.by_key.setdefault(key, []).append(message)
             if message.kind in CARRY_COMMIT:
                 self.by_commit[message.to].append(message)
         for carriers in self.by_commit.values():
@@ -52,18 +55,15 @@ class Group:
         self.commits = {index: [message.commit for message in carriers] for index, carriers in self.by_commit.items()}
 
     @staticmethod
-    def keys_of(message: Message) -> Iterable[tuple]:
-        yield (message.kind,)
-        if message.view is not None:
-            yield message.kind, "view", message.view
-        if message.op is not None:
-            yield message.kind, "op", message.op
-        if message.block is not None:
-            yield message.kind, "block", message.block
+    def keys_of(message: Message) -> Iterable[Key]:
+        yield message.to, message.kind, None, None
+        for name in KEYS:
+            if name in message.numbers:
+                yield message.to, message.kind, name, message.numbers[name]
 
-    def found(self, to: int, *key) -> List[Message]:
-        """The messages to a member under a key."""
-        return self.by_key.get((to, *key), [])
+    def found(self, to: int, kind: str, name: Optional[str] = None, number: Optional[int] = None) -> List[Message]:
+        """The messages of a kind to a member; where a number is given, those that say it."""
+        return self.by_key.get((to, kind, name, number), [])
 
     def telling(self, to: int, commit: int) -> List[Message]:
         """The messages to a member that tell this commit number or a greater one, the least first, at most MOST_TELLING."""
@@ -85,7 +85,7 @@ class Past:
     def __init__(self, group: Group, member: int) -> None:
         self.group, self.member = group, member
         self.commit = 0  # the greatest commit number that it surely knows without being told
-        self.changes: set = set()  # the views that it said to enter in this life
+        self.changes: Set[int] = set()  # the views that it said to enter in this life
 
     def read(self, atom: Atom) -> Optional[Need]:
         """What the next atom needs; what it tells is kept."""
@@ -94,7 +94,7 @@ class Past:
             self.changes, self.commit = set(), 0
         if atom.kind == "start_view_change":
             self.changes.add(atom.view)
-        if atom.kind in ("start", "choose", "do_view_change", "beat", "prepare") and atom.commit is not None:
+        if atom.kind in ("start", "choose", "do_view_change", "beat", "prepare"):
             self.commit = max(self.commit, atom.commit)
         if atom.kind == "apply":
             self.commit = max(self.commit, atom.op)
@@ -117,30 +117,35 @@ class Past:
         return Need(group.telling(self.member, op))
 
     def need_of_message(self, atom: Atom) -> Optional[Need]:
-        group, me, view, op = self.group, self.member, atom.view, atom.op
-
-        def from_there(*kinds: tuple) -> Need:
-            return Need([message for kind in kinds for message in group.found(me, *kind) if message.sender == atom.to()])
+        group, me, others = self.group, self.member, VIEW_CHANGE[self.group.size] - 1
         if atom.kind == "prepare_ok":
-            prepares = [message for message in group.found(me, "prepare", "op", op) if message.view == view]
-            return Need(prepares + group.logs_of(me, view, op) + group.found(me, "give_prepare", "op", op))
+            prepares = [message for message in group.found(me, "prepare", "op", atom.op) if message.view == atom.view]
+            return Need(prepares + group.logs_of(me, atom.view, atom.op) + group.found(me, "give_prepare", "op", atom.op))
         if atom.kind == "do_view_change":
-            return Need(group.found(me, "start_view_change", "view", view), VIEW_CHANGE[group.size] - 1)
+            return Need(group.found(me, "start_view_change", "view", atom.view), others)
         if atom.kind in ("choose", "wait"):
-            return None if group.size == 1 else Need(group.found(me, "do_view_change", "view", view), VIEW_CHANGE[group.size] - 1)
+            return None if group.size == 1 else Need(group.found(me, "do_view_change", "view", atom.view), others)
+        questions = self.questions(atom)
+        return None if questions is None else Need([message for message in questions if message.sender == atom.to()])
+
+    def questions(self, atom: Atom) -> Optional[List[Message]]:
+        """Messages of which the one from the member that it goes to is answered; None where it answers none."""
+        group, me = self.group, self.member
         if atom.kind == "start_view" and len(atom.messages) == 1:
-            asked = from_there(("get_view",), ("start_view_change", "view", view), ("do_view_change", "view", view))
-            return Need([message for message in asked.messages if message.view <= view])
+            asked = group.found(me, "get_view") + group.found(me, "start_view_change", "view", atom.view) + group.found(me, "do_view_change", "view", atom.view)
+            return [message for message in asked if message.view <= atom.view]
         if atom.kind == "sync_view":
-            return Need([message for message in from_there(("get_sync",)).messages if message.view <= view])
-        asks = {
-            "get_view": [("prepare", "view", view), ("commit", "view", view)], "get_sync": [("start_view", "view", view)],
-            "give_prepare": [("get_prepare", "op", op)], "give_block": [("get_block", "block", atom.messages[0].block if atom.messages else None)],
-        }
-        return from_there(*asks[atom.kind]) if atom.kind in asks else None
+            return [message for message in group.found(me, "get_sync") if message.view <= atom.view]
+        if atom.kind == "get_view":
+            return group.found(me, "prepare", "view", atom.view) + group.found(me, "commit", "view", atom.view)
+        if atom.kind == "get_sync":
+            return group.found(me, "start_view", "view", atom.view)
+        if atom.kind == "give_prepare":
+            return group.found(me, "get_prepare", "op", atom.op)
+        return group.found(me, "get_block", "block", atom.messages[0].numbers["block"]) if atom.kind == "give_block" else None
 
 
-def senders_of(messages: Iterable[Message]) -> set:
+def senders_of(messages: Iterable[Message]) -> Set[int]:
     return {message.sender for message in messages}
 
 

@@ -2,7 +2,7 @@
 
 Between two atoms stands one of three: they are of one event, of two, or it can't be told."""
 
-from typing import Iterable, List
+from typing import FrozenSet, Iterable, List, Optional, Set, Tuple
 
 from .atoms import Atom, LOGS, Message, VIEW_CHANGE
 from .causes import Group, may_have_come
@@ -26,10 +26,10 @@ class Told:
         self.begin()
 
     def begin(self) -> None:
-        self.entered: set = set()
-        self.stated: set = set()
-        self.waited: set = set()
-        self.asked: set = set()
+        self.entered: Set[int] = set()
+        self.stated: Set[int] = set()
+        self.waited: Set[int] = set()
+        self.asked: Set[Tuple[str, Optional[int]]] = set()  # and for which op; for a block there is none
         self.commit = 0  # the greatest commit number that it told
         self.normal = -1  # the last view in whose normal case it spoke
 
@@ -44,7 +44,7 @@ class Told:
         elif atom.kind == "wait":
             self.waited.add(atom.view)
         elif atom.kind in ("get_prepare", "get_block"):
-            self.asked.add((atom.kind, atom.op))
+            self.asked.add((atom.kind, atom.numbers.get("op")))
         elif atom.kind in ("prepare_ok", "prepare", "beat"):
             self.normal = atom.view
         if atom.kind in ("start", "choose", "do_view_change", "beat", "prepare"):
@@ -58,7 +58,7 @@ class Cutter:
         self.group, self.member, self.told = group, member, Told()
         self.event: List[Atom] = []
         self.again = False
-        self.apart: frozenset = frozenset()  # the places before which an event surely begins
+        self.apart: FrozenSet[int] = frozenset()  # the places before which an event surely begins
 
     def cut(self, atoms: Iterable[Atom]) -> List[str]:
         """What stands before each atom."""

@@ -25,7 +25,8 @@ function tokensOf(step) {
     return lines.map((words, place) => `${tokenOf(words, lines[place - 1])} `).join("");
 }
 
-const numberAfter = (words, name) => (words.lastIndexOf(name) < 0 ? undefined : Number(words[words.lastIndexOf(name) + 1]));
+// The number behind a name where it first stands: what a client put stands last, and may be such words.
+const numberAfter = (words, name) => (words.indexOf(name) < 0 ? undefined : Number(words[words.indexOf(name) + 1]));
 
 // The numbers of a message, by the names that told.json has for them.
 function numbersOf(words) {

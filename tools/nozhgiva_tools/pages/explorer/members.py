@@ -6,21 +6,24 @@ statements. Times, where a keeper wrote some, order what is left open; without t
 """
 
 import re
-from typing import Dict, Iterator, List, Optional, Tuple
+from typing import Dict, FrozenSet, Iterator, List, Optional, Set, Tuple
 
-from nozhgiva_tools.told.memberlines import Line, lines_of, MOST_LINES, owner_of, read_members, read_texts
+from nozhgiva_tools.told.memberlines import BadRun, Line, lines_of, MOST_LINES, owner_of, read_members, read_texts
 
-from .atoms import Atom, atoms_of, Message
+from .atoms import Atom, atoms_of, Message, NOT_SENT
 from .causes import Clocks, Group, Need, Past, senders_of, SKEW
 from .cutting import Cutter, TWO, UNSURE
 from .naming import EVENTS, Namer
-from .reading import BadRun, shorten, step_of
+from .reading import shorten, ShownRun, ShownStep, step_of
 
 MOST_STEPS = 5_000
 ANSWERS, SPEAKS, GOES_WITHOUT, STARTS, WAITS = range(5)
 """Which steps come first: one that answers something, one that needs nothing, one that can go without what would explain it, a start, which is
 as late as can be, and last one that waits for a message that never came to be written."""
 MOST_REPLICAS = 6
+Rank = Tuple[float, ...]
+"""By what steps are put in order: the least comes first."""
+Words = Tuple[str, ...]
 ENDED = "It was started again later on, so it had ended by then; when, no line tells."
 TOGETHER = "One event with this member's step before, or two: no line tells."
 
@@ -33,7 +36,7 @@ class Step:
         self.needs = [need for need in needs if need is not None]
         self.kind, self.member = atoms[0].kind, atoms[0].member
         self.rules: List[str] = []
-        self.events: set = set()  # the events that its rules are of
+        self.events: Set[str] = set()  # the events that its rules are of
         self.view = 0
         applied = [atom.op for atom in atoms if atom.kind == "apply"]
         if applied and len(self.needs) > 1:
@@ -42,7 +45,7 @@ class Step:
     @staticmethod
     def telling(need: Need, commit: int) -> Need:
         """Of the messages of a need those that told the commit number that was applied; all where none did."""
-        fitting = [message for message in need.messages if message.commit is not None and message.commit >= commit]
+        fitting = [message for message in need.messages if message.numbers.get("commit", -1) >= commit]
         return need._replace(messages=fitting) if fitting else need
 
     def messages(self) -> List[Message]:
@@ -54,7 +57,7 @@ class Step:
     def seconds(self) -> Optional[float]:
         return self.atoms[0].lines[0].seconds()
 
-    def said(self) -> tuple:
+    def said(self) -> Words:
         """What it said, but for the numbers of messages; heartbeats all say the same."""
         return tuple("beat" if atom.kind == "beat" else re.sub(r"^send \d+", "send", line.text) for atom in self.atoms for line in atom.lines)
 
@@ -68,7 +71,7 @@ class Member:
         self.since = 0
         view = 0
         for step in steps:
-            view = max([view] + [atom.view for atom in step.atoms if atom.view is not None and atom.kind != "apply"])
+            view = max([view] + [atom.view for atom in step.atoms if "view" in atom.numbers and atom.kind != "apply"])
             step.view = view
 
     def next(self) -> Optional[Step]:
@@ -84,25 +87,27 @@ class Merge:
     def __init__(self, group: Group, members: List[Member]) -> None:
         self.group, self.members = group, members
         for message in (message for member in members for step in member.steps for message in step.messages()):
-            message.number, message.came = None, False
+            message.number, message.came = NOT_SENT, False
         self.timed = all(step.seconds() is not None for member in members for step in member.steps)
         self.sent = 0
 
-    def expected(self, need: Need, step: Step) -> set:
+    def expected(self, need: Need, step: Step) -> Set[int]:
         """Who sent messages that a step would have to wait for; with times none that was sent later, but for clocks that differ where all is known that was sent."""
-        if not self.timed:
+        now = step.seconds()
+        if now is None or not self.timed:
             return senders_of(need.messages)
-        least = step.seconds() + (SKEW if self.group.is_known(step.member, heartbeats=step.kind == "apply") else 0)
-        return {message.sender for message in need.messages if message.atom.lines[0].seconds() <= least}
+        least = now + (SKEW if self.group.is_known(step.member, heartbeats=step.kind == "apply") else 0)
+        sent = ((message.sender, message.atom.lines[0].seconds()) for message in need.messages)
+        return {sender for sender, when in sent if when is None or when <= least}
 
     def heard(self, need: Need, step: Step) -> Optional[List[Message]]:
         """The messages of a need that were sent by now, those that fit best first; None where the step has to wait."""
-        sent = [message for message in need.messages if message.number is not None]
+        sent = [message for message in need.messages if message.is_sent]
         if len(senders_of(sent)) < min(need.members, len(self.expected(need, step))):
             return None
         applied = max([atom.op for atom in step.atoms if atom.kind == "apply"], default=0)
-        return sorted(sent, key=lambda message: (message.commit is not None and message.commit < applied, message.kind != "give_prepare",
-                                                 message.commit or 0 if step.kind == "apply" else 0, message.number))
+        return sorted(sent, key=lambda message: (message.numbers.get("commit", applied) < applied, message.kind != "give_prepare",
+                                                 message.numbers.get("commit", 0) if step.kind == "apply" else 0, message.number))
 
     def causes(self, member: Member, step: Step) -> Tuple[Optional[List[Message]], bool]:
         """The messages that a step answers, None where it has to wait for one, and whether it may go without."""
@@ -125,11 +130,12 @@ class Merge:
             first.setdefault(message.sender, message)
         return list(first.values())
 
-    def rank(self, member: Member, step: Step) -> Tuple[tuple, List[Message]]:
+    def rank(self, member: Member, step: Step) -> Tuple[Rank, List[Message]]:
         """How soon a step comes, and what it answers."""
         causes, free = self.causes(member, step)
-        if self.timed:
-            return (causes is None and not free, step.seconds(), member.index), causes or []
+        now = step.seconds()
+        if now is not None and self.timed:
+            return (causes is None and not free, now, member.index), causes or []
         if step.kind == "start":
             rank = STARTS
         elif causes is None:
@@ -138,19 +144,18 @@ class Merge:
             rank = ANSWERS if causes else SPEAKS
         return (rank, step.view, member.share(), member.index), causes or []
 
-    def choice(self) -> Optional[Tuple[Member, List[Message]]]:
-        """Whose step comes next, and what it answers; of those that are alike, the one of the earliest view."""
-        ranked = [(*self.rank(member, step), member) for member in self.members for step in [member.next()] if step is not None]
+    def choice(self) -> Optional[Tuple[Member, Step, List[Message]]]:
+        """Whose step comes next, which it is, and what it answers; of those that are alike, the one of the earliest view."""
+        ranked = [(*self.rank(member, step), member, step) for member in self.members for step in [member.next()] if step is not None]
         if not ranked:
             return None
-        _, causes, member = min(ranked, key=lambda entry: entry[0])
-        return member, causes
+        _, causes, member, step = min(ranked, key=lambda entry: entry[0])
+        return member, step, causes
 
     def run(self) -> Iterator[Tuple[Member, Step, List[Message]]]:
         """Each step in its order, with what it answers."""
         while (choice := self.choice()) is not None:
-            member, causes = choice
-            step = member.next()
+            member, step, causes = choice
             member.at += 1
             if step.kind == "start":
                 member.since = self.sent
@@ -169,12 +174,13 @@ class Played(Merge):
         super().__init__(group, members)
         self.order = iter(order)
 
-    def choice(self) -> Optional[Tuple[Member, List[Message]]]:
+    def choice(self) -> Optional[Tuple[Member, Step, List[Message]]]:
         index = next(self.order, None)
         if index is None:
             return None
         member = next(member for member in self.members if member.index == index)
-        return member, self.causes(member, member.next())[0] or []
+        step = member.steps[member.at]
+        return member, step, self.causes(member, step)[0] or []
 
 
 def needs_of(group: Group) -> Dict[int, List[Optional[Need]]]:
@@ -190,11 +196,12 @@ def needs_of(group: Group) -> Dict[int, List[Optional[Need]]]:
     return needs
 
 
-def steps_of(group: Group, index: int, needs: List[Optional[Need]], apart: frozenset = frozenset()) -> List[Step]:
+def steps_of(group: Group, index: int, needs: List[Optional[Need]], apart: FrozenSet[int] = frozenset()) -> List[Step]:
     """The events of a member, each with its rules. Before the places that are `apart` an event surely begins."""
     atoms = group.members[index]
-    cutter, steps = Cutter(group, index), []
+    cutter = Cutter(group, index)
     cutter.apart = apart
+    steps: List[Tuple[List[Atom], bool]] = []
     for atom, between in zip(atoms, cutter.cut(atoms)):
         if between in (TWO, UNSURE) or not steps:
             steps.append(([], between == UNSURE))
@@ -206,7 +213,7 @@ def steps_of(group: Group, index: int, needs: List[Optional[Need]], apart: froze
     return made
 
 
-def shown(step: Step, causes: List[Message]) -> dict:
+def shown(step: Step, causes: List[Message]) -> ShownStep:
     """A step, ready for the page."""
     made = step_of(f"member {step.member}", TOGETHER if step.unsure else "")
     made["outputs"] = [shorten(line.text) for line in step.lines()]
@@ -221,7 +228,7 @@ def shown(step: Step, causes: List[Message]) -> dict:
     return made
 
 
-def end_before(step: Step) -> dict:
+def end_before(step: Step) -> ShownStep:
     """The end of a member before it started again, as its keeper tells it."""
     remarks = [(stamp, text) for stamp, text in step.atoms[0].lines[0].remarks if " ended" in text or "is stopped and started" in text]
     made = step_of(f"stop {step.member}", remarks[-1][1] if remarks else ENDED)
@@ -230,22 +237,19 @@ def end_before(step: Step) -> dict:
     return made
 
 
-def is_start(step: Optional[Step]) -> bool:
-    return step is not None and step.kind == "start"
-
-
 class Shown:
     """The steps of the page, as they are taken; at most MOST_STEPS, and then without those that say again what their member said."""
 
     def __init__(self, merge: Merge, thin: bool) -> None:
-        self.steps: List[dict] = []
-        self.ends: List[dict] = []  # of members that ended and whose time hasn't come
+        self.steps: List[ShownStep] = []
+        self.ends: List[ShownStep] = []  # of members that ended and whose time hasn't come
         self.left_out, self.whole = 0, True
-        said: Dict[int, Dict[str, tuple]] = {member.index: {} for member in merge.members}
+        said: Dict[int, Dict[str, Words]] = {member.index: {} for member in merge.members}
         for member, step, causes in merge.run():
             again = not step.unsure and not step.atoms[0].kind == "apply" and said[member.index].get(step.kind) == step.said()
             said[member.index][step.kind] = step.said()
-            if again and thin and not (member.next() and member.next().unsure):
+            following = member.next()
+            if again and thin and not (following and following.unsure):
                 self.left_out += len(step.lines())
                 self.drop(step, merge)
                 continue
@@ -253,9 +257,11 @@ class Shown:
                 self.whole = False
                 break
             self.tell_ends(step.atoms[0].lines[0].stamp)
-            self.steps.append(shown(step, causes) | ({"again": True} if again and not causes else {}))
-            if is_start(member.next()):
-                self.ends.append(end_before(member.next()))
+            self.steps.append(shown(step, causes))
+            if again and not causes:
+                self.steps[-1]["again"] = True
+            if following and following.kind == "start":
+                self.ends.append(end_before(following))
                 self.tell_ends(None)
         self.tell_ends("9")
 
@@ -270,7 +276,7 @@ class Shown:
         """Its messages aren't shown: the others count on without them."""
         merge.sent -= len(step.messages())
         for message in step.messages():
-            message.number = None
+            message.number = NOT_SENT
 
 
 def absent(group: Group) -> List[int]:
@@ -283,7 +289,7 @@ def check_size(group: Group) -> None:
         raise BadRun(f"a group has no replica {group.size - 1}")
 
 
-def merge_members(paths: List[str]) -> dict:
+def merge_members(paths: List[str]) -> ShownRun:
     """The run that the files of members tell, ready for the page."""
     lines, silent = read_members(paths)
     cut = any(len(of_member) > MOST_LINES for of_member in lines.values())
@@ -301,7 +307,7 @@ def merge_members(paths: List[str]) -> dict:
     return {"about": about, "size": group.size, "members": True, "absent": absent(group), "at": 0, "steps": made.steps}
 
 
-def read_outputs(path: str) -> dict:
+def read_outputs(path: str) -> ShownRun:
     """The run that the outputs of a `replay` tell without its schedule, ready for the page: who sent what, and what it answers, but no line."""
     texts = [text for text in read_texts(path) if text not in ("done", "kept out") and not text.startswith("migrated ")]
     by_member: Dict[int, List[Line]] = {}
@@ -314,7 +320,8 @@ def read_outputs(path: str) -> dict:
     group = Group({owner: atoms_of(lines) for owner, lines in by_member.items()})
     check_size(group)
     needs = needs_of(group)
-    steps, order = {}, []
+    steps: Dict[int, List[Step]] = {}
+    order: List[Tuple[int, int]] = []
     for owner, atoms in group.members.items():
         firsts = first_places(atoms, places[owner])
         apart = frozenset(at for at in range(1, len(atoms)) if firsts[at] != places[owner][places[owner].index(firsts[at]) - 1] + 1)

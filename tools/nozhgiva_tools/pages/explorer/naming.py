@@ -2,7 +2,7 @@
 
 import re
 from copy import copy
-from typing import Dict, Iterable, List, Optional, Set, Tuple
+from typing import Dict, Iterable, List, NamedTuple, Optional, Pattern, Set, Tuple, Union
 
 from .atoms import Atom, LOGS, Message, VIEW_CHANGE
 from .causes import Group, may_have_come
@@ -13,10 +13,25 @@ FOREVER = float("inf")
 MOST_AHEAD = 64
 """How far what is acknowledged may be ahead of what is applied: no log reaches farther above its checkpoint."""
 BEGIN = "choose (start_view )*(prepare )*(apply (reply )?)*"
-ROWS = [dict(row, says=re.compile(row["says"].replace("BEGIN", BEGIN))) for row in read_told()]
-EVENTS = {row["rule"]: row["event"] for row in ROWS}
 COMPARISON = re.compile(r"(.*) (<=|>=|<|>|=) (.*)")
 Range = Tuple[float, float]
+"""The least and the greatest that a number may be."""
+Fact = Union[Range, bool, None]
+"""What is known of a number, or of a statement: whether it holds, None where no line tells."""
+Facts = Dict[str, Fact]
+
+
+class Row(NamedTuple):
+    """A row of told.json, its pattern ready to be matched."""
+
+    rule: str
+    event: str
+    when: List[str]
+    says: "Pattern[str]"
+
+
+ROWS = [Row(row["rule"], row["event"], row["when"], re.compile(row["says"].replace("BEGIN", BEGIN))) for row in read_told()]
+EVENTS = {row.rule: row.event for row in ROWS}
 KEYS = (("acked = k", "op", "acked"), ("gave = k", "op", "gave"), ("gave = k", "block", "gave"), ("entered = v", "view", "entered"), ("now = v", "view", "now"),
         ("asked = v", "view", "asked"), ("v = given", "view", "given"))
 
@@ -44,7 +59,7 @@ class Known:
         """It speaks in a view."""
         if started and (self.started is not True or self.view != (view, view)):
             logs = [message.op for message in self.group.logs_of(self.member, view)]
-            self.head = (self.commit, max([self.head[1]] + logs))
+            self.head = (self.commit, max([self.head[1], *logs]))
             self.log_view = (view, view)
             self.held = set()
         self.view, self.started = (view, view), started
@@ -59,27 +74,27 @@ class Known:
 
     def read(self, atom: Atom) -> None:
         """What an atom tells."""
-        kind, view, op = atom.kind, atom.view, atom.op
+        kind = atom.kind
         if kind in ("prepare", "prepare_ok"):
-            self.be_in(view, True)
-            self.reach(op)
-            self.held.add((view, op))
+            self.be_in(atom.view, True)
+            self.reach(atom.op)
+            self.held.add((atom.view, atom.op))
         elif kind in ("beat", "start_view", "sync_view", "choose"):
-            self.be_in(view, True)
-            self.head = (atom.head if kind == "choose" else op,) * 2
+            self.be_in(atom.view, True)
+            self.head = (atom.head if kind == "choose" else atom.op,) * 2
         elif kind in ("start_view_change", "wait"):
-            self.be_in(view, False)
-            self.waited = view if kind == "wait" else self.waited
+            self.be_in(atom.view, False)
+            self.waited = atom.view if kind == "wait" else self.waited
         elif kind == "do_view_change":
-            self.be_in(view, False)
+            self.be_in(atom.view, False)
             self.log_view = (field_log(atom),) * 2
             self.head = (atom.head, atom.head)
         elif kind == "start":
             self.start(atom)
         elif kind == "apply":
-            self.applied = (op, op)
-            self.learn(op)
-        if atom.commit is not None and kind in ("prepare", "beat", "start_view", "sync_view", "choose", "do_view_change"):
+            self.applied = (atom.op, atom.op)
+            self.learn(atom.op)
+        if kind in ("prepare", "beat", "start_view", "sync_view", "choose", "do_view_change"):
             self.learn(atom.commit)
 
     def start(self, atom: Atom) -> None:
@@ -90,15 +105,15 @@ class Known:
         self.commit, self.waited = 0, None
         self.learn(atom.commit)
 
-    def before(self, atom: Atom) -> Dict[str, object]:
+    def before(self, atom: Atom) -> Facts:
         """What is known as an event begins: a log may have been taken over without a word."""
         logs = [message for kind in LOGS for message in self.group.found(self.member, kind) if self.may_take(message) and may_have_come(message, atom)]
         silent = any(message.view > self.view[0] or self.started is not True for message in logs)
         known = self.group.is_known(self.member)
-        view = max([self.view[1]] + [message.view for message in logs]) if known else FOREVER
-        head = max([self.head[1]] + [message.op for message in logs]) if known else FOREVER
-        least = min([self.head[0]] + [message.op for message in logs]) if known else self.commit
-        applied = max([self.applied[1]] + [message.checkpoint for message in logs if message.checkpoint]) if known else FOREVER
+        view = max([self.view[1], *(message.view for message in logs)]) if known else FOREVER
+        head = max([self.head[1], *(message.op for message in logs)]) if known else FOREVER
+        least = min([self.head[0], *(message.op for message in logs)]) if known else self.commit
+        applied = max([self.applied[1], *(message.numbers.get("checkpoint", 0) for message in logs)]) if known else FOREVER
         started = None if silent or not known and self.started is False else self.started
         leads = started and (self.view[0] % self.group.size == self.member if self.view[0] == view or known else None)
         if started is None and self.view[1] != FOREVER and self.view[0] % self.group.size != self.member:
@@ -120,14 +135,15 @@ def field_log(atom: Atom) -> int:
     return int(atom.words[atom.words.index("log") + 1])
 
 
-def range_of(words: str, known: Dict[str, object]) -> Range:
+def range_of(words: str, known: Facts) -> Range:
     """`view + 1` as the least and the greatest number that it may be."""
     name, _, plus = words.partition(" + ")
-    least, most = (int(name), int(name)) if name.isdigit() else known.get(name) or (0, FOREVER)
+    fact = (int(name), int(name)) if name.isdigit() else known.get(name)
+    least, most = fact if isinstance(fact, tuple) else (0, FOREVER)
     return least + int(plus or 0), most + int(plus or 0)
 
 
-def may_hold(condition: str, known: Dict[str, object]) -> bool:
+def may_hold(condition: str, known: Facts) -> bool:
     """Whether a condition may hold, by what is known."""
     if " | " in condition:
         return any(may_hold(part, known) for part in condition.split(" | "))
@@ -140,7 +156,7 @@ def may_hold(condition: str, known: Dict[str, object]) -> bool:
 
 def tokens_of(atoms: Iterable[Atom]) -> str:
     """What told.json has for the lines of an event."""
-    tokens = []
+    tokens: List[str] = []
     for atom in atoms:
         tokens += ["apply"] + ["reply"] * (len(atom.lines) - 1) if atom.kind == "apply" else [atom.kind] * len(atom.lines)
     return "".join(token + " " for token in tokens)
@@ -165,7 +181,7 @@ def said_by(atoms: Iterable[Atom]) -> Dict[str, int]:
         if kind == "start_view":
             said["given"] = atom.view
         if kind in ("give_prepare", "give_block"):
-            said["gave"] = atom.messages[0].numbers()["k"]
+            said["gave"] = atom.messages[0].told()["k"]
         if kind == "apply":
             said.setdefault("from", atom.op)
             said["to"] = atom.op
@@ -183,46 +199,45 @@ class Namer:
     def names(self, atoms: List[Atom], known: Known) -> List[str]:
         """The rules that may have made an event, before which so much was known."""
         tokens, said, before = tokens_of(atoms), said_by(atoms), known.before(atoms[0])
-        numbers = before | {name: (number, number) for name, number in said.items()}
-        found = []
+        numbers: Facts = {**before, **{name: (number, number) for name, number in said.items()}}
+        found: List[str] = []
         for row in ROWS:
-            if row["rule"] not in found and row["says"].fullmatch(tokens) and self.fits(row, atoms[0], numbers, said, known):
-                found.append(row["rule"])
+            if row.rule not in found and row.says.fullmatch(tokens) and self.fits(row, atoms[0], numbers, said, known):
+                found.append(row.rule)
         return found
 
-    def fits(self, row: dict, first: Atom, numbers: Dict[str, object], said: Dict[str, int], known: Known) -> bool:
-        if row["event"] in ("tick", "request"):
-            return all(may_hold(condition, numbers) for condition in row["when"])
-        if not all(may_hold(condition, numbers) for condition in row["when"]):
+    def fits(self, row: Row, first: Atom, numbers: Facts, said: Dict[str, int], known: Known) -> bool:
+        if row.event in ("tick", "request"):
+            return all(may_hold(condition, numbers) for condition in row.when)
+        if not all(may_hold(condition, numbers) for condition in row.when):
             return False
-        if not self.group.is_known(self.member, heartbeats=row["event"] == "commit"):
+        if not self.group.is_known(self.member, heartbeats=row.event == "commit"):
             return True
         return any(may_have_come(message, first) and self.agrees(row, message, numbers, known) for message in self.candidates(row, said))
 
-    def candidates(self, row: dict, said: Dict[str, int]) -> List[Message]:
+    def candidates(self, row: Row, said: Dict[str, int]) -> List[Message]:
         """Messages to the member of the kind that the rule is of; where the rule says which, these."""
         for condition, key, name in KEYS:
-            if condition in row["when"] and name in said:
-                if key == "block" and not row["event"].endswith("_block") or key == "op" and row["event"].endswith("_block"):
+            if condition in row.when and name in said:
+                if key == "block" and not row.event.endswith("_block") or key == "op" and row.event.endswith("_block"):
                     continue
-                return self.group.found(self.member, row["event"], key, said[name])
-        if row["event"] == "commit" and "to" in said:
+                return self.group.found(self.member, row.event, key, said[name])
+        if row.event == "commit" and "to" in said:
             return [message for message in self.group.telling(self.member, said["to"]) if message.kind == "commit"]
-        if row["event"] == "prepare_ok" and "from" in said:
+        if row.event == "prepare_ok" and "from" in said:
             return [message for op in range(said["from"], said["from"] + MOST_AHEAD) for message in self.group.found(self.member, "prepare_ok", "op", op)]
-        return self.group.found(self.member, row["event"])
+        return self.group.found(self.member, row.event)
 
-    def agrees(self, row: dict, message: Message, numbers: Dict[str, object], known: Known) -> bool:
+    def agrees(self, row: Row, message: Message, numbers: Facts, known: Known) -> bool:
         """Whether the rule's conditions may hold of this message."""
-        told = {name: (number, number) for name, number in message.numbers().items() if number is not None}
-        view, op = message.view, message.op
-        flags = {
+        view, op = message.numbers.get("view"), message.numbers.get("op")
+        values: Facts = {
+            **numbers, **{name: (number, number) for name, number in message.told().items()},
             "primary": None if view is None else view % self.group.size == self.member,
             "held": True if (view, op) in known.held and known.view == (view, view) else None,
-            "fresh": True if op is not None and op > numbers["head"][1] else None,
+            "fresh": True if op is not None and op > range_of("head", numbers)[1] else None,
         }
-        values = numbers | told | flags
-        return all(may_hold(condition, values) for condition in row["when"])
+        return all(may_hold(condition, values) for condition in row.when)
 
     def of_steps(self, steps: List[List[Atom]], unsure: List[bool]) -> List[List[str]]:
         """The rules of each step. Where it can't be told whether a step is of one event with the one before, those of both together are named too."""
@@ -234,12 +249,12 @@ class Namer:
                 self.known.read(atom)
         names: List[List[str]] = [[] for _ in steps]
         for first in range(len(steps)):
-            atoms: List[Atom] = []
+            together: List[Atom] = []
             for last in range(first, min(first + MOST_TOGETHER, len(steps))):
                 if last > first and not unsure[last]:
                     break
-                atoms = atoms + steps[last]
-                found = self.names(atoms, before[first])
+                together = together + steps[last]
+                found = self.names(together, before[first])
                 for at in range(first, last + 1):
                     names[at] += [name for name in found if name not in names[at]]
         return names

@@ -2,7 +2,9 @@
 
 import re
 from html import escape
-from typing import Dict, List, NamedTuple, Optional, Tuple
+from typing import Callable, Dict, List, NamedTuple, Optional, Set, Tuple
+
+from .reading import ShownRun, ShownStep
 
 MOST_STEPS = 2_000
 TOP = 74
@@ -61,7 +63,7 @@ def cut(words: str, most: int) -> str:
     return words if len(words) <= most else words[:most - 1] + "…"
 
 
-def label_of(output: str, step: dict) -> Optional[Label]:
+def label_of(output: str, step: ShownStep) -> Optional[Label]:
     """What stands beside the lane for an output, where it is no message."""
     words = output.split()
     kind = words[0]
@@ -82,7 +84,7 @@ def label_of(output: str, step: dict) -> Optional[Label]:
     return Label(int(line[1]), " ".join([line[0], "sector", *line[2:]]) + (", kept out" if output == "kept out" else ""), "bad") if line[0] in FAULTS else None
 
 
-def labels_of(step: dict) -> List[Label]:
+def labels_of(step: ShownStep) -> List[Label]:
     """What stands beside the lanes for a step; one message that goes to several is said once."""
     labels: List[Label] = []
     line = step["line"].split()
@@ -114,7 +116,7 @@ class Sent(NamedTuple):
 class Picture:
     """Draws a run as explorer/reading.py gives it."""
 
-    def __init__(self, run: dict) -> None:
+    def __init__(self, run: ShownRun) -> None:
         self.steps, self.size = run["steps"], run["size"]
         self.marks: List[str] = []
         self.rows: List[Row] = []  # of each step
@@ -124,7 +126,7 @@ class Picture:
         self.stopped: Dict[int, float] = {}
         self.gaps: List[str] = []
         self.views = [0] * self.size
-        self.used: set = set()
+        self.used: Set[str] = set()
         for at, step in enumerate(self.steps):
             self.happen(at, step)
 
@@ -157,7 +159,7 @@ class Picture:
 
     # What happens, step by step.
 
-    def happen(self, at: int, step: dict) -> None:
+    def happen(self, at: int, step: ShownStep) -> None:
         row, words = self.rows[at], step["line"].split()
         if at == 0 or self.rows[at - 1] != row:
             self.text(12, row.y + 4, cut(row.line, MOST_OF_LINE), "faint")
@@ -281,7 +283,7 @@ class Picture:
                 marks.append(arrow(f"M{x} {y - 4}h24", name))
                 x += 32
             else:
-                marks.append({"tick": tick_mark, "stop": stop_mark, "start": start_mark, "view": lambda x, y: view_mark(x + 6, y, 1)}[name](x + 7, y - 4))
+                marks.append(MARK_OF_KEY[name](x + 7, y - 4))
                 x += 34 if name == "view" else 20
             marks.append(f'<text x="{x:.1f}" y="{y}" fill="{INK}">{words}</text>')
             x += LETTER * len(words) + 18
@@ -328,3 +330,10 @@ def view_mark(x: float, y: float, view: int) -> str:
     half = 7 + LETTER * len(str(view)) / 2 + 4
     return f'<rect x="{x - half:.1f}" y="{y - 9}" width="{2 * half:.1f}" height="18" rx="4" fill="#fff0bd" stroke="#a33a00"/>' \
            f'<text x="{x:.1f}" y="{y + 4}" text-anchor="middle" font-weight="bold" fill="{INK}">v{view}</text>'
+
+
+def view_of_key(x: float, y: float) -> str:
+    return view_mark(x + 6, y, 1)
+
+
+MARK_OF_KEY: Dict[str, Callable[[float, float], str]] = {"tick": tick_mark, "stop": stop_mark, "start": start_mark, "view": view_of_key}

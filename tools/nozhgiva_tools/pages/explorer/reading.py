@@ -2,6 +2,7 @@
 
 import re
 import subprocess
+from typing import List, Sequence, Tuple, TypedDict
 
 from nozhgiva_tools.places import NOZHGIVA
 from nozhgiva_tools.run import program, replays
@@ -13,7 +14,40 @@ AT = re.compile(r"# at ([1-9][0-9]*)")
 MOST_OF_A_WORD = 72
 
 
-def opens_at(text, count):
+class LineOfRun(TypedDict):
+    line: str
+    note: str
+    outputs: List[str]
+    came: List[int]
+
+
+class ShownStep(LineOfRun, total=False):
+    """A step, ready for the page: its line, the comment above it, what was put out, and the numbers of the messages that came. Of members that run
+    also the rules that fit, whether it may be of one event with the step before, whether it says again what was said, and when it was."""
+
+    rules: List[str]
+    unsure: bool
+    again: bool
+    time: str
+    words: List[str]
+
+
+class AnyRun(TypedDict):
+    about: str
+    size: int
+    at: int
+    steps: List[ShownStep]
+
+
+class ShownRun(AnyRun, total=False):
+    """A run, ready for the page: what it is about, how many replicas it has, at which step it opens, and its steps. Of members that run also that it is
+    of such, and which of them don't run at first."""
+
+    members: bool
+    absent: List[int]
+
+
+def opens_at(text: str, count: int) -> int:
     """The number of the line that an example is about; 0 where it doesn't say."""
     found = next((int(match[1]) for match in map(AT.fullmatch, text.split("\n")) if match), 0)
     if found > count:
@@ -21,13 +55,15 @@ def opens_at(text, count):
     return found
 
 
-def step_of(line, note=""):
+def step_of(line: str, note: str = "") -> ShownStep:
     return {"line": line, "note": note, "outputs": [], "came": []}
 
 
-def read_example(text):
+def read_example(text: str) -> Tuple[str, List[ShownStep]]:
     """The comment at the head of an example, and its steps, each with the comment above it and the outputs under it."""
-    about, notes, steps = "", [], []
+    about = ""
+    notes: List[str] = []
+    steps: List[ShownStep] = []
     for line in text.split("\n"):
         if AT.fullmatch(line):
             continue
@@ -44,7 +80,7 @@ def read_example(text):
     return about, steps
 
 
-def find_program():
+def find_program() -> str:
     """The program, which is none that is older than a source; nothing where there is none."""
     try:
         return program.find().path
@@ -52,7 +88,7 @@ def find_program():
         return ""
 
 
-def ask_program(path, steps):
+def ask_program(path: str, steps: Sequence[ShownStep]) -> None:
     """Puts under each step what the program writes."""
     replay = replays.Replay(path)
     try:
@@ -64,7 +100,7 @@ def ask_program(path, steps):
         replay.end()
 
 
-def ask_unproved(path):
+def ask_unproved(path: str) -> List[ShownStep]:
     """The same by `nozhgiva run`, which compiles the program where there is none."""
     made = subprocess.run([NOZHGIVA, "run", path], stdout=subprocess.PIPE, text=True, check=False)  # what it says, as of a build, is told as it comes
     if made.returncode:
@@ -72,7 +108,7 @@ def ask_unproved(path):
     return read_example(made.stdout)[1]
 
 
-def number_arrivals(steps):
+def number_arrivals(steps: Sequence[ShownStep]) -> None:
     """Notes in each step which message it delivers."""
     sent = 0
     for step in steps:
@@ -82,17 +118,18 @@ def number_arrivals(steps):
         sent += sum(output.startswith("send ") for output in step["outputs"])
 
 
-def shorten(line):
+def shorten(line: str) -> str:
     """A long value is cut, with its length behind it."""
     return " ".join(word if len(word) <= MOST_OF_A_WORD else f"{word[:MOST_OF_A_WORD]}…({len(word)})" for word in line.split(" "))
 
 
-def read_run(path):
+def read_run(path: str) -> ShownRun:
     """The run of an example or a plain schedule, ready for the page."""
     with open(path, encoding="ascii") as file:
         text = file.read()
     about, steps = read_example(text)
-    if not steps or not GROUP.fullmatch(steps[0]["line"]):
+    group = GROUP.fullmatch(steps[0]["line"]) if steps else None
+    if group is None:
         raise BadRun("the first line of a schedule is `cluster N`")
     if not any(step["outputs"] for step in steps):
         found = find_program()
@@ -105,4 +142,4 @@ def read_run(path):
     for step in steps:
         step["line"] = shorten(step["line"])
         step["outputs"] = [shorten(output) for output in step["outputs"]]
-    return {"about": about, "size": int(GROUP.fullmatch(steps[0]["line"])[1]), "at": opens_at(text, len(steps)), "steps": steps}
+    return {"about": about, "size": int(group[1]), "at": opens_at(text, len(steps)), "steps": steps}

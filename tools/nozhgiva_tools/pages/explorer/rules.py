@@ -4,6 +4,7 @@ import json
 import os
 import re
 from html import escape
+from typing import Dict, Iterable, List, Tuple, TypedDict
 
 from nozhgiva_tools.places import DOCS
 
@@ -13,7 +14,32 @@ FAULT_LINES = ("damage", "stale", "unread", "misdirect")
 BELOW = {"take a log": "Taking a log", "jump": "Jumping", "visit": "Visiting"}
 
 
-def inline(text):
+class Told(TypedDict):
+    """A row of told.json: a rule, and a case of it. Of an event, conditions that hold, and the outputs as a pattern."""
+
+    rule: str
+    event: str
+    when: List[str]
+    says: str
+
+
+class Rule(TypedDict):
+    """A row of the page's tables of rules, as HTML."""
+
+    no: str
+    when: str
+    what: str
+
+
+class Rules(TypedDict):
+    """The rules by their names, the words by the names that the page gives them, and what each rule asks and puts out."""
+
+    rules: Dict[str, Rule]
+    words: Dict[str, str]
+    told: List[Told]
+
+
+def inline(text: str) -> str:
     """A line of Markdown as HTML: code, bold, italics; of a link its words."""
     html = escape(text, quote=False)
     html = re.sub(r"\[([^\]]*)\]\([^)]*\)", r"\1", html)
@@ -22,13 +48,14 @@ def inline(text):
     return re.sub(r"\*([^*]+)\*", r"<i>\1</i>", html)
 
 
-def cells(row):
+def cells(row: str) -> List[str]:
     return [cell.strip() for cell in row.strip().strip("|").split("|")]
 
 
-def tables(lines):
+def tables(lines: Iterable[str]) -> List[Tuple[List[str], List[List[str]]]]:
     """Each table of a page: its head and its rows."""
-    found, rows = [], []
+    found: List[Tuple[List[str], List[List[str]]]] = []
+    rows: List[List[str]] = []
     for line in [*lines, ""]:
         if line.startswith("|"):
             rows.append(cells(line))
@@ -38,29 +65,31 @@ def tables(lines):
     return found
 
 
-def section(text, title):
+def section(text: str, title: str) -> str:
     """What stands under a heading, up to the next one."""
     match = re.search(rf"^#+ {re.escape(title)}\n(.*?)(?=^#)", text, re.M | re.S)
     return "" if match is None else " ".join(match[1].split())
 
 
-def paragraph(text, front):
+def paragraph(text: str, front: str) -> str:
     """The paragraph that begins so."""
     at = text.find(front)
     return "" if at < 0 else " ".join(text[at:].split("\n\n")[0].split())
 
 
-def read_told():
-    """What each rule asks of the numbers and puts out, a row for each case: of an event, conditions that hold, the outputs as a pattern."""
+def read_told() -> List[Told]:
+    """What each rule asks of the numbers and puts out, a row for each case."""
     with open(TOLD, encoding="utf-8") as file:
-        return json.load(file)
+        rows: List[Told] = json.load(file)
+    return rows
 
 
-def read_rules():
-    """`rules` by their names, each with number, condition and effect; `words` by the names that the page gives them; `told` (read_told)."""
+def read_rules() -> Rules:
+    """Those of the page, each with number, condition and effect; and told.json."""
     with open(PAGE, encoding="utf-8") as file:
         text = file.read()
-    rules, words = {}, {}
+    rules: Dict[str, Rule] = {}
+    words: Dict[str, str] = {}
     for head, rows in tables(text.split("\n")):
         for row in rows:
             entry = dict(zip(head, row))

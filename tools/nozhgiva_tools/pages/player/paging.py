@@ -41,7 +41,9 @@ def examples() -> List[Dict[str, str]]:
         if line.startswith("## "):
             section = line[3:]
         row = re.fullmatch(r"\| ((?:`[^`]+\.txt`(?:, )?)+) \| (.*) \|", line)
-        for name in re.findall(r"`([^`]+)`", row[1]) if row else []:
+        if row is None:
+            continue
+        for name in re.findall(r"`([^`]+)`", row[1]):
             text = without_outputs((EXAMPLES / name).read_text(encoding="utf-8"))
             found.append({"section": STILL if name.startswith("standstills/") else section, "name": name, "says": row[2].replace("`", ""), "text": text})
     return sorted(found, key=lambda example: example["section"] == STILL)
@@ -50,7 +52,10 @@ def examples() -> List[Dict[str, str]]:
 def key() -> str:
     """The explorer's key to its marks, without what it says of its keys."""
     page = (EXPLORER / "page.html").read_text(encoding="utf-8")
-    return re.search(r'<section id="key".*?</ul>', page, re.S)[0] + "</section>"
+    found = re.search(r'<section id="key".*?</ul>', page, re.S)
+    if found is None:
+        raise ValueError("page.html has no section `key`")
+    return found[0] + "</section>"
 
 
 def page_of(program: bytes, origin: str) -> str:
