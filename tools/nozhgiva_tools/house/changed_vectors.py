@@ -6,9 +6,10 @@ The changes are made on bytes, at the places that docs/FORMATS.md gives; no clie
 
 import os
 import sys
+from typing import Callable, Dict, Iterator, Optional, Tuple
 
 from nozhgiva_tools.places import TOP
-from nozhgiva_tools.told.formats import COMMANDS, name, number, spelled
+from nozhgiva_tools.told.formats import COMMANDS, Field, name, number, spelled
 
 HERE = os.path.join(TOP, "clients", "vectors")
 
@@ -29,14 +30,22 @@ ANSWERS_HEAD = """\
 """
 
 
-def table(version):
+Rows = Dict[str, bytes]
+"""Messages by their words."""
+Cases = Iterator[Tuple[str, bytes]]
+"""What was changed, and the bytes that it came to."""
+Answers = Iterator[Tuple[str, str, bytes, bytes]]
+"""A word, why, the open request and what came."""
+
+
+def table(version: int) -> Rows:
     """The messages of a version by their words."""
     with open(f"{HERE}/version-{version}.txt", encoding="ascii") as file:
         rows = [line.rstrip("\n").split("\t") for line in file if not line.startswith("#")]
     return {words: bytes.fromhex(digits) for words, digits in rows}
 
 
-def found(rows, *pieces):
+def found(rows: Rows, *pieces: str) -> bytes:
     """The first message whose words begin with the first piece and hold the others."""
     return next(data for words, data in rows.items() if words.startswith(pieces[0]) and all(piece in words for piece in pieces[1:]))
 
@@ -49,71 +58,71 @@ OK, VALUE = found(ONE, "reply", " ok to "), found(ONE, "reply", " value green ")
 SESSION, BUSY, REDIRECT = found(ONE, "reply", " session to "), found(ONE, "reply", " busy to "), found(ONE, "reply", " redirect to ")
 
 
-def named(data):
+def named(data: bytes) -> bytes:
     """The bytes with the header's name made right."""
     return name(data[16:HEADER]) + data[16:]
 
 
-def with_field(data, field, value):
+def with_field(data: bytes, field: str, value: Field) -> bytes:
     """The bytes with another value of one field; the header's name is left as it is."""
     at, size = FIELDS[field]
     return data[:at] + (value if isinstance(value, bytes) else number(value, size)) + data[at + size:]
 
 
-def changed(data, **fields):
+def changed(data: bytes, **fields: Field) -> bytes:
     """The bytes with other values of these fields, and the header's name made right."""
     for field, value in fields.items():
         data = with_field(data, field, value)
     return named(data)
 
 
-def with_body(data, body):
+def with_body(data: bytes, body: bytes) -> bytes:
     """The message with another body, its size and all names made right."""
     return changed(data[:HEADER], body=name(body), size=HEADER + len(body)) + body
 
 
-def flipped(data, at):
+def flipped(data: bytes, at: int) -> bytes:
     return data[:at] + bytes([data[at] ^ 1]) + data[at + 1:]
 
 
-def short():
+def short() -> Cases:
     yield "no bytes", b""
     yield "a request's first byte", PUT[:1]
     yield "a request without its header's last byte", PUT[:HEADER - 1]
 
 
-def bad_sum():
+def bad_sum() -> Cases:
     for at in (0, 15, 16, 63, 64, 80, 104, 108, 110, 127):
         yield f"a reply's byte {at} with its lowest bit flipped", flipped(VALUE, at)
     yield "a request's command is 0, and the header's name is left", with_field(PUT, "command", 0)
     yield "128 zeros", bytes(HEADER)
 
 
-def bad_command():
+def bad_command() -> Cases:
     for command in (0, len(COMMANDS) + 1, 255):
         yield f"a reply's command is {command}", changed(VALUE, command=command)
     yield "a reply's command and version are 0", changed(VALUE, command=0, version=0)
 
 
-def bad_version():
+def bad_version() -> Cases:
     for version in (0, 3, 255):
         yield f"a reply's version is {version}", changed(VALUE, version=version)
     yield "a reply's version is 0 and its size 127", changed(VALUE, version=0, size=127)
 
 
-def bad_size():
+def bad_size() -> Cases:
     for size in (0, 127, 20_481, 2**32 - 1):
         yield f"a reply's size is {size}", changed(VALUE, size=size)
     yield "a reply's size is 127, and its byte 127 is 1", changed(VALUE, size=127, zeros=1)
 
 
-def not_zero():
+def not_zero() -> Cases:
     for at in (120, 127):
         yield f"a reply's byte {at} is 1", changed(VALUE, zeros=bytes(at - 120) + b"\x01" + bytes(127 - at))
     yield "a reply's byte 127 is 1, and its last byte is missing", changed(VALUE, zeros=1)[:-1]
 
 
-def body_sum():
+def body_sum() -> Cases:
     size = len(VALUE)
     yield "a reply without its last byte", VALUE[:-1]
     yield "a reply's header alone", VALUE[:HEADER]
@@ -127,14 +136,14 @@ def body_sum():
     yield "a request's commit is 1, and its last byte is missing", changed(PUT, commit=1)[:-1]
 
 
-def other_command():
+def other_command() -> Cases:
     """Whole messages that members say to each other, and a client never hears."""
     for command in ("commit", "start_view_change", "get_view"):
-        fields = dict(cluster=5, view=3, replica=2, **(dict(op=9, commit=8) if command == "commit" else {}))
-        yield f"a {command}", spelled(command, **fields)
+        op, commit = (9, 8) if command == "commit" else (0, 0)
+        yield f"a {command}", spelled(command, cluster=5, view=3, replica=2, op=op, commit=commit)
 
 
-def request_fields():
+def request_fields() -> Cases:
     for field in ("parent", "request_name", "view", "op", "commit", "replica", "kind", "aux"):
         yield f"a request's {field} is 1", changed(PUT, **{field: 1})
     yield "a put under number 0", changed(PUT, request=0)
@@ -142,7 +151,7 @@ def request_fields():
     yield "a put that is said to be a reply", changed(PUT, command=5)
 
 
-def reply_fields():
+def reply_fields() -> Cases:
     for field in ("parent", "commit", "aux"):
         yield f"a reply's {field} is 1", changed(VALUE, **{field: 1})
     for kind in (0, 2, 6, 7, 255):
@@ -155,11 +164,11 @@ def reply_fields():
     yield "a redirect to view 2^32 - 1", changed(REDIRECT, view=2**32 - 1)
 
 
-def put_body(key, value, keys=None, values=None):
+def put_body(key: bytes, value: bytes, keys: Optional[int] = None, values: Optional[int] = None) -> bytes:
     return b"\x02" + number(len(key) if keys is None else keys, 1) + number(len(value) if values is None else values, 2) + key + value
 
 
-def operations():
+def operations() -> Cases:
     """Bodies that are no operation of version 1."""
     yield from [("no byte", b""), ("the byte 0", b"\x00"), ("the byte 5", b"\x05"), ("a register with a byte behind it", b"\x01\x00")]
     yield from [("a put that ends after its first byte", b"\x02"), ("a put without key and value", b"\x02\x01\x00\x01")]
@@ -174,7 +183,7 @@ def operations():
     yield "a get whose key's length is one less than there is", b"\x03\x04color"
 
 
-def texts(longest):
+def texts(longest: int) -> Cases:
     """Texts that are no key, or no value, of so many bytes at most."""
     yield "of no bytes", b""
     yield f"of {longest + 1:,} bytes", b"v" * (longest + 1)
@@ -182,7 +191,7 @@ def texts(longest):
         yield f"with the byte {byte}", b"ab" + bytes([byte])
 
 
-def outcomes():
+def outcomes() -> Cases:
     """Bodies that are no outcome of version 1."""
     yield from [("no byte", b""), ("the byte 0", b"\x00"), ("the byte 6", b"\x06"), ("a session with a byte behind it", b"\x01\x00")]
     yield from [("a value without its length", b"\x05"), ("a value with half its length", b"\x05\x00")]
@@ -191,7 +200,7 @@ def outcomes():
     yield "a value whose length is one less than there is", b"\x05\x00\x04green"
 
 
-def versions():
+def versions() -> Cases:
     """What one version has and the other hasn't."""
     yield "a put of 3,000 bytes that is said to be of version 1", changed(LONG_PUT, version=1)
     yield "a reply with 3,000 bytes that is said to be of version 1", changed(LONG_VALUE, version=1)
@@ -199,7 +208,7 @@ def versions():
     yield "a reply with 3,001 bytes in version 2", with_body(LONG_VALUE, b"\x05" + number(3001, 2) + b"v" * 3001)
 
 
-def body_shape():
+def body_shape() -> Cases:
     yield from request_fields()
     yield from reply_fields()
     for what, body in operations():
@@ -209,14 +218,14 @@ def body_shape():
     yield from versions()
 
 
-FAULTS = {
+FAULTS: Dict[str, Callable[[], Cases]] = {
     "Short": short, "BadSum": bad_sum, "BadCommand": bad_command, "BadVersion": bad_version, "BadSize": bad_size, "NotZero": not_zero,
     "BodySum": body_sum, "Other": other_command, "BodyShape": body_shape,
 }
 
 
-def answers():
-    """A word, why, the open request and what came: by one change each of the answer that would have counted."""
+def answers() -> Answers:
+    """By one change each of the answer that would have counted."""
     again, late = found(ONE, "reply", " gap to "), found(ONE, "reply", " old to ")
     yield "answer", "the value that was asked for", GET, VALUE
     yield "answer", "the register has its session", REGISTER, SESSION
@@ -247,13 +256,13 @@ def answers():
     yield "dropped", "a member's commit", GET, spelled("commit", cluster=5, view=3, replica=2, op=9, commit=8)
 
 
-def texts_of_files():
+def texts_of_files() -> Dict[str, str]:
     bad = "".join(f"{fault}\t{what}\t{data.hex()}\n" for fault, rows in FAULTS.items() for what, data in rows())
     said = "".join(f"{word}\t{why}\t{request.hex()}\t{reply.hex()}\n" for word, why, request, reply in answers())
     return {"bad.txt": BAD_HEAD + bad, "answers.txt": ANSWERS_HEAD + said}
 
 
-def main():
+def main() -> None:
     words = sys.argv[1:]
     if words in (["-h"], ["--help"]):
         print(__doc__)

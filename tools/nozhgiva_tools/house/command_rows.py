@@ -4,29 +4,30 @@ what it has a spawner do.
   ./nozhgiva command-rows [--check]     writes both files; with --check it compares them with what stands there"""
 
 import argparse
+from typing import List, Optional, Sequence, Tuple, Union
 
 from nozhgiva_tools.told.formats import header, name, REGISTER, rows_parser, spelled, write_rows
 
 given, told = "", ""
 
 
-def row(what):
+def row(what: str) -> None:
     global given, told
     given += f"== {what}\n"
     told += f"== {what}\n"
 
 
-def finds(line):
+def finds(line: str) -> None:
     """What the next run finds outside."""
     global given
     given += line + "\n"
 
 
-def arrives(data, port=0):
+def arrives(data: bytes, port: int = 0) -> None:
     finds(f"arrive {port} {data.hex()}")
 
 
-def runs(line, text, end, ports=(), calls=""):
+def runs(line: str, text: str, end: str, ports: Sequence[int] = (), calls: str = "") -> None:
     """A run, what it writes, its end, the ports to which it sends, and the calls of its spawner."""
     global given, told
     given += f"run {line}\n"
@@ -34,19 +35,19 @@ def runs(line, text, end, ports=(), calls=""):
     told += f"  {end}" + "".join(f", to {port}" for port in ports) + "\n" + "".join(f"  {it}\n" for it in calls.splitlines())
 
 
-def streams(line, text, end):
+def streams(line: str, text: str, end: str) -> None:
     """A run over streams, what it writes and its end."""
     global given, told
     given += f"streams {line}\n"
     told += f"streams {line}\n" + "".join(f"  {it}\n" for it in text.splitlines()) + f"  {end}\n"
 
 
-def comes(data, port=0):
+def comes(data: bytes, port: int = 0) -> None:
     """Bytes come next over streams."""
     finds(f"piece {port} {data.hex()}")
 
 
-def words(line, read):
+def words(line: str, read: str) -> None:
     """A command line, and what it is read as."""
     global given, told
     given += f"words {line}\n"
@@ -54,11 +55,11 @@ def words(line, read):
 
 
 # Datagrams of group 5.
-def register(client=7, cluster=5, request=0, operation=REGISTER, version=1):
+def register(client: int = 7, cluster: int = 5, request: int = 0, operation: bytes = REGISTER, version: int = 1) -> bytes:
     return spelled("request", operation, cluster=cluster, client=client, request=request, version=version)
 
 
-def reply(kind, op, outcome, client=7, view=0, request=0, operation=REGISTER, version=1):
+def reply(kind: int, op: int, outcome: bytes, client: int = 7, view: int = 0, request: int = 0, operation: bytes = REGISTER, version: int = 1) -> bytes:
     asked = name(register(client, 5, request, operation, version)[16:128])
     return spelled("reply", outcome, cluster=5, client=client, request=request, request_name=asked, view=view, kind=kind, op=op, version=version)
 
@@ -67,36 +68,36 @@ ABSENT, GET_A = (1, 2, b"\x04"), b"\x03\x01a"
 SESSION, OLD, BUSY, REDIRECT = (1, 1, b"\x01"), (2, 0, b""), (5, 0, b""), (6, 0, b"")
 
 
-def put(key, value):
+def put(key: str, value: str) -> bytes:
     return b"\x02" + bytes([len(key)]) + len(value).to_bytes(2, "big") + f"{key}{value}".encode()
 
 
-def get(key):
+def get(key: str) -> bytes:
     return b"\x03" + bytes([len(key)]) + key.encode()
 
 
-def delete(key):
+def delete(key: str) -> bytes:
     return b"\x04" + bytes([len(key)]) + key.encode()
 
 
-def value(it):
+def value(it: str) -> bytes:
     return b"\x05" + len(it).to_bytes(2, "big") + it.encode()
 
 
 OK = b"\x02"
 
 
-def answers(client, outcomes, version=1):
+def answers(client: int, outcomes: Sequence[Tuple[bytes, bytes]], version: int = 1) -> None:
     """What each operation is answered with comes, one after the other, the first to request 1."""
     for number, (operation, outcome) in enumerate(outcomes, 1):
         arrives(reply(1, number + 1, outcome, client, request=number, operation=operation, version=version))
 
 
-def commit(view):
+def commit(view: int) -> bytes:
     return spelled("commit", cluster=5, view=view)
 
 
-def prepare(cluster, replica, op):
+def prepare(cluster: int, replica: int, op: int) -> bytes:
     """A prepare from this member in view 0, of client 7's register as this op of a group."""
     root = name(header("root", cluster=cluster)[16:])
     entry = spelled("entry", REGISTER, cluster=cluster, client=7, op=op, parent=root)
@@ -131,7 +132,7 @@ arrives(commit(2))
 runs(SECOND, "send 0 1 0 get_view view 2", "done", [0])
 
 
-def changes_nothing(what, datagram):
+def changes_nothing(what: str, datagram: Union[str, bytes]) -> None:
     row(f"{what} changes nothing")
     finds(datagram if isinstance(datagram, str) else f"arrive 0 {datagram.hex()}")
     runs(SECOND, "", "done")
@@ -150,7 +151,7 @@ changes_nothing("the log of the view that it is in", spelled("start_view", clust
 
 # Four turns of the member that leads, which is due to tick at the third: nothing comes, a request of another group, one of a client without
 # a session, zeros.
-def turns(what):
+def turns(what: str) -> None:
     row(what)
     finds("quiet")
     arrives(register(cluster=6), 9)
@@ -204,13 +205,13 @@ MOVE = "migrate 5 0 2 f"
 FOUND_ON = "start 0 view 1 log_view 0 commit 0\nsend 0 0 1 start_view_change view 1\nreply 0 client 7 request 0 redirect 1"
 
 
-def made_as(line):
+def made_as(line: str) -> None:
     """A member's file is made, on which a register of client 7 stands as op 1."""
     arrives(register())
     runs(line, PREPARES, "done", [1])
 
 
-def found_as(version):
+def found_as(version: int) -> None:
     """The member is found again on a file of this version, and hears a register of each."""
     arrives(register(version=3 - version), 9)
     arrives(register(version=version), 9)
@@ -381,19 +382,19 @@ runs("replay", REDIRECTED, "refused: line 3")
 
 # The number 7 makes a group of five and 64 lines. By the rules: a fault of a disk, a redirect, three ticks of the primary, a request that it prepares, a tick that
 # prepares it again; of what is delivered behind that, five prepares reach members that run; a redirect and three faults stand between. The rest puts out nothing.
-LINES = []
+LINES: List[str] = []
 
 
-def sends(sender, others, what):
+def sends(sender: int, others: Sequence[int], what: str) -> None:
     for other in others:
         LINES.append(f"send {sum(line.startswith('send') for line in LINES)} {sender} {other} {what}")
 
 
-def beats(op):
+def beats(op: int) -> None:
     sends(0, (1, 2, 3, 4), f"commit view 0 op {op} commit 0")
 
 
-def redirects(member, client):
+def redirects(member: int, client: int) -> None:
     LINES.append(f"reply {member} client {client} request 0 redirect 0")
 
 
@@ -416,16 +417,16 @@ row("64 lines are drawn, played and summed up")
 runs("soak 7 64", f"events 64\nmessages 29\ncommits 0\nview 0\ndone 4\nkept out 0\nsum {SUM}", "done")
 
 
-def texts(peers):
+def texts(peers: str) -> str:
     return "[" + ", ".join(f'"{peer}"' for peer in peers.split()) + "]"
 
 
-def node(cluster, replica, turns, peers, mode=None, version=1):
+def node(cluster: int, replica: int, turns: int, peers: str, mode: Optional[str] = None, version: int = 1) -> str:
     fresh = f"Some(Kind {{ mode: {mode}, version: Version {{ number: {version} }} }})" if mode else "None"
     return f'Node(NodeWords {{ cluster: {cluster}, replica: {replica}, file: "f", turns: {turns}, peers: {texts(peers)}, fresh: {fresh} }})'
 
 
-def client(peers, version=1):
+def client(peers: str, version: int = 1) -> str:
     return f"Client(ClientWords {{ version: Version {{ number: {version} }}, cluster: 5, id: 7, turns: 3, peers: {texts(peers)} }})"
 
 

@@ -3,55 +3,65 @@ program: each message is spelled here, field by field, and beside it stands its 
   ./nozhgiva message-rows [--check]     writes both files; with --check it compares them with what stands there"""
 
 import argparse
+from typing import Dict, List, Sequence, Tuple
 
-from nozhgiva_tools.told.formats import header, name, number, REGISTER, rows_parser, SEVENS, spelled, write_rows
+from nozhgiva_tools.told.formats import Field, header, name, number, REGISTER, rows_parser, SEVENS, spelled, write_rows
 
 VALUE = b"\x05\x00\x01a"
 
 
-def entry(op, **fields):
+Fields = Dict[str, Field]
+
+
+def with_others(fields: Fields, **others: Field) -> Fields:
+    """These fields, and of the others those that they don't name."""
+    return {**others, **fields}
+
+
+def entry(op: int, **fields: Field) -> bytes:
     """The header of a register of client 7 in group 5, made in view 1."""
-    return header("entry", REGISTER, **{**dict(cluster=5, client=7, view=1, op=op, request_name=SEVENS, parent=SEVENS), **fields})
+    return header("entry", REGISTER, **with_others(fields, cluster=5, client=7, view=1, op=op, request_name=SEVENS, parent=SEVENS))
 
 
-def entries(first, last):
+def entries(first: int, last: int) -> bytes:
     return b"".join(entry(op) for op in range(first, last + 1))
 
 
-def sent(command, body=b"", **fields):
-    return spelled(command, body, **{**dict(cluster=5, replica=2), **fields})
+def sent(command: str, body: bytes = b"", **fields: Field) -> bytes:
+    return spelled(command, body, **with_others(fields, cluster=5, replica=2))
 
 
-def in_view(command, body=b"", **fields):
-    return sent(command, body, **{**dict(view=3), **fields})
+def in_view(command: str, body: bytes = b"", **fields: Field) -> bytes:
+    return sent(command, body, **with_others(fields, view=3))
 
 
-def changed(data, places, renamed):
+def changed(data: bytes, places: Sequence[Tuple[int, int]], renamed: bool) -> bytes:
     """The bytes with others at these places, and with the header's name made right again or left."""
-    data = bytearray(data)
+    made = bytearray(data)
     for at, byte in places:
-        data[at] = byte
+        made[at] = byte
     if renamed:
-        data[:16] = name(bytes(data[16:128]))
-    return bytes(data)
+        made[:16] = name(bytes(made[16:128]))
+    return bytes(made)
 
 
 # Long pieces of several rows. The longer ones are looked for first.
 PIECES = {"ENTRIES11TO65": entries(11, 65), "ENTRIES66TO74": entries(66, 74), "ENTRY75": entry(75), "ENTRY9": entry(9),
           "BLOCK": bytes([9] * 4095), "V3000": b"v" * 3000, "V1024": b"v" * 1024}
 
-rows = []
+rows: List[Tuple[str, bytes, str, str]] = []
+"""What each is, its bytes, what they come to, and what they are read as."""
 
 
-def row(what, data, told, kind="message"):
+def row(what: str, data: bytes, told: str, kind: str = "message") -> None:
     rows.append((what, data, told, kind))
 
 
-def sends(what, data, line):
+def sends(what: str, data: bytes, line: str) -> None:
     row(what, data, f"send 6 1 0 {line}")
 
 
-def refused(what, data, fault="BodyShape"):
+def refused(what: str, data: bytes, fault: str = "BodyShape") -> None:
     row(what, data, fault)
 
 
@@ -60,8 +70,8 @@ sends("a request", spelled("request", b"\x02\x01\x00\x01ab", cluster=5, client=7
 refused("a get under number 0", spelled("request", b"\x03\x01a"))
 
 
-def reply(kind, body=b"", **fields):
-    return in_view("reply", body, **{**dict(client=7, request_name=SEVENS, kind=kind), **fields})
+def reply(kind: int, body: bytes = b"", **fields: Field) -> bytes:
+    return in_view("reply", body, **with_others(fields, client=7, request_name=SEVENS, kind=kind))
 
 
 row("a reply with a value", reply(1, VALUE, op=9), "reply 2 client 7 request 0 op 9 value a")
@@ -93,7 +103,7 @@ for command in ["reserved", "root", "entry", "block"]:
 
 
 # A log has at most 64 headers.
-def start_view(head, lo, last, **fields):
+def start_view(head: int, lo: int, last: int, **fields: Field) -> bytes:
     return in_view("start_view", entries(11, last), op=head, aux=lo, **fields)
 
 
@@ -109,11 +119,11 @@ refused("a log whose commit number is past its head", start_view(0, 0, 10, commi
 
 
 # A checkpoint is committed and within its log.
-def checkpoint(op, address, last=65):
+def checkpoint(op: int, address: int, last: int = 65) -> bytes:
     return number(op, 8) + number(address, 8) + SEVENS + entries(11, last)
 
 
-def sync_view(lo, commit, body):
+def sync_view(lo: int, commit: int, body: bytes) -> bytes:
     return in_view("sync_view", body, op=65, commit=commit, aux=lo)
 
 
@@ -136,9 +146,9 @@ refused("a checkpoint without its last byte", sync_view(10, 64, checkpoint(32, 0
 TAGS = bytes([1, 3, 2]) + bytes([4] * 126)
 
 
-def statement(commit, head, first, tags, known, **fields):
+def statement(commit: int, head: int, first: int, tags: bytes, known: int, **fields: Field) -> bytes:
     body = number(first, 8) + number(len(tags), 2) + tags + entries(first, first + known - 1)
-    return in_view("do_view_change", body, **{**dict(op=head, commit=commit, aux=2), **fields})
+    return in_view("do_view_change", body, **with_others(fields, op=head, commit=commit, aux=2))
 
 
 sends("a statement of 128 Parts", statement(6, 9, 7, TAGS[:128], 3), "do_view_change view 3 log 2 commit 6 head 9 parts hwl" + "u" * 125)
@@ -154,7 +164,7 @@ refused("a log view that isn't below the view", statement(0, 0, 1, b"", 0, aux=3
 
 # Each message of group 0, from replica 1.
 first = header("entry", REGISTER, client=7, op=1, request_name=name(header("request", REGISTER, client=7)[16:]), parent=SEVENS) + REGISTER
-for command, fields, body, line in [
+of_group_0: List[Tuple[str, Fields, bytes, str]] = [
     ("prepare", dict(op=1), first, "prepare view 0 op 1 made 0 commit 0"),
     ("prepare_ok", dict(op=1, parent=SEVENS), b"", "prepare_ok view 0 op 1 made 0"),
     ("commit", dict(view=1, op=1), b"", "commit view 1 op 1 commit 0"),
@@ -168,17 +178,18 @@ for command, fields, body, line in [
     ("give_prepare", dict(op=1), first, "give_prepare op 1 made 0"),
     ("get_block", dict(aux=64, parent=SEVENS), b"", "get_block 64"),
     ("give_block", dict(aux=64), bytes(4096), "give_block 64"),
-]:
-    sends("of group 0", spelled(command, body, **{**dict(replica=1), **fields}), line)
+]
+for command, fields, body, line in of_group_0:
+    sends("of group 0", spelled(command, body, **with_others(fields, replica=1)), line)
 
 # The first fault is told.
-commit = in_view("commit")
-refused("another byte in the header", changed(commit, [(127, 1)], False), "Header(BadSum)")
-refused("no command and no version", changed(commit, [(108, 0), (110, 0)], True), "Header(BadCommand)")
-refused("another version", changed(commit, [(110, 3)], True), "Header(BadVersion)")
-refused("a size below a header's", changed(commit, [(107, 127)], True), "Header(BadSize)")
-refused("a size above the largest", changed(commit, [(106, 80), (107, 1)], True), "Header(BadSize)")
-refused("a header without its last byte", commit[:127], "Header(Short)")
+a_commit = in_view("commit")
+refused("another byte in the header", changed(a_commit, [(127, 1)], False), "Header(BadSum)")
+refused("no command and no version", changed(a_commit, [(108, 0), (110, 0)], True), "Header(BadCommand)")
+refused("another version", changed(a_commit, [(110, 3)], True), "Header(BadVersion)")
+refused("a size below a header's", changed(a_commit, [(107, 127)], True), "Header(BadSize)")
+refused("a size above the largest", changed(a_commit, [(106, 80), (107, 1)], True), "Header(BadSize)")
+refused("a header without its last byte", a_commit[:127], "Header(Short)")
 cut = in_view("prepare", entry(9) + REGISTER, op=9)[:-1]
 refused("a body without its last byte", cut, "BodySum")
 refused("the same with padding that isn't zero", changed(cut, [(120, 1)], True), "Header(NotZero)")
@@ -186,11 +197,11 @@ refused("the same with padding that isn't zero", changed(cut, [(120, 1)], True),
 
 # Two versions: how long a value may be is by the version of the header that names it, and a frame has entries of its own version or
 # an earlier one.
-def put(length):
+def put(length: int) -> bytes:
     return b"\x02\x01" + number(length, 2) + b"a" + b"v" * length
 
 
-def put_entry(version, length):
+def put_entry(version: int, length: int) -> bytes:
     body = put(length)
     return header("entry", body, cluster=5, client=7, request=1, view=1, op=9, version=version, request_name=SEVENS, parent=SEVENS) + body
 
@@ -226,19 +237,19 @@ refused("a statement with a later header", in_view("do_view_change", stated, op=
 
 
 # Texts of keys and values, and of sessions, as docs/STATE.md has them.
-def key(name, value):
+def key(name: bytes, value: bytes) -> bytes:
     return bytes([len(name)]) + number(len(value), 2) + name + value
 
 
-def session(client, request, op, outcome):
+def session(client: int, request: int, op: int, outcome: bytes) -> bytes:
     return number(client, 8) + number(request, 4) + number(op, 8) + outcome
 
 
-def keys(what, data, told="whole"):
+def keys(what: str, data: bytes, told: str = "whole") -> None:
     row(f"keys: {what}", data, told, "keys")
 
 
-def sessions(what, data, told="whole"):
+def sessions(what: str, data: bytes, told: str = "whole") -> None:
     row(f"sessions: {what}", data, told, "sessions")
 
 
@@ -266,7 +277,7 @@ sessions("a session that ends early", number(1, 2) + b"\x00", "Torn")
 sessions("a byte behind the last", number(0, 2) + b"\x00", "Torn")
 
 
-def words(data):
+def words(data: bytes) -> List[str]:
     """Hex, and the names of the pieces that are in the bytes."""
     for title, piece in PIECES.items():
         at = data.find(piece)
