@@ -23,7 +23,6 @@ MEMORY = "/dev/shm"
 """Where the members' files stand if it is there: these tests are of the client, and needn't wait for a disk."""
 
 
-
 def is_there(program):
     """Whether a program can be run."""
     return os.path.isfile(program) and os.access(program, os.X_OK)

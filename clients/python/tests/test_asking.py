@@ -118,7 +118,6 @@ class Asking(unittest.TestCase):
         reply, link = ask(lambda member, request: [(0.001 * at, data) for at, data in enumerate(wrong)] + [(0.1, right)])
         self.assertEqual((reply, link.time, len(link.sent)), (right, 0.1, 1))
 
-
     def test_who_says_nothing_is_asked_in_the_other_version_when_the_pause_ends(self):
         reply, link = ask(lambda member, request: [(0.01, reply_to(request, 1, ReplyKind.BUSY))] if member == 1 else [], deadline=3.5)
         self.assertIsNone(reply)

@@ -2,7 +2,6 @@
 
 import random
 import subprocess
-import sys
 import types
 import unittest
 from pathlib import Path

@@ -10,11 +10,7 @@ from collections import namedtuple
 TYPE_CHECKING = False  # what type checkers take for true
 
 if TYPE_CHECKING:
-    from dataclasses import dataclass as dataclass
-    from dataclasses import field as field
-    from dataclasses import replace as replace
     from typing import Any, Callable, Dict, Optional, Tuple
-    from typing import NamedTuple as NamedTuple
 
 __all__ = ["NamedTuple", "dataclass", "field", "replace"]
 
@@ -100,7 +96,12 @@ class _Named(type):
         return type(name, (made,), {"__slots__": (), **space})
 
 
-if not TYPE_CHECKING:
+if TYPE_CHECKING:
+    from dataclasses import dataclass as dataclass
+    from dataclasses import field as field
+    from dataclasses import replace as replace
+    from typing import NamedTuple as NamedTuple
+else:
     field = Field
 
     def dataclass(cls=None, *, frozen=False):
