@@ -21,7 +21,9 @@ import subprocess
 import sys
 import tempfile
 import time
+from abc import ABC, abstractmethod
 from pathlib import Path
+from typing import Callable, Dict, List, NamedTuple, Optional, Sequence, Tuple, TypeVar
 
 from nozhgiva import Group, Retry
 from nozhgiva_tools.places import TOP, words_of_module
@@ -37,29 +39,52 @@ CALLS = "fsync,fdatasync,write,writev,pwrite64,pwritev"
 LINE = re.compile(r"(\w+)\(\d+<([^>]*)>(?:.*= (\d+))?")
 
 
-class Members:
+Counts = Dict[str, List[float]]
+"""Of each kind of file: syncs, writes, and bytes written, a put."""
+Thing = TypeVar("Thing")
+
+
+class Members(ABC):
     """A group that runs; `primary` is the place of the member that leads."""
 
-    def __init__(self, folder):
+    name: str
+
+    def __init__(self, folder: str) -> None:
         self.folder = tempfile.mkdtemp(dir=folder)
-        self.children = []
+        self.children: List["subprocess.Popen[bytes]"] = []
         self.primary = 0
 
-    def start(self, words):
+    @abstractmethod
+    def puts(self, count: int) -> None:
+        """So many puts, one after the other."""
+
+    @abstractmethod
+    def put(self) -> None:
+        """A put, which is asked again until it is answered."""
+
+    @abstractmethod
+    def changes(self) -> int:
+        """How often the view was changed, where that is told."""
+
+    @abstractmethod
+    def kind(self, path: str) -> str:
+        """What a file of a member is."""
+
+    def start(self, words: Sequence[str]) -> None:
         with open(f"{self.folder}/text.{len(self.children)}", "wb") as text:
             self.children.append(subprocess.Popen(words, stdout=text, stderr=subprocess.DEVNULL))
 
-    def signal_primary(self, number):
+    def signal_primary(self, number: int) -> None:
         self.children[self.primary].send_signal(number)
 
-    def end(self):
+    def end(self) -> None:
         for child in self.children:
             child.kill()
             child.wait()
 
 
 class Program(Members):
-    def __init__(self, folder, scheme=""):
+    def __init__(self, folder: str, scheme: str = "") -> None:
         super().__init__(folder)
         self.name = f"group over {'TCP' if scheme else 'UDP'}"
         self.addresses = [f"{scheme}127.0.0.1:{4000 + member}" for member in range(SIZE)]
@@ -69,28 +94,27 @@ class Program(Members):
         self.session = self.group.register()
         self.client = 100
 
-    def puts(self, count):
+    def puts(self, count: int) -> None:
         """Puts by a client with a number of its own, which registers first."""
         self.client += 1
         lines = "".join(f"put k{number % 10} {VALUE}\n" for number in range(count))
         subprocess.run([program.or_end(), "client", "5", str(self.client), "1000000", *self.addresses], input=lines.encode(), stdout=subprocess.DEVNULL, check=True)
 
-    def put(self):
+    def put(self) -> None:
         self.session.put("k", VALUE)
 
-    def changes(self):
+    def changes(self) -> int:
         """How often a member has entered a view, or said that it is still changing it."""
         return sum(Path(f"{self.folder}/text.{member}").read_text().count(" start_view_change ") for member in range(SIZE))
 
-    @staticmethod
-    def kind(path):
+    def kind(self, path: str) -> str:
         return "file"
 
 
 class Etcd(Members):
     name = "etcd"
 
-    def __init__(self, folder, client):
+    def __init__(self, folder: str, client: str) -> None:
         super().__init__(folder)
         self.client = client
         urls = [f"http://127.0.0.1:{5010 + member}" for member in range(SIZE)]
@@ -103,7 +127,7 @@ class Etcd(Members):
         self.asked = self.primary
         self.put()
 
-    def leads(self, member):
+    def leads(self, member: int) -> bool:
         try:
             connection = http.client.HTTPConnection("127.0.0.1", 5000 + member, timeout=1.0)
             connection.request("GET", "/metrics")
@@ -111,14 +135,14 @@ class Etcd(Members):
         except OSError:
             return False
 
-    def changes(self):
+    def changes(self) -> int:
         """It isn't told."""
         return 0
 
-    def puts(self, count):
+    def puts(self, count: int) -> None:
         subprocess.run([self.client, str(5000 + self.primary), str(count), "1"], stdout=subprocess.DEVNULL, check=True)
 
-    def put(self):
+    def put(self) -> None:
         """A put by the gateway, at one member after the other until it is answered."""
         body = json.dumps({"key": "aw==", "value": "dg=="})
         while True:
@@ -133,12 +157,11 @@ class Etcd(Members):
             self.asked = (self.asked + 1) % SIZE
             time.sleep(max(0.0, PAUSE - (time.monotonic() - begun)))
 
-    @staticmethod
-    def kind(path):
+    def kind(self, path: str) -> str:
         return "log" if "/wal/" in path else "database"
 
 
-def wait_for(what):
+def wait_for(what: Callable[[], Optional[Thing]]) -> Thing:
     end = time.monotonic() + PATIENCE
     while (found := what()) is None:
         if time.monotonic() > end:
@@ -147,27 +170,35 @@ def wait_for(what):
     return found
 
 
-def loopback():
+class Brought(NamedTuple):
     """Bytes and packets that the loopback has brought, and when."""
+
+    bytes: int
+    packets: int
+    when: float
+
+
+def loopback() -> Brought:
     line = next(line for line in Path("/proc/net/dev").read_text().splitlines() if line.strip().startswith("lo:"))
     fields = line.split(":")[1].split()
-    return int(fields[0]), int(fields[1]), time.monotonic()
+    return Brought(int(fields[0]), int(fields[1]), time.monotonic())
 
 
-def wire(members, puts):
+def wire(members: Members, puts: int) -> Tuple[float, float]:
     """Bytes and packets a put, without those of an idle group."""
     before = loopback()
     time.sleep(IDLE)
     idle = loopback()
     members.puts(puts)
     after = loopback()
-    share = (after[2] - idle[2]) / (idle[2] - before[2])
-    return [(after[at] - idle[at] - (idle[at] - before[at]) * share) / puts for at in (0, 1)]
+    share = (after.when - idle.when) / (idle.when - before.when)
+    size = after.bytes - idle.bytes - (idle.bytes - before.bytes) * share
+    packets = after.packets - idle.packets - (idle.packets - before.packets) * share
+    return size / puts, packets / puts
 
 
-def disk(members, puts):
-    """Of each member, by kinds of files: syncs, writes, and bytes written, a put; again where the view was changed meanwhile, as it may where
-    the machine is busy."""
+def disk(members: Members, puts: int) -> List[Counts]:
+    """What each member wrote; again where the view was changed meanwhile, as it may where the machine is busy."""
     for _ in range(TIMES):
         before = members.changes()
         counts = traced(members, puts)
@@ -176,7 +207,7 @@ def disk(members, puts):
     sys.exit(f"{members.name}: its view changes each time")
 
 
-def traced(members, puts):
+def traced(members: Members, puts: int) -> List[Counts]:
     traces = [f"{members.folder}/trace.{at}" for at in range(SIZE)]
     tracers = [subprocess.Popen(["strace", "-f", "-y", "-s", "0", "-e", f"trace={CALLS}", "-o", trace, "-p", str(child.pid)], stderr=subprocess.DEVNULL)
                for trace, child in zip(traces, members.children)]
@@ -188,8 +219,8 @@ def traced(members, puts):
     return [count_calls(members, Path(trace).read_text(errors="replace"), puts) for trace in traces]
 
 
-def count_calls(members, text, puts):
-    counts = {}
+def count_calls(members: Members, text: str, puts: int) -> Counts:
+    counts: Dict[str, List[int]] = {}
     for line in text.splitlines():
         call = LINE.search(line)
         if call is None or not call[2].startswith(members.folder) or "/text." in call[2]:
@@ -202,7 +233,7 @@ def count_calls(members, text, puts):
     return {kind: [number / puts for number in count] for kind, count in counts.items()}
 
 
-def still(make, number):
+def still(make: Callable[[], Members], number: int) -> float:
     """Milliseconds from a signal to the primary to the next put that is answered."""
     members = make()
     try:
@@ -216,10 +247,10 @@ def still(make, number):
         members.end()
 
 
-def report(make, puts):
+def report(make: Callable[[], Members], puts: int) -> None:
     members = make()
     try:
-        print(f"{members.name}: {'%.0f bytes and %.1f packets on the wire a put' % tuple(wire(members, puts))}", flush=True)
+        print(f"{members.name}: {'%.0f bytes and %.1f packets on the wire a put' % wire(members, puts)}", flush=True)
         for at, kinds in enumerate(disk(members, puts)):
             for kind, (syncs, writes, size) in sorted(kinds.items()):
                 role = "primary" if at == members.primary else "backup"
@@ -231,7 +262,7 @@ def report(make, puts):
         print(f"{members.name}: its primary {name}, the next put is answered after {statistics.median(times):.0f} ms ({min(times):.0f} to {max(times):.0f})", flush=True)
 
 
-def parse_words():
+def parse_words() -> Tuple[Optional[str], int]:
     """The folder and how many puts; other words, or a missing tool, end the script with 2."""
     words = sys.argv[1:]
     if words in (["-h"], ["--help"]):
@@ -245,12 +276,12 @@ def parse_words():
     return words[0] if words else None, int(words[1]) if words[1:] else 300
 
 
-def refuse(text):
+def refuse(text: str) -> int:
     print(text, file=sys.stderr)
     return 2
 
 
-def main():
+def main() -> None:
     parent, puts = parse_words()
     if "BESIDE_ALONE" not in os.environ:
         os.environ["BESIDE_ALONE"] = "1"

@@ -5,6 +5,8 @@ from typing import Optional
 
 from nozhgiva_tools.told import datafile
 
+__all__ = ["datafile"]
+
 _header = functools.lru_cache(maxsize=16384)(datafile.header_of)
 
 

@@ -188,7 +188,7 @@ def block_at(report: datafile.Report) -> int:
 
 
 PLACES: Dict[str, Where] = {"the header of an entry": header_at, "an entry": prepare_at, "the header of an idle slot beside it": idle_at, "a copy of the superblock": copy_at}
-ROTTING = {**{what: at for what, at in PLACES.items() if at is not idle_at}, "a block of the checkpoint": block_at}
+ROTTING: Dict[str, Where] = {**{what: at for what, at in PLACES.items() if at is not idle_at}, "a block of the checkpoint": block_at}
 
 
 class Beside:

@@ -363,7 +363,7 @@ class From:
             one = self.made(member)
             one.bind((self.host, 0))
             return one
-        links.stream_socket = bound  # type: ignore[assignment]
+        links.stream_socket = bound
 
     def __exit__(self, *_: object) -> None:
         links.stream_socket = self.made
@@ -439,7 +439,9 @@ def far_rate(account: Account, seconds: float) -> float:
 def try_idle(place: Place, _: int, number: int) -> Outcome:
     """The answers of a client from afar without and beside clients on members' machines that are idle, by turns."""
     with place.group("tcp:") as members:
-        account, draw, told, shares, late = members.account("c", place.prepared().history, number), random.Random(number), [], [], []
+        account, draw, told = members.account("c", place.prepared().history, number), random.Random(number), []
+        shares: List[float] = []
+        late: List[str] = []
         if not far_rate(account, 1.0):
             return Outcome("no answer before it", wrong="the group doesn't answer")
         while len(shares) < MEASURED and max(shares, default=0.0) < SHARE:

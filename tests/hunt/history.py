@@ -7,6 +7,7 @@ from typing import Iterable, List, NamedTuple, Optional
 KINDS = ("put", "get", "delete")
 ANSWERS = ("ok", "absent", "value")
 UNTOLD = "?"
+FOREVER = float("inf")
 OPEN = "-"
 
 
@@ -24,6 +25,11 @@ class Operation(NamedTuple):
     """What a put puts, or what a get was answered; None for all else."""
     answer: str
     """One of ANSWERS, or UNTOLD where it was executed and the answer is lost, or nothing is known."""
+
+    @property
+    def end(self) -> float:
+        """When it returned, and so was executed at the latest."""
+        return FOREVER if self.returned is None else self.returned
 
     def __str__(self) -> str:
         words = [self.client, str(self.called), OPEN if self.returned is None else str(self.returned), self.kind, self.key]

@@ -13,10 +13,9 @@ from __future__ import annotations
 
 from typing import Dict, Iterator, List, NamedTuple, Optional
 
-from .history import Operation, UNTOLD
+from .history import FOREVER, Operation, UNTOLD
 
 MOST_NODES = 1_000_000
-FOREVER = float("inf")
 
 
 class Verdict(NamedTuple):
@@ -86,7 +85,7 @@ class _Search:
         limit, at, candidates = FOREVER, node.low, []
         while at < len(self.known) and self.known[at].called <= limit:
             if not node.done >> (at - node.low) & 1:
-                limit = min(limit, self.known[at].returned)
+                limit = min(limit, self.known[at].end)
                 candidates.append(at)
             at += 1
         for at in candidates:

@@ -48,8 +48,8 @@ def with_stale_read(operations: List[Operation], draw: random.Random) -> Optiona
     for mine in by_key(operations).values():
         puts = sorted((one for one in mine if one.kind == "put" and one.returned is not None), key=lambda one: one.called)
         for get in (one for one in mine if one.kind == "get" and one.answer == "value"):
-            before = [one for one in puts if one.returned < get.called]
-            if len(before) > 1 and before[0].returned < before[-1].called and before[0].value != get.value:
+            before = [one for one in puts if one.end < get.called]
+            if len(before) > 1 and before[0].end < before[-1].called and before[0].value != get.value:
                 places.append((get, before[0].value))
     if not places:
         return None

@@ -20,7 +20,7 @@ import argparse
 import random
 import sys
 from collections import Counter
-from typing import Dict, List, NamedTuple, Optional
+from typing import List, NamedTuple, Optional, Tuple
 
 from nozhgiva_tools.operate import standard
 from nozhgiva_tools.run import built as program, playing
@@ -38,7 +38,7 @@ class Played(NamedTuple):
     number: int
     size: int
     members: List[int]
-    quorums: List[tuple]  # that were whole when the fair time began
+    quorums: List[Tuple[int, ...]]  # that were whole when the fair time began
     lacks: List[str]  # where none was: the names of what all that run lack
     first: Optional[int]  # rounds until the first answer
     stood: Optional[str]  # by which lines it stood still
@@ -146,8 +146,8 @@ class Sums:
               f"{sum(one.restarts > 0 for one in self.played)} needed a restart")
         for (cause, lacking, ended), count in sorted(Counter((one.stood, "whole" if one.quorums else ", ".join(one.lacks) or "not known", one.ended) for one in stood).items()):
             print(f"  {count:4d}  {cause} ({lacking}); ended by {ended}")
-        lacking: Dict[str, int] = Counter(", ".join(one.lacks) or "not known" for one in self.played if not one.quorums)
-        print("  no quorum whole: " + ("; ".join(f"{count} {text}" for text, count in sorted(lacking.items())) or "none"))
+        all_lacks = Counter(", ".join(one.lacks) or "not known" for one in self.played if not one.quorums)
+        print("  no quorum whole: " + ("; ".join(f"{count} {text}" for text, count in sorted(all_lacks.items())) or "none"))
         rounds = sorted(one.first for one in self.played if one.first is not None)
         if rounds:
             print(f"  rounds to the first answer: median {rounds[len(rounds) // 2]}, most {rounds[-1]} of {len(rounds)}; "

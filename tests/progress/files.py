@@ -84,11 +84,11 @@ def checkpoint_of(one: Opened, group: Group, member: int) -> int:
     return one.asked - 1 if one.asked is not None and one.asked <= one.commit else one.commit
 
 
-def facts_of(one: Opened, group: Group, member: int, faults: Faults) -> whole.Facts:
+def facts_of(one: Opened, stated: Sent, group: Group, member: int, faults: Faults) -> whole.Facts:
     """By its statement: letters of the operations above its commit number. Of those up to it that it can't apply, what isn't there is lost where disks failed, and
     was never there where none did."""
-    checkpoint, commit = checkpoint_of(one, group, member), one.stated.value("commit")
-    letters = one.stated.words[one.stated.words.index("parts") + 1]
+    checkpoint, commit = checkpoint_of(one, group, member), stated.value("commit")
+    letters = stated.words[stated.words.index("parts") + 1]
     states = {} if letters == "-" else {commit + 1 + at: letter for at, letter in enumerate(letters)}
     lost = {op for op, letter in states.items() if letter == "l"}
     if faults.cuts or faults.damage:
@@ -101,4 +101,4 @@ def facts_of(one: Opened, group: Group, member: int, faults: Faults) -> whole.Fa
 
 def held(group: Group, members: List[int], faults: Faults) -> Dict[int, whole.Facts]:
     """What the files of these members hold now; nothing of a member that doesn't state its log."""
-    return {member: facts_of(one, group, member, faults) for member, one in open_all(group, members).items() if one.is_known()}
+    return {member: facts_of(one, one.stated, group, member, faults) for member, one in open_all(group, members).items() if one.stated is not None}

@@ -169,4 +169,4 @@ def leader_of(rounds: Iterable[List[str]]) -> Optional[int]:
             words = output.split(" ")
             if words[0] == "send" and words[4] == "commit":
                 told[int(words[2])] = told.get(int(words[2]), 0) + 1
-    return max(told, key=lambda member: told[member], default=None)
+    return max(told, key=told.__getitem__) if told else None

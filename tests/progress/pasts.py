@@ -1,7 +1,7 @@
 """A random past of a group: spells in which links fail, messages get lost, members stop and start, and clients ask; with cut writes and damage where wanted."""
 
 import random
-from typing import List, NamedTuple
+from typing import Callable, List, NamedTuple
 
 from .group import Clients, Group, Net
 
@@ -17,7 +17,7 @@ class Faults(NamedTuple):
     damage: bool
 
 
-def links_of(kind: str, size: int, draw: random.Random):
+def links_of(kind: str, size: int, draw: random.Random) -> Callable[[int, int], bool]:
     """All links; or one member cut off, deaf or mute; or the group in two parts."""
     who, side = draw.randrange(size), set(draw.sample(range(size), draw.randint(1, size - 1)))
     return {
