@@ -20,6 +20,7 @@ import subprocess
 import sys
 import tempfile
 import time
+from typing import List, Optional
 
 from nozhgiva_tools.places import TOP, words_of_module
 from nozhgiva_tools.run import hosts
@@ -27,7 +28,7 @@ from nozhgiva_tools.run.group import fail, program, sealed
 
 from . import history, planted
 from .members import Members, Stuck, Trouble
-from .order import judge
+from .order import judge, Verdict
 from .workers import Board, FAST, KEYS, SLOW, Worker
 
 HERE = pathlib.Path(__file__).resolve().parent
@@ -35,7 +36,7 @@ MEMORY = "/dev/shm"
 SHORT, LONG, REST = 7.0, 60.0, 2.0
 
 
-def built_worker(folder):
+def built_worker(folder: str) -> Optional[str]:
     """The client in Go, built; None where there is no Go."""
     path = f"{folder}/worker"
     environment = dict(os.environ, GOFLAGS="-mod=mod", GOPROXY="off", GOTOOLCHAIN="local")
@@ -54,35 +55,35 @@ def built_worker(folder):
 class Round:
     """One group, hunted from a number."""
 
-    def __init__(self, seed, words, go, apart):
+    def __init__(self, seed: int, words: argparse.Namespace, go: Optional[str], apart: bool) -> None:
         self.draw, self.seed, self.words, self.go = random.Random(seed), seed, words, go
         self.seconds = LONG if words.minutes else SHORT
         self.board = Board()
         self.members = Members(self.draw.choice(("", "tcp:")), apart)
         self.modes = ["--careful"] if self.draw.random() < 0.5 else []
         self.trouble = Trouble(self.members, self.draw)
-        self.workers = []
+        self.workers: List[Worker] = []
         self.restarts = 0
 
-    def beginning(self):
+    def beginning(self) -> str:
         """What the round is, in words."""
         how = f"{'TCP' if 'tcp:' in self.members.addresses[0] else 'UDP'}{', careful files' if self.modes else ''}"
         return f"{self.words.workers} clients over {how}; faults for {self.seconds:g} s, and a migration"
 
-    def worker(self, number, name):
+    def worker(self, number: int, name: str) -> Worker:
         """A client: every second one is in Go, where there is Go."""
         words = [self.go] if self.go and number % 2 else words_of_module("tests.hunt.worker")
         return Worker(name, [*self.members.prefixes[3], *words, "5", *self.members.addresses], self.board, random.Random(f"{self.seed} {number}"))
 
-    def change_pace(self):
+    def change_pace(self) -> None:
         self.board.pause = self.draw.choice((FAST, SLOW))
 
-    def trouble_members(self):
+    def trouble_members(self) -> None:
         """Half of a round's faults, with clients that are fast and slow by turns."""
         self.trouble.go(self.seconds / 2, self.change_pace)
         self.board.pause = SLOW
 
-    def await_answers(self, count=20, patience=60):
+    def await_answers(self, count: int = 20, patience: float = 60) -> None:
         """Waits until so many more operations are answered. A group that stands still for good is started again, as its keepers would."""
         wanted, end = len(self.board.history) + count, time.monotonic() + patience
         while len(self.board.history) < wanted and any(worker.is_alive() for worker in self.workers):
@@ -96,7 +97,7 @@ class Round:
                 end = time.monotonic() + patience
             time.sleep(0.05)
 
-    def move(self):
+    def move(self) -> None:
         """Moves the group to version 2, the member that leads last. Clients begin again once two are moved."""
         self.await_answers()
         self.members.wait_until_level()
@@ -108,7 +109,7 @@ class Round:
             if count > 1:
                 self.await_answers()
 
-    def run(self):
+    def run(self) -> None:
         """The whole round; whatever happens, nothing that it started is left."""
         try:
             with self.members:
@@ -118,7 +119,7 @@ class Round:
             for worker in self.workers:
                 worker.process.kill()
 
-    def play(self):
+    def play(self) -> None:
         self.members.start_all(*self.modes)
         self.workers = [self.worker(number, f"{'go' if self.go and number % 2 else 'py'}{number}") for number in range(self.words.workers)]
         for worker in self.workers:
@@ -135,9 +136,9 @@ class Round:
             worker.join(60)
         self.read_all("last")
 
-    def spoil(self):
+    def spoil(self) -> None:
         """Loses what was answered, and reads all keys before the clients, which rest, put them again."""
-        def work():
+        def work() -> None:
             self.await_answers(60)
             self.board.pause = REST
             time.sleep(REST)
@@ -145,7 +146,7 @@ class Round:
         self.read_all("look")
         self.board.pause = SLOW
 
-    def read_all(self, name):
+    def read_all(self, name: str) -> None:
         """Reads each key in a session of its own."""
         last = self.worker(self.draw.randrange(2), name)
         if last.say(f"register {self.board.version} 60") != "session":
@@ -156,7 +157,7 @@ class Round:
         last.process.kill()
         last.process.communicate()
 
-    def keep(self):
+    def keep(self) -> pathlib.Path:
         """Leaves the history in a file."""
         folder = TOP / "out"
         folder.mkdir(exist_ok=True)
@@ -164,7 +165,7 @@ class Round:
         path.write_text("".join(f"{one}\n" for one in self.board.history), encoding="ascii")
         return path
 
-    def summary(self):
+    def summary(self) -> str:
         mine = self.board.history
         unknown = sum(one.returned is None for one in mine)
         troubles = ", ".join(f"{count} {kind}" for kind, count in sorted(self.trouble.counts.items()))
@@ -173,14 +174,14 @@ class Round:
         return f"{len(mine)} operations in {sessions}; {unknown} not known; {troubles}, 3 moved{again}"
 
 
-def refuse(what, verdict):
+def refuse(what: str, verdict: Verdict) -> None:
     """Says which operations don't fit."""
     print(f"{what}: key {verdict.key} " + ("fits no order" if verdict.fits is False else "isn't decided: the search takes too long") + "; around it:")
     for one in verdict.around:
         print(f"    {str(one)[:160]}")
 
 
-def hunt_round(seed, words, go, apart):
+def hunt_round(seed: int, words: argparse.Namespace, go: Optional[str], apart: bool) -> bool:
     """Whether all of a round is as it should be."""
     one = Round(seed, words, go, apart)
     print(f"seed {seed}: {one.beginning()} ..", flush=True)
@@ -207,7 +208,7 @@ def hunt_round(seed, words, go, apart):
     return True
 
 
-def check_file(path):
+def check_file(path: str) -> int:
     """Judges the history in a file."""
     try:
         operations = history.read(pathlib.Path(path).read_text(encoding="utf-8").splitlines())
@@ -222,14 +223,14 @@ def check_file(path):
     return 1
 
 
-def positive(word):
+def positive(word: str) -> float:
     number = float(word)
     if not 0 < number < 1e6:
         raise argparse.ArgumentTypeError("it has to be above 0")
     return number
 
 
-def words_of():
+def words_of() -> argparse.Namespace:
     parser = argparse.ArgumentParser(description=__doc__, formatter_class=argparse.RawDescriptionHelpFormatter)
     parser.add_argument("--minutes", type=positive, help="rounds of a minute each for so long, in place of one short one")
     parser.add_argument("--seed", type=int, help="the number from which the first round is drawn, and the next ones from those after it; when things happen isn't drawn")
@@ -239,7 +240,7 @@ def words_of():
     return parser.parse_args()
 
 
-def hunt(words):
+def hunt(words: argparse.Namespace) -> int:
     lacking = None if os.environ.get("SEALED") else hosts.can_be_had()
     if lacking is None:
         sealed(sys.argv, "--net")
@@ -262,7 +263,7 @@ def hunt(words):
                 return 0
 
 
-def main():
+def main() -> int:
     words = words_of()
     if words.check is not None:
         return check_file(words.check)

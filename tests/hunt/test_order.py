@@ -3,6 +3,7 @@
 import itertools
 import random
 import unittest
+from typing import Dict, List, Optional, Sequence
 
 from . import history, planted
 from .history import BadHistory, Operation
@@ -12,7 +13,7 @@ SMALL = 3_000
 """How many small histories are tried."""
 
 
-def fits_some_order(operations):
+def fits_some_order(operations: Sequence[Operation]) -> bool:
     """The same by going through all orders of all operations, with each choice of those that weren't executed."""
     known = [one for one in operations if one.returned is not None]
     unknown = [one for one in operations if one.returned is None]
@@ -23,8 +24,8 @@ def fits_some_order(operations):
     return False
 
 
-def fits(order):
-    value = None
+def fits(order: Sequence[Operation]) -> bool:
+    value: Optional[str] = None
     for at, one in enumerate(order):
         if not agrees(one, value) or any(later.returned is not None and later.returned < one.called for later in order[at + 1:]):
             return False
@@ -32,7 +33,7 @@ def fits(order):
     return True
 
 
-def small(draw):
+def small(draw: random.Random) -> List[Operation]:
     """A random history of a few operations at one key, many of them at one time."""
     operations = []
     for number in range(draw.randint(2, 6)):
@@ -49,12 +50,13 @@ def small(draw):
 
 
 class Orders(unittest.TestCase):
-    def test_planted_histories(self):
+    def test_planted_histories(self) -> None:
         self.assertGreater(sum(not one.fits for one in planted.table()), 10)
         self.assertEqual(planted.wrong_verdicts(), [])
 
-    def test_small_histories_against_all_orders(self):
-        draw, verdicts = random.Random(63), {True: 0, False: 0}
+    def test_small_histories_against_all_orders(self) -> None:
+        draw = random.Random(63)
+        verdicts: Dict[bool, int] = {True: 0, False: 0}
         for _ in range(SMALL):
             operations = small(draw)
             expected = fits_some_order(operations)
@@ -62,17 +64,17 @@ class Orders(unittest.TestCase):
             self.assertIs(judge(operations).fits, expected, "\n".join(map(str, operations)))
         self.assertGreater(min(verdicts.values()), SMALL / 10, verdicts)
 
-    def test_a_stale_read_is_put_where_it_is_one(self):
+    def test_a_stale_read_is_put_where_it_is_one(self) -> None:
         lines = ["a 0 1 put k 1 ok", "a 2 3 put k 2 ok", "b 4 5 get k value 2", "b 6 7 get k value 2"]
         operations = history.read(lines)
         self.assertTrue(judge(operations).fits)
         for seed in range(10):
-            spoiled = planted.with_stale_read(operations, random.Random(seed))
-            self.assertEqual(sorted(one.value for one in spoiled), ["1", "1", "2", "2"])
+            spoiled = planted.with_stale_read(operations, random.Random(seed)) or []
+            self.assertEqual(sorted(one.value or "" for one in spoiled), ["1", "1", "2", "2"])
             self.assertIs(judge(spoiled).fits, False)
         self.assertIsNone(planted.with_stale_read(operations[:1] + operations[2:], random.Random(0)))
 
-    def test_texts(self):
+    def test_texts(self) -> None:
         lines = ["a 0 1 put k 1 ok", "b 2 - delete k ?", "b 4 5 get k value 1", "c 6 7 get k absent", "c 8 9 delete l ok", "c 8 9 put l 7 ?"]
         self.assertEqual([str(one) for one in history.read(lines)], lines)
         for line in ("a 0 1 put k 1", "a 0 1 put k 1 absent", "a 1 0 put k 1 ok", "a 0 - put k 1 ok", "a x 1 get k absent", "a 0 1 get k value", "a 0 1 get k ok",

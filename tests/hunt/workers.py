@@ -73,10 +73,12 @@ class Worker(threading.Thread):
 
     def say(self, line: str) -> str:
         """What the process answers to a line."""
-        self.process.stdin.write(line + "\n")
-        answer = self.process.stdout.readline()
+        stdin, stdout, stderr = self.process.stdin, self.process.stdout, self.process.stderr
+        assert stdin and stdout and stderr  # it was started with pipes
+        stdin.write(line + "\n")
+        answer = stdout.readline()
         if not answer:
-            raise ValueError(f"the client ended at `{line[:80]}`: {self.process.stderr.read().strip()[-2000:]}")
+            raise ValueError(f"the client ended at `{line[:80]}`: {stderr.read().strip()[-2000:]}")
         return answer.strip()
 
     def has_session(self) -> bool:
@@ -109,6 +111,7 @@ class Worker(threading.Thread):
             self.count += 1
             value = f"{self.name}.{self.count}."
             if self.draw.random() < 0.2:
+                assert self.version is not None  # an operation is drawn within a session
                 value = value.ljust(self.draw.randint(len(value), LONGEST[self.version]), "x")
         return Operation(self.name, time.monotonic_ns(), None, kind, self.draw.choice(KEYS), value, UNTOLD)
 
