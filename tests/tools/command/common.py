@@ -5,7 +5,7 @@ import shutil
 import subprocess
 import unittest
 from pathlib import Path
-from typing import Dict, List, Optional
+from typing import Dict, IO, List, Optional
 
 from nozhgiva_tools.places import TOP
 from nozhgiva_tools.run import built
@@ -17,6 +17,12 @@ needs_program = unittest.skipUnless(PROGRAM, "no program")
 
 def call(words: List[str], given: bytes = b"", env: Optional[Dict[str, str]] = None, where: Optional[str] = None) -> "subprocess.CompletedProcess[bytes]":
     return subprocess.run(words, input=given, stdout=subprocess.PIPE, stderr=subprocess.PIPE, env=env, cwd=where, timeout=120, check=False)
+
+
+def output_of(child: "subprocess.Popen[bytes]") -> IO[bytes]:
+    """What a process that was started with a pipe writes."""
+    assert child.stdout
+    return child.stdout
 
 
 def write_script(path: Path, text: str) -> Path:

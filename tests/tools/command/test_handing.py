@@ -9,7 +9,7 @@ import unittest
 
 from nozhgiva_tools.run.ports import free_addresses
 
-from .common import call, needs_program, NOZHGIVA, PROGRAM
+from .common import call, needs_program, NOZHGIVA, output_of, PROGRAM
 
 PLAIN = b"cluster 2\nrequest 0 7 0 register\ndeliver 0\ndeliver 1\n"
 A, B = free_addresses(2)
@@ -32,7 +32,7 @@ SIGNALS = (signal.SIGTERM, signal.SIGINT, signal.SIGHUP, signal.SIGUSR1, signal.
 class Same(unittest.TestCase):
     maxDiff = None
 
-    def test_output_and_code(self):
+    def test_output_and_code(self) -> None:
         with tempfile.TemporaryDirectory() as folder:
             for number, (words, given) in enumerate(LINES):
                 with self.subTest(words=words, given=given):
@@ -47,37 +47,37 @@ class Same(unittest.TestCase):
                     self.assertRegex(handed.stderr[len(alone.stderr):], rb"\A(nozhgiva: [^\n]+\n)?\Z")
         self.assertGreaterEqual(len(LINES), 30)
 
-    def test_signals(self):
+    def test_signals(self) -> None:
         for number in SIGNALS:
             with self.subTest(signal=number), tempfile.TemporaryDirectory() as folder:
                 child = subprocess.Popen([NOZHGIVA, "node", "5", "0", f"{folder}/0", "1000000", A, B, "--fresh"], stdout=subprocess.PIPE)
-                self.addCleanup(child.stdout.close)
-                self.assertTrue(child.stdout.read(1))  # it serves
+                self.addCleanup(output_of(child).close)
+                self.assertTrue(output_of(child).read(1))  # it serves
                 child.send_signal(number)
                 self.assertEqual(child.wait(30), -number)
                 self.assertEqual(call(["flock", "-n", f"{folder}/0", "true"]).returncode, 0)  # and the member is gone
 
-    def test_a_data_file_is_for_its_owner_alone(self):
+    def test_a_data_file_is_for_its_owner_alone(self) -> None:
         with tempfile.TemporaryDirectory() as folder:
             self.addCleanup(os.umask, os.umask(0))
             self.assertEqual(call([NOZHGIVA, "node", "5", "0", f"{folder}/0", "1", A, B, "--fresh"]).returncode, 0)
             self.assertEqual(oct(os.stat(f"{folder}/0").st_mode & 0o777), "0o600")
 
-    def test_a_killed_one_leaves_no_member(self):
+    def test_a_killed_one_leaves_no_member(self) -> None:
         with tempfile.TemporaryDirectory() as folder:
             child = subprocess.Popen([NOZHGIVA, "node", "5", "0", f"{folder}/0", "1000000", A, B, "--fresh"], stdout=subprocess.PIPE)
-            self.addCleanup(child.stdout.close)
-            self.assertTrue(child.stdout.read(1))
+            self.addCleanup(output_of(child).close)
+            self.assertTrue(output_of(child).read(1))
             child.kill()
             child.wait(30)
             self.assertEqual(call(["flock", "-w", "30", f"{folder}/0", "true"]).returncode, 0)
 
-    def test_ignored_signals_stay_ignored(self):
+    def test_ignored_signals_stay_ignored(self) -> None:
         with tempfile.TemporaryDirectory() as folder:
             words = ["sh", "-c", 'trap "" HUP; exec "$@"', "sh", NOZHGIVA, "node", "5", "0", f"{folder}/0", "1000000", A, B, "--fresh"]
             child = subprocess.Popen(words, stdout=subprocess.PIPE)
-            self.addCleanup(child.stdout.close)
-            self.assertTrue(child.stdout.read(1))
+            self.addCleanup(output_of(child).close)
+            self.assertTrue(output_of(child).read(1))
             child.send_signal(signal.SIGHUP)
             time.sleep(0.3)
             self.assertIsNone(child.poll())

@@ -1,6 +1,7 @@
 """Which lines are refused, and why: by this explanation and by the program, and by the rows of docs/SCHEDULE.md."""
 
 import unittest
+from typing import Iterator, Tuple
 
 from nozhgiva_tools.command import schedule
 
@@ -38,7 +39,7 @@ def why(text: bytes) -> str:
 
 
 class Lines(unittest.TestCase):
-    def rows(self):
+    def rows(self) -> Iterator[Tuple[bytes, str]]:
         yield from ((b"cluster 2\n" + line + b"\n", "") for line in TAKEN)
         yield from ((b"cluster 2\n" + line + b"\n", reason) for line, reason in REFUSED)
         yield from ((line + b"\n", "") for line in FIRST_TAKEN)
@@ -50,20 +51,20 @@ class Lines(unittest.TestCase):
         yield b"cluster 2 v2\ndamage 0 3983\n", ""
         yield b"cluster 2 v2\ndamage 0 3984\n", "S is from 0 to 3983"
 
-    def test_reasons(self):
+    def test_reasons(self) -> None:
         for text, reason in self.rows():
             with self.subTest(text=text):
                 self.assertIn(reason, why(text))
                 self.assertEqual(bool(reason), bool(why(text)))
 
     @needs_program
-    def test_the_program_refuses_the_same(self):
+    def test_the_program_refuses_the_same(self) -> None:
         for text, reason in self.rows():
             with self.subTest(text=text):
                 self.assertEqual(program_refuses(text), bool(reason))
 
     @needs_program
-    def test_run_names_the_line_of_the_file(self):
+    def test_run_names_the_line_of_the_file(self) -> None:
         ran = call([NOZHGIVA, "run"], b"# about\ncluster 2\n  an output\n\ntick 0\nhello\ntick 1\n")
         self.assertEqual((ran.returncode, ran.stdout), (3, b"cluster 2\ntick 0\n  send 0 0 1 commit view 0 op 0 commit 0\nhello\n"))
         self.assertTrue(ran.stderr.splitlines()[-1].startswith(b"line 6 is refused: no line begins with `hello`"), ran.stderr)

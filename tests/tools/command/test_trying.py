@@ -96,7 +96,7 @@ class Refusals(unittest.TestCase):
         Path(self.folder.name, "empty").mkdir()
         Path(self.folder.name, "tests").mkdir()
         Path(self.folder.name, "tests", "test_some.py").write_text(
-            "import unittest\nclass A(unittest.TestCase):\n    @unittest.skip('no browser')\n    def test_a(self): pass\n    def test_b(self): pass\n", encoding="ascii")
+            "import unittest\nclass A(unittest.TestCase):\n    @unittest.skip('no browser')\n    def test_a(self) -> None: pass\n    def test_b(self) -> None: pass\n", encoding="ascii")
         some = "tests/test_some.py"
         for words, status in ((["empty"], 2), ([f"{some}::A::test_a"], 2), ([f"{some}::A::test_b"], 0), (["tests"], 0), (["tests/test_none.py"], 4), (["tests", "-k", "nothing"], 2)):
             with self.subTest(words=words):

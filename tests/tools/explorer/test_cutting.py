@@ -101,7 +101,7 @@ class Cutting(unittest.TestCase):
         return count
 
     @unittest.skipUnless(os.access(PROGRAM, os.X_OK), "no program: rt ci makes it, or NOZHGIVA_PROGRAM names one")
-    def test_random_schedules(self):
+    def test_random_schedules(self) -> None:
         count = Counter()
         for seed in range(COUNT):
             schedule = Schedule(PROGRAM, seed, faults=seed % 4 == 3)
@@ -110,13 +110,13 @@ class Cutting(unittest.TestCase):
         self.assertGreater(count["alone"], 0.75 * count["steps"])
         self.assertLess(count["unsure"], 0.1 * count["cuts"])
 
-    def test_the_example_of_the_first_page(self):
+    def test_the_example_of_the_first_page(self) -> None:
         steps = read_readme()
         if steps is None:
             self.skipTest("README.md has no example")
         self.check_whole(2, steps, README)
 
-    def test_worked_examples(self):
+    def test_worked_examples(self) -> None:
         for name, rules in WORKED.items():
             with self.subTest(name):
                 self.check_whole(*read_worked(name), rules.split())

@@ -50,7 +50,7 @@ def crosses(one, other, box):
 
 
 class Drawing(unittest.TestCase):
-    def test_every_example_is_drawn_and_no_arrow_runs_through_words(self):
+    def test_every_example_is_drawn_and_no_arrow_runs_through_words(self) -> None:
         arrows = 0
         for path in sorted(EXAMPLES.glob("*.txt")):
             root = ElementTree.fromstring(picture.Picture(read_run(str(path))).svg())
@@ -69,16 +69,16 @@ class Drawing(unittest.TestCase):
                     arrows += 1
         self.assertGreater(arrows, 1_000)
 
-    def test_a_line_meets_a_box(self):
+    def test_a_line_meets_a_box(self) -> None:
         for line, wanted in ((((0, 0), (10, 10)), True), (((0, 5), (4, 5)), False), (((6, 0), (6, 20)), True), (((0, 9), (20, 9)), False)):
             self.assertEqual(crosses(*line, (4, 4, 8, 8)), wanted, line)
 
-    def test_colours(self):
+    def test_colours(self) -> None:
         for name, colour in picture.COLOURS.items():
             with self.subTest(name):
                 self.assertGreaterEqual(contrast(parts_of(colour), parts_of(picture.GROUND)), 4.5)
 
-    def test_a_key_of_what_is_there(self):
+    def test_a_key_of_what_is_there(self) -> None:
         keys = {"view-change.txt": ["normal", "change", "client", "tick", "stop", "start", "view"], "redirect.txt": ["client"], "bad-slot.txt": ["normal", "repair", "client", "tick"]}
         told = dict(picture.KEY + picture.MARKS)
         for name, wanted in keys.items():
@@ -89,7 +89,7 @@ class Drawing(unittest.TestCase):
     def run_script(self, name, *words, **more):
         return subprocess.run(words_of_module(f"nozhgiva_tools.pages.{name}", *words), stdout=subprocess.PIPE, stderr=subprocess.PIPE, text=True, check=False, **more)
 
-    def test_words(self):
+    def test_words(self) -> None:
         """How the scripts end, and that they end in a sentence."""
         with tempfile.TemporaryDirectory() as folder:
             files = {"empty": b"", "hello": b"hello\n", "bytes": b"\xff\xfe\n", "outputs": b"commit 0 op 1 view 0 client 7 request 0 register\n"}
@@ -105,7 +105,7 @@ class Drawing(unittest.TestCase):
                         self.assertNotIn("Traceback", made.stderr)
                         self.assertEqual(code == 3, bool(re.fullmatch(rf"{script}: .+\n", made.stderr)), made.stderr)
 
-    def test_nobody_reads(self):
+    def test_nobody_reads(self) -> None:
         for script in ("draw", "explore"):
             read, write = os.pipe()
             os.close(read)

@@ -47,12 +47,12 @@ class Members(unittest.TestCase):
             for line in text[places[member]:]:
                 self.assertIn(without_numbers(line), said[member])
 
-    def test_a_run(self):
+    def test_a_run(self) -> None:
         run = merge_members(FILES)
         self.check([path.read_text().splitlines() for path in FILES], run)
         self.assertEqual(run["size"], 3)
 
-    def test_what_answers_what(self):
+    def test_what_answers_what(self) -> None:
         steps = merge_members(FILES)["steps"]
         sent = [output.split() for step in steps for output in step["outputs"] if output.startswith("send ")]
         answers = {"prepare_ok": {"prepare", "start_view"}, "do_view_change": {"start_view_change"}, "give_prepare": {"get_prepare"}}
@@ -65,13 +65,13 @@ class Members(unittest.TestCase):
             elif kind == "choose":
                 self.assertEqual(came, {"do_view_change"})
 
-    def test_a_member_that_was_started_again_had_ended(self):
+    def test_a_member_that_was_started_again_had_ended(self) -> None:
         steps = merge_members(FILES)["steps"]
         at = next(at for at, step in enumerate(steps) if step["outputs"] and step["outputs"][0].startswith("start 0"))
         self.assertIn("stop 0", [step["line"] for step in steps[:at]])
         self.assertFalse(any(step["line"] == "member 0" for step in steps[[step["line"] for step in steps].index("stop 0"):at]))
 
-    def test_files_that_are_cut(self):
+    def test_files_that_are_cut(self) -> None:
         draw = random.Random(1)
         with tempfile.TemporaryDirectory() as folder:
             for _ in range(30):
@@ -82,7 +82,7 @@ class Members(unittest.TestCase):
                     (Path(folder) / path.name).write_text("\n".join(texts[-1]) + "\n")
                 self.check(texts, merge_members([Path(folder) / path.name for path in FILES]))
 
-    def test_a_line_without_its_time(self):
+    def test_a_line_without_its_time(self) -> None:
         """Of a log in which a plain line stands in the midst, of an event whose first line has a time, all is shown."""
         texts = [path.read_text().splitlines() for path in FILES]
         self.assertEqual(texts[0][7:9], ["send 5 0 2 commit view 0 op 2 commit 1", "send 6 0 1 prepare view 0 op 2 made 0 commit 1"])
@@ -93,7 +93,7 @@ class Members(unittest.TestCase):
                 (Path(folder) / path.name).write_text("\n".join(logged) + "\n")
             self.check(texts, merge_members([Path(folder) / path.name for path in FILES]))
 
-    def test_outputs_of_replay_without_their_schedule(self):
+    def test_outputs_of_replay_without_their_schedule(self) -> None:
         lines = [line.strip() for line in (EXAMPLES / "view-change.txt").read_text().splitlines() if line.startswith("  ")]
         with tempfile.TemporaryDirectory() as folder:
             path = Path(folder) / "outputs"
@@ -108,7 +108,7 @@ class Members(unittest.TestCase):
         self.assertEqual([numbers for output, numbers in came if output == commit], [[2], [21]])
         self.assertIn(("choose 1 view 1 log 0 commit 0 head 1 own h", [10]), came)
 
-    def test_what_no_member_writes(self):
+    def test_what_no_member_writes(self) -> None:
         with tempfile.TemporaryDirectory() as folder:
             for text in ("", "hello\n", "send\n", "send a b c\n"):
                 path = Path(folder) / "out"
@@ -156,7 +156,7 @@ class Kept:
 @unittest.skipUnless(os.access(PROGRAM, os.X_OK), "no program: rt ci makes it, or NOZHGIVA_PROGRAM names one")
 class WhatKeepersWrite(unittest.TestCase):
     @classmethod
-    def setUpClass(cls):
+    def setUpClass(cls) -> None:
         cls.kept = Kept()
 
     def merged(self, texts):
@@ -179,7 +179,7 @@ class WhatKeepersWrite(unittest.TestCase):
             sent += sum(output.startswith("send ") for output in step["outputs"])
         self.assertEqual(found, {member: self.said(text) for member, text in texts.items()})
 
-    def test_times(self):
+    def test_times(self) -> None:
         run = self.merged({f"log.{member}": text for member, text in enumerate(self.kept.texts)})
         self.check(dict(enumerate(self.kept.texts)), run)
         times = [seconds_of(step["time"]) for step in run["steps"]]
@@ -190,7 +190,7 @@ class WhatKeepersWrite(unittest.TestCase):
         ticked = [step for step in run["steps"] if step["outputs"] and " commit view " in step["outputs"][0]]
         self.assertTrue(ticked and all(step["rules"] == ["TickedPrimary"] for step in ticked))
 
-    def test_parts_of_a_log(self):
+    def test_parts_of_a_log(self) -> None:
         """A log that was put aside is put before the one that goes on."""
         whole = self.merged({f"log.{member}": text for member, text in enumerate(self.kept.texts)})
         zero, one, two = self.kept.texts
@@ -201,12 +201,12 @@ class WhatKeepersWrite(unittest.TestCase):
         with self.assertRaisesRegex(BadRun, "same member"):
             self.merged({"a": self.said(one), "b": self.said(one)})
 
-    def test_logs_that_begin_in_the_midst(self):
+    def test_logs_that_begin_in_the_midst(self) -> None:
         cut = {member: text[len(text) // 3:] for member, text in enumerate(self.kept.texts)}
         self.check(cut, self.merged({f"log.{member}": text for member, text in cut.items()}))
         self.check(cut, self.merged({f"out.{member}": self.said(text) for member, text in cut.items()}))
 
-    def test_a_member_of_which_there_is_no_log(self):
+    def test_a_member_of_which_there_is_no_log(self) -> None:
         some = {member: self.kept.texts[member] for member in (0, 2)}
         run = self.merged({f"log.{member}": text for member, text in some.items()})
         self.check(some, run)

@@ -86,12 +86,12 @@ def long_example(count):
 @unittest.skipUnless(find_browser(), "no Chromium (Debian's package is chromium)")
 class Page(unittest.TestCase):
     @classmethod
-    def setUpClass(cls):
+    def setUpClass(cls) -> None:
         cls.browser = Browser()
         cls.folder = tempfile.TemporaryDirectory()
 
     @classmethod
-    def tearDownClass(cls):
+    def tearDownClass(cls) -> None:
         cls.browser.close()
         cls.folder.cleanup()
 
@@ -114,7 +114,7 @@ class Page(unittest.TestCase):
             return [text('.view'), text('.role'), text('.commit'), text('.applied'), each('.letters span', ' ') || text('.letters'), each('.keys li', ', ') || text('.state')];
         }})()"""))
 
-    def test_each_line_shows_its_text(self):
+    def test_each_line_shows_its_text(self) -> None:
         walk = """(() => {
             const seen = [];
             choose(0);
@@ -133,7 +133,7 @@ class Page(unittest.TestCase):
                 self.assertEqual(self.browser.value(walk), wanted)
             self.assertEqual(self.browser.errors, [])
 
-    def test_the_replicas_after_a_line(self):
+    def test_the_replicas_after_a_line(self) -> None:
         for name, rows in SHOWN.items():
             self.open(EXAMPLES / name)
             for line, replicas in rows:
@@ -142,7 +142,7 @@ class Page(unittest.TestCase):
                     with self.subTest(name, line=line, replica=replica):
                         self.assertEqual(self.shown(replica), wanted)
 
-    def test_answers_and_openings(self):
+    def test_answers_and_openings(self) -> None:
         """In each example: what a get was answered is what the keys of the page say; and a replica that starts is in the view that it was known
         to be in or in a later one."""
         check = """(() => {
@@ -175,14 +175,14 @@ class Page(unittest.TestCase):
         self.assertGreaterEqual(gets, 2)
         self.assertGreaterEqual(starts, 10)
 
-    def test_messages_under_way(self):
+    def test_messages_under_way(self) -> None:
         self.open(EXAMPLES / "view-change.txt")
         self.go(13)
         left = self.browser.value("[...document.querySelectorAll('#way [data-message]')].map(e => Number(e.dataset.message))")
         # Of 0 to 10, sent by then, 0, 1, 2 and 7 have arrived.
         self.assertEqual(left, [10, 9, 8, 6, 5, 4, 3])
 
-    def test_keys_and_slider(self):
+    def test_keys_and_slider(self) -> None:
         self.open(EXAMPLES / "view-change.txt")
         place = "document.getElementById('place').textContent"
         for key, wanted in (("End", 23), ("ArrowRight", 23), ("PageUp", 13), ("ArrowLeft", 12), ("PageDown", 22), ("Home", 1), ("ArrowLeft", 1)):
@@ -195,7 +195,7 @@ class Page(unittest.TestCase):
             self.browser.click(f"#{button}")
             self.assertEqual(self.browser.value(place), f"{wanted} of 23")
 
-    def test_why(self):
+    def test_why(self) -> None:
         self.open(EXAMPLES / "view-change.txt")
         fits = "[...document.querySelectorAll('#why > .rule')].map(e => e.dataset.rule || e.dataset.word)"
         for line, wanted in (
@@ -216,7 +216,7 @@ class Page(unittest.TestCase):
             with self.subTest(line=line, output=output):
                 self.assertEqual(self.browser.value(fits), wanted)
 
-    def test_by_keyboard_alone(self):
+    def test_by_keyboard_alone(self) -> None:
         self.open(EXAMPLES / "view-change.txt")
         self.go(5)
         for _ in range(12):
@@ -226,7 +226,7 @@ class Page(unittest.TestCase):
         self.browser.press("Enter")
         self.assertEqual(self.browser.value("document.querySelector('.said[aria-pressed=\"true\"]').textContent"), "commit 0 op 1 view 0 client 7 request 0 register")
 
-    def test_light_and_dark(self):
+    def test_light_and_dark(self) -> None:
         self.open(EXAMPLES / "damaged-copy.txt")
         self.go(18)
         grounds = set()
@@ -249,7 +249,7 @@ class Page(unittest.TestCase):
         if os.environ.get("PICTURES"):
             self.browser.picture(f"{os.environ['PICTURES']}/{name}.png")
 
-    def test_two_thousand_lines(self):
+    def test_two_thousand_lines(self) -> None:
         example = Path(self.folder.name) / "long.txt"
         example.write_text(long_example(2_000))
         page = self.open(example)
@@ -262,7 +262,7 @@ class Page(unittest.TestCase):
         self.assertEqual(self.browser.value("document.querySelectorAll('[data-replica=\"0\"] .keys li').length"), 100)
         self.picture("two-thousand-lines")
 
-    def test_members(self):
+    def test_members(self) -> None:
         members = Path(__file__).with_name("members")
         self.open("--members", members / "out.0", members / "out.1", members / "out.2")
         self.browser.press("End")
@@ -271,7 +271,7 @@ class Page(unittest.TestCase):
             self.assertEqual(self.shown(replica)[5], "size = 3")
         self.picture("members")
 
-    def test_widths(self):
+    def test_widths(self) -> None:
         """On a phone, a small and a large screen, light and dark: the page isn't wider than the screen, and what it is about is in sight."""
         for width, height in ((390, 844), (1024, 768), (1600, 900)):
             self.browser.size(width, height)
@@ -286,7 +286,7 @@ class Page(unittest.TestCase):
         self.browser.scheme("light")
         self.browser.size(1440, 900)
 
-    def test_opens_at_what_it_is_about(self):
+    def test_opens_at_what_it_is_about(self) -> None:
         place = "document.getElementById('place').textContent"
         for name, wanted in (("view-change.txt", "14 of 23"), ("damaged-copy.txt", "18 of 19"), ("put-get.txt", "6 of 14"), ("redirect.txt", "2 of 2")):
             self.open(EXAMPLES / name)
@@ -297,7 +297,7 @@ class Page(unittest.TestCase):
         with self.assertRaisesRegex(AssertionError, "# at 9"):
             make_page(self.folder.name, example)
 
-    def test_no_arrow_runs_through_words(self):
+    def test_no_arrow_runs_through_words(self) -> None:
         for name, width in (("view-change.txt", 1024), ("careful-random-1.txt", 1600), ("version-2-random-2.txt", 1024)):
             self.browser.size(width, 900)
             self.open(EXAMPLES / name)
@@ -307,7 +307,7 @@ class Page(unittest.TestCase):
                     self.assertEqual(self.browser.value(CROSSED), [])
         self.browser.size(1440, 900)
 
-    def test_what_is_hidden_at_first(self):
+    def test_what_is_hidden_at_first(self) -> None:
         self.open(EXAMPLES / "view-change.txt")
         seen = "[...document.querySelectorAll('.stub, .arrow')].filter((e) => getComputedStyle(e).display !== 'none').length"
         rows = "document.querySelectorAll('.row').length"
@@ -323,7 +323,7 @@ class Page(unittest.TestCase):
         self.assertEqual(after[0] - before[0], sent - arrived - now)
         self.assertEqual(self.browser.value("byId('hidden').textContent"), str(sent - arrived + 3))
 
-    def test_letters_have_words(self):
+    def test_letters_have_words(self) -> None:
         self.open(EXAMPLES / "damaged-copy.txt")
         self.go(17)
         self.assertIn("operation 1: h, here", self.browser.value("document.getElementById('step').textContent"))
@@ -334,7 +334,7 @@ class Page(unittest.TestCase):
         self.assertEqual(self.browser.value("document.activeElement.dataset.words"), "operation 1: here")
         self.assertEqual(self.browser.value("getComputedStyle(document.activeElement, '::after').content"), '"operation 1: here"')
 
-    def test_long_numbers_of_clients(self):
+    def test_long_numbers_of_clients(self) -> None:
         clients = ("18446744073709551615", "18446744073709551614", "7")
         example = Path(self.folder.name) / "clients.txt"
         example.write_text("cluster 2\n" + "".join(f"request 1 {client} 0 register\n  reply 1 client {client} request 0 redirect 0\n" for client in clients))
@@ -382,7 +382,7 @@ FAINT_WORDS = """[...document.querySelectorAll('p, li, dt, dd, button, .t')].fil
 
 
 class Rules(unittest.TestCase):
-    def test_each_rule_of_the_page_of_rules_has_its_event(self):
+    def test_each_rule_of_the_page_of_rules_has_its_event(self) -> None:
         rules = read_rules()
         self.assertEqual({row["rule"] for row in rules["told"]}, set(rules["rules"]))
         script = (TOOLS / "nozhgiva_tools/pages/explorer/explain.js").read_text()

@@ -55,6 +55,9 @@ MOVES = [
 @unittest.skipIf(REASON, REASON)
 @unittest.skipUnless(find_browser(), "no Chromium (Debian's package is chromium)")
 class Page(unittest.TestCase):
+    page: Path
+    browser: Browser
+
     @classmethod
     def setUpClass(cls) -> None:
         cls.page = made()
@@ -92,12 +95,15 @@ class Page(unittest.TestCase):
         self.settle()
 
     def lines(self) -> List[str]:
-        return self.browser.value("game.lines")
+        lines: List[str] = self.browser.value("game.lines")
+        return lines
 
     def do(self, what: str) -> None:
         """A click, a key, or a text into a field."""
         if what.startswith("fill:"):
-            selector, text = re.fullmatch(r"(.*[^=]\]|#\w+)=(.*)", what[5:]).groups()
+            found = re.fullmatch(r"(.*[^=]\]|#\w+)=(.*)", what[5:])
+            assert found, what
+            selector, text = found.groups()
             self.browser.value(f"(() => {{ const e = document.querySelector({json.dumps(selector)}); e.value = {json.dumps(text)}; e.dispatchEvent(new Event('input', {{ bubbles: true }})); }})()")
         elif what.startswith("key:"):
             key = what[4:]

@@ -9,7 +9,7 @@ import sys
 import tempfile
 import unittest
 from pathlib import Path
-from typing import Any, List
+from typing import Any, List, Tuple
 
 from nozhgiva_tools.places import EXAMPLES, words_of_module
 
@@ -23,7 +23,9 @@ ANEW_MS, STEP_MS = 250, 50
 
 # A schedule's lines so far, the next line, and whether it is refused (docs/SCHEDULE.md, "Lines of a schedule" and "Why a line is refused").
 THREE, TWO_V2 = ["cluster 3"], ["cluster 2 v2"]
-REFUSED = [
+Rows = List[Tuple[List[str], str]]
+"""The lines before, and a line."""
+REFUSED: Rows = [
     ([], ""), ([], "cluster 1"), ([], "cluster 7"), ([], "cluster 0 v2"), ([], "cluster 3 v2 careful"), ([], "cluster 3 strict"), ([], "tick 0"), ([], "cluster 03"), ([], " cluster 3"),
     (THREE, "cluster 3"), (THREE, ""), (THREE, "# a comment"), (THREE, "tick 3"), (THREE, "tick"), (THREE, "tick 0 "), (THREE, "tick  0"), (THREE, "tick 0 0"), (THREE, "tick 00"),
     (THREE, "tick +1"), (THREE, "tick -1"), (THREE, "Tick 0"), (THREE, "tick\t0"), (THREE, "tick 0\r"), (THREE, "deliver"), (THREE, "deliver x"), (THREE, f"deliver {2**64}"),
@@ -34,7 +36,7 @@ REFUSED = [
     (THREE, "misdirect 0 5"), (THREE, "misdirect 0 5 1424"), (THREE, "fuse 0 0 0"), (THREE, "fuse 0 1000001 0"), (THREE, f"fuse 0 1 {2**64}"), (THREE, "fuse 0 1"),
     (THREE, "migrate"), (THREE, "start 0 now"), (THREE, "nonsense"), (THREE, "constructor 0"), (THREE, "request 0 7 1 toString a"), (THREE, "x" * 1136),
 ]
-TAKEN = [
+TAKEN: Rows = [
     ([], "cluster 1 v2"), ([], "cluster 6 careful v2"), (THREE, f"deliver {2**64 - 1}"), (THREE, f"request 2 {2**64 - 1} {2**32 - 1} get {'k' * 64}"), (THREE, "request 0 7 0 register"),
     (THREE, f"request 0 7 1 put a {'v' * 1024}"), (TWO_V2, f"request 1 7 1 put a {'v' * 3000}"), (THREE, "request 0 7 1 put !~ ~!"), (THREE, "damage 2 1423"), (TWO_V2, "damage 1 3983"),
     (THREE, "misdirect 0 0 1423"), (THREE, f"fuse 0 1000000 {2**64 - 1}"), (THREE, "migrate 0"), (THREE, "tick 0"), (THREE, "deliver 0"),
