@@ -2,7 +2,7 @@
 
 import random
 from pathlib import Path
-from typing import Dict, List, NamedTuple, Optional
+from typing import Callable, Dict, List, NamedTuple, Optional, Set, Tuple
 
 from nozhgiva_tools.run.playing import Replay
 
@@ -32,7 +32,7 @@ class Schedule:
         self.replay.play(self.begin)
         self.sent: List[List[str]] = []
         self.waiting: List[int] = []
-        self.stopped: set = set()
+        self.stopped: Set[int] = set()
         self.requests: Dict[int, int] = {client: 0 for client in (7, 8, 9)}
         self.leader = 0
         self.steps: List[Played] = []
@@ -89,7 +89,7 @@ class Schedule:
         self.steps.append(Played(line, member, message, [output for output in outputs if output not in ("done", "kept out")]))
 
 
-def write_members(folder: Path, size: int, steps: List[Played]) -> List[Path]:
+def write_members(folder: Path, size: int, steps: List[Played]) -> List[str]:
     """Files as members would have written them: each numbers its messages from 0 in each of its lives."""
     texts: List[List[str]] = [[] for _ in range(size)]
     numbers = [0] * size
@@ -103,15 +103,15 @@ def write_members(folder: Path, size: int, steps: List[Played]) -> List[Path]:
                 words[1] = str(numbers[member])
                 numbers[member] += 1
             texts[member].append(" ".join(words))
-    paths = []
-    for member, text in enumerate(texts):
-        paths.append(folder / f"out.{member}")
-        paths[-1].write_text("".join(line + "\n" for line in text))
-    return paths
+    paths = [folder / f"out.{member}" for member in range(size)]
+    for path, text in zip(paths, texts):
+        path.write_text("".join(line + "\n" for line in text))
+    return [str(path) for path in paths]
 
 
 # What is true of a step, by the event that the schedule names and by what was put out.
 
+Rules = Set[str]
 BY_MESSAGE = {
     "prepare_ok": {"Counted"}, "get_view": {"ViewGiven"}, "get_sync": {"SyncGiven"}, "sync_view": {"Jumped"}, "get_prepare": {"EntryGiven"},
     "give_prepare": {"EntryTaken"}, "get_block": {"BlockGiven"}, "give_block": {"BlockTaken"},
@@ -129,11 +129,11 @@ class Truth:
     """Which rules a step is of, one after the other. Of an acknowledgement it is told by what its replica had before, where nothing else could have told it the header."""
 
     def __init__(self) -> None:
-        self.told: set = set()
-        self.ever: set = set()
-        self.acked: Dict[int, set] = {}
+        self.told: Set[Tuple[int, int]] = set()  # members, and ops that a message reached of which it told them
+        self.ever: Set[Tuple[int, int]] = set()  # members, and ops that they acknowledged
+        self.acked: Dict[int, Set[Tuple[int, int]]] = {}  # views and ops, in this life
 
-    def of(self, step: Played) -> set:
+    def of(self, step: Played) -> Rules:
         kinds = kinds_of(step)
         event = step.message[4] if step.message else step.line.split()[0]
         if event == "start" or "halt" in kinds:
@@ -141,22 +141,27 @@ class Truth:
             return set()
         if event == "request":
             return BY_REPLY.get(step.outputs[0].split()[6], {"Answered"}) if kinds == ["reply"] else {"Made"}
-        return getattr(self, f"of_{event}", lambda *_: BY_MESSAGE[event])(step, kinds)
+        by_event: Dict[str, Callable[[Played, List[str]], Rules]] = {
+            "tick": self.of_tick, "prepare": self.of_prepare, "commit": self.of_commit, "start_view_change": self.of_start_view_change,
+            "do_view_change": self.of_do_view_change, "start_view": self.of_start_view,
+        }
+        return by_event[event](step, kinds) if event in by_event else BY_MESSAGE[event]
 
     def hear(self, step: Played) -> None:
         """What a message told its receiver of headers, whatever came of it."""
         if step.message and step.message[4] in ("start_view", "sync_view", "give_prepare"):
             self.told.add((step.member, int(step.message[step.message.index("op") + 1])))
 
-    def of_tick(self, step: Played, kinds: List[str]) -> set:
+    def of_tick(self, step: Played, kinds: List[str]) -> Rules:
         if "commit" in kinds and "send" in step.outputs[0]:
             return {"TickedPrimary"}
         return {"TickedBackup", "TickedChanging"} if "start_view_change" in kinds or "wait" in kinds or "choose" in kinds else {"TickedBackup"}
 
-    def of_prepare(self, step: Played, kinds: List[str]) -> set:
+    def of_prepare(self, step: Played, kinds: List[str]) -> Rules:
         if "prepare_ok" not in kinds:
             return {"PreparedLater", "Ahead"}
-        member, view, op = step.member, int(step.message[6]), int(step.message[8])
+        message = step.message or []
+        member, view, op = step.member, int(message[6]), int(message[8])
         again = (view, op) in self.acked.setdefault(member, set())
         was_told = any(other == member and reach >= op for other, reach in self.told)
         first = (member, op) not in self.ever
@@ -164,14 +169,14 @@ class Truth:
         self.ever.add((member, op))
         return {"Known"} if again else {"Next"} if first and not was_told else {"Known", "Next"}
 
-    def of_commit(self, step: Played, kinds: List[str]) -> set:
+    def of_commit(self, step: Played, kinds: List[str]) -> Rules:
         return {"CommitHeard", "CommitLater"} if kinds == ["get_view"] else {"CommitHeard"}
 
-    def of_start_view_change(self, step: Played, kinds: List[str]) -> set:
+    def of_start_view_change(self, step: Played, kinds: List[str]) -> Rules:
         return {"ChangeLater"} if "start_view_change" in kinds else {"ChangeDone"} if kinds == ["start_view"] else {"ChangeHeard"}
 
-    def of_do_view_change(self, step: Played, kinds: List[str]) -> set:
+    def of_do_view_change(self, step: Played, kinds: List[str]) -> Rules:
         return {"StatedLate"} if kinds == ["start_view"] else {"Stated"}
 
-    def of_start_view(self, step: Played, kinds: List[str]) -> set:
+    def of_start_view(self, step: Played, kinds: List[str]) -> Rules:
         return {"SyncAsked"} if "get_sync" in kinds else {"Taken"}

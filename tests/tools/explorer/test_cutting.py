@@ -6,8 +6,10 @@ import tempfile
 import unittest
 from collections import Counter
 from pathlib import Path
+from typing import Counter as Counts, Dict, List, Optional, Set, Sequence, Tuple
 
 from nozhgiva_tools.pages.explorer.members import merge_members
+from nozhgiva_tools.pages.explorer.reading import ShownStep
 from nozhgiva_tools.places import EXAMPLES
 from nozhgiva_tools.run import built
 
@@ -29,16 +31,17 @@ WORKED = {
 }
 
 
-def read_readme():
+def read_readme() -> Optional[List[Played]]:
     """The steps of the example that README.md has, None where it has none."""
     text = (EXAMPLES.parent / "README.md").read_text()
     block = re.search(r"^    cluster 2\n(?:    [^\n]*\n)+", text, re.M)
-    return block and steps_of([line[4:] for line in block[0].splitlines()])
+    return steps_of([line[4:] for line in block[0].splitlines()]) if block else None
 
 
-def steps_of(lines):
+def steps_of(lines: Sequence[str]) -> List[Played]:
     """The steps of an example as it stands."""
-    steps, sent = [], []
+    steps: List[Played] = []
+    sent: List[List[str]] = []
     for line in lines:
         if line.startswith("  "):
             steps[-1].outputs.append(line.strip())
@@ -51,17 +54,17 @@ def steps_of(lines):
     return steps
 
 
-def read_worked(name):
+def read_worked(name: str) -> Tuple[int, List[Played]]:
     lines = (EXAMPLES / name).read_text().splitlines()
     return int(next(line for line in lines if line.startswith("cluster")).split()[1]), steps_of(lines)
 
 
-def put_together(size, steps):
+def put_together(size: int, steps: List[Played]) -> Dict[int, List[ShownStep]]:
     """The page's steps of each member, as their members would have written them."""
     with tempfile.TemporaryDirectory() as folder:
         run = merge_members(write_members(Path(folder), size, steps))
-    members = {}
-    sent = []
+    members: Dict[int, List[ShownStep]] = {}
+    sent: List[str] = []
     for step in run["steps"]:
         if any(number >= len(sent) for number in step["came"]):
             raise AssertionError("it came before it was sent")
@@ -74,9 +77,11 @@ def put_together(size, steps):
 
 
 class Cutting(unittest.TestCase):
-    def compare(self, size, steps):
+    def compare(self, size: int, steps: List[Played]) -> Counts[str]:
         """Cuts that are told for sure are right, and no other was missed; the true rule is among those named. It gives what was counted."""
-        count, truth, true = Counter(), Truth(), {}
+        count: Counts[str] = Counter()
+        truth = Truth()
+        true: Dict[int, List[Tuple[Played, Set[str]]]] = {}
         for step in steps:
             if step.outputs:
                 true.setdefault(step.member, []).append((step, truth.of(step)))
@@ -102,7 +107,7 @@ class Cutting(unittest.TestCase):
 
     @unittest.skipUnless(os.access(PROGRAM, os.X_OK), "no program: rt ci makes it, or NOZHGIVA_PROGRAM names one")
     def test_random_schedules(self) -> None:
-        count = Counter()
+        count: Counts[str] = Counter()
         for seed in range(COUNT):
             schedule = Schedule(PROGRAM, seed, faults=seed % 4 == 3)
             with self.subTest(seed=seed):
@@ -121,7 +126,7 @@ class Cutting(unittest.TestCase):
             with self.subTest(name):
                 self.check_whole(*read_worked(name), rules.split())
 
-    def check_whole(self, size, steps, rules):
+    def check_whole(self, size: int, steps: List[Played], rules: List[str]) -> None:
         """Each step comes back as it was, with its rule alone."""
         members = put_together(size, steps)
         places_of = dict.fromkeys(members, 0)
@@ -134,12 +139,12 @@ class Cutting(unittest.TestCase):
             self.assertEqual((found["rules"], found["unsure"]), ([rule], False), step)
 
 
-def without_number(line):
+def without_number(line: str) -> str:
     """A line without the number of its message."""
     return re.sub(r"^send \d+", "send", line)
 
 
-def places(groups):
+def places(groups: Sequence[Sequence[str]]) -> List[int]:
     """Where each of some groups of lines begins, among all of them."""
     begins, at = [], 0
     for group in groups:

@@ -7,6 +7,7 @@ import tempfile
 import unittest
 import xml.etree.ElementTree as ElementTree
 from pathlib import Path
+from typing import List, Tuple
 
 from nozhgiva_tools.pages.explorer import picture
 from nozhgiva_tools.pages.explorer.reading import read_run
@@ -18,9 +19,17 @@ SVG = "{http://www.w3.org/2000/svg}"
 LETTER = 7.23  # the width of a letter of 12 pixels in the fonts named
 
 
-def points_of(way):
+Point = Tuple[float, float]
+Box = Tuple[float, float, float, float]
+"""Left, top, right, bottom."""
+Rows = List[Tuple[Tuple[str, ...], int]]
+"""Words, and the code with which a script ends."""
+
+
+def points_of(way: str) -> List[Point]:
     """The corners of a path of M, L, H, V and l."""
-    points, x, y = [], 0.0, 0.0
+    points: List[Point] = []
+    x, y = 0.0, 0.0
     for kind, numbers in re.findall(r"([MLHVlh])([-\d. ]+)", way):
         values = [float(number) for number in numbers.split()]
         if kind in "ML":
@@ -35,7 +44,7 @@ def points_of(way):
     return points
 
 
-def crosses(one, other, box):
+def crosses(one: Point, other: Point, box: Box) -> bool:
     """Whether a line from one point to another comes into a box: it is cut to it, side by side."""
     (x, y), (to_x, to_y), (left, top, right, bottom) = one, other, box
     begin, end = 0.0, 1.0
@@ -54,24 +63,24 @@ class Drawing(unittest.TestCase):
         arrows = 0
         for path in sorted(EXAMPLES.glob("*.txt")):
             root = ElementTree.fromstring(picture.Picture(read_run(str(path))).svg())
-            boxes = []
+            boxes: List[Tuple[Box, str]] = []
             for text in root.iter(f"{SVG}text"):
                 if text.get("text-anchor") is None:
-                    x, y = float(text.get("x")), float(text.get("y"))
-                    boxes.append((x, y - 8, x + LETTER * len(text.text), y + 1, text.text))
+                    x, y, words = float(text.attrib["x"]), float(text.attrib["y"]), text.text or ""
+                    boxes.append(((x, y - 8, x + LETTER * len(words), y + 1), words))
             for line in root.iter(f"{SVG}path"):
                 if line.get("class") == "arrow":
-                    points = points_of(line.get("d"))
+                    points = points_of(line.attrib["d"])
                     for one, other in zip(points, points[1:]):
-                        for *box, words in boxes:
+                        for box, words in boxes:
                             if crosses(one, other, box):
                                 self.fail(f"{path.name}: {line.get('d')} runs through {words}")
                     arrows += 1
         self.assertGreater(arrows, 1_000)
 
     def test_a_line_meets_a_box(self) -> None:
-        for line, wanted in ((((0, 0), (10, 10)), True), (((0, 5), (4, 5)), False), (((6, 0), (6, 20)), True), (((0, 9), (20, 9)), False)):
-            self.assertEqual(crosses(*line, (4, 4, 8, 8)), wanted, line)
+        for one, other, wanted in (((0, 0), (10, 10), True), ((0, 5), (4, 5), False), ((6, 0), (6, 20), True), ((0, 9), (20, 9), False)):
+            self.assertEqual(crosses(one, other, (4, 4, 8, 8)), wanted, (one, other))
 
     def test_colours(self) -> None:
         for name, colour in picture.COLOURS.items():
@@ -86,8 +95,8 @@ class Drawing(unittest.TestCase):
             with self.subTest(name):
                 self.assertEqual([words for words in told.values() if f">{words}</text>" in svg], [told[key] for key in wanted])
 
-    def run_script(self, name, *words, **more):
-        return subprocess.run(words_of_module(f"nozhgiva_tools.pages.{name}", *words), stdout=subprocess.PIPE, stderr=subprocess.PIPE, text=True, check=False, **more)
+    def run_script(self, name: str, *words: str) -> "subprocess.CompletedProcess[str]":
+        return subprocess.run(words_of_module(f"nozhgiva_tools.pages.{name}", *words), stdout=subprocess.PIPE, stderr=subprocess.PIPE, text=True, check=False)
 
     def test_words(self) -> None:
         """How the scripts end, and that they end in a sentence."""
@@ -95,10 +104,12 @@ class Drawing(unittest.TestCase):
             files = {"empty": b"", "hello": b"hello\n", "bytes": b"\xff\xfe\n", "outputs": b"commit 0 op 1 view 0 client 7 request 0 register\n"}
             for name, text in files.items():
                 (Path(folder) / name).write_bytes(text)
-            rows = [((), 2), (("--no",), 2), (("a", "b"), 2), (("--help",), 0), (("missing",), 3), ((folder,), 3)]
+            rows: Rows = [((), 2), (("--no",), 2), (("a", "b"), 2), (("--help",), 0), (("missing",), 3), ((folder,), 3)]
             rows += [((os.path.join(folder, name),), 3) for name in ("empty", "hello", "bytes")]
-            for script, more in (("draw", [((os.path.join(folder, "outputs"),), 3)]), ("explore", [(("--members", os.path.join(folder, name)), 3) for name in ("empty", "hello")])):
-                for words, code in rows + more:
+            more: List[Tuple[str, Rows]] = [
+                ("draw", [((os.path.join(folder, "outputs"),), 3)]), ("explore", [(("--members", os.path.join(folder, name)), 3) for name in ("empty", "hello")])]
+            for script, its in more:
+                for words, code in rows + its:
                     with self.subTest(script=script, words=words):
                         made = self.run_script(script, *words)
                         self.assertEqual(made.returncode, code, made.stderr)

@@ -5,31 +5,37 @@ import random
 import tempfile
 import unittest
 from pathlib import Path
+from typing import Dict, List, Mapping, Sequence, Set, Tuple
 
 from nozhgiva_tools.operate import log
 from nozhgiva_tools.pages.explorer.members import is_outputs, merge_members, read_outputs
-from nozhgiva_tools.pages.explorer.reading import BadRun
+from nozhgiva_tools.pages.explorer.reading import ShownRun
 from nozhgiva_tools.places import EXAMPLES
 from nozhgiva_tools.run import built, playing
 from nozhgiva_tools.told import lines
-from nozhgiva_tools.told.memberlines import seconds_of
+from nozhgiva_tools.told.memberlines import BadRun, seconds_of
 
 PROGRAM = built.PATH
 FILES = [Path(__file__).with_name("members") / f"out.{member}" for member in range(3)]
 
 
-def without_numbers(line):
+def paths(folder: str) -> List[str]:
+    """Files of these names in a folder."""
+    return [os.path.join(folder, path.name) for path in FILES]
+
+
+def without_numbers(line: str) -> Tuple[str, ...]:
     """A line without the number of its message."""
     words = line.split()
     return tuple(words[:1] + words[2:] if words[0] == "send" else words)
 
 
 class Members(unittest.TestCase):
-    def check(self, texts, run):
+    def check(self, texts: Sequence[Sequence[str]], run: ShownRun) -> None:
         """Each member's lines in their order, none missing but those that say again what was said, and nothing received before it was sent."""
         places = [0] * len(texts)
-        said = [set() for _ in texts]
-        sent = []
+        said: List[Set[Tuple[str, ...]]] = [set() for _ in texts]
+        sent: List[int] = []
         for step in run["steps"]:
             kind, member = step["line"].split()[0], int(step["line"].split()[1])
             for number in step["came"]:
@@ -48,12 +54,12 @@ class Members(unittest.TestCase):
                 self.assertIn(without_numbers(line), said[member])
 
     def test_a_run(self) -> None:
-        run = merge_members(FILES)
+        run = merge_members(list(map(str, FILES)))
         self.check([path.read_text().splitlines() for path in FILES], run)
         self.assertEqual(run["size"], 3)
 
     def test_what_answers_what(self) -> None:
-        steps = merge_members(FILES)["steps"]
+        steps = merge_members(list(map(str, FILES)))["steps"]
         sent = [output.split() for step in steps for output in step["outputs"] if output.startswith("send ")]
         answers = {"prepare_ok": {"prepare", "start_view"}, "do_view_change": {"start_view_change"}, "give_prepare": {"get_prepare"}}
         for step in steps:
@@ -66,7 +72,7 @@ class Members(unittest.TestCase):
                 self.assertEqual(came, {"do_view_change"})
 
     def test_a_member_that_was_started_again_had_ended(self) -> None:
-        steps = merge_members(FILES)["steps"]
+        steps = merge_members(list(map(str, FILES)))["steps"]
         at = next(at for at, step in enumerate(steps) if step["outputs"] and step["outputs"][0].startswith("start 0"))
         self.assertIn("stop 0", [step["line"] for step in steps[:at]])
         self.assertFalse(any(step["line"] == "member 0" for step in steps[[step["line"] for step in steps].index("stop 0"):at]))
@@ -80,7 +86,7 @@ class Members(unittest.TestCase):
                     lines = path.read_text().splitlines()
                     texts.append(lines[:draw.randrange(1, len(lines))])
                     (Path(folder) / path.name).write_text("\n".join(texts[-1]) + "\n")
-                self.check(texts, merge_members([Path(folder) / path.name for path in FILES]))
+                self.check(texts, merge_members(paths(folder)))
 
     def test_a_line_without_its_time(self) -> None:
         """Of a log in which a plain line stands in the midst, of an event whose first line has a time, all is shown."""
@@ -91,16 +97,16 @@ class Members(unittest.TestCase):
                 logged = [f"{log.stamp(Kept.EPOCH + 0.3 * at)} {line}" for at, line in enumerate(text)]
                 logged[8] = text[8] if path == FILES[0] else logged[8]
                 (Path(folder) / path.name).write_text("\n".join(logged) + "\n")
-            self.check(texts, merge_members([Path(folder) / path.name for path in FILES]))
+            self.check(texts, merge_members(paths(folder)))
 
     def test_outputs_of_replay_without_their_schedule(self) -> None:
         lines = [line.strip() for line in (EXAMPLES / "view-change.txt").read_text().splitlines() if line.startswith("  ")]
         with tempfile.TemporaryDirectory() as folder:
             path = Path(folder) / "outputs"
             path.write_text("\n".join(lines) + "\n")
-            self.assertTrue(is_outputs(path))
-            self.assertFalse(is_outputs(EXAMPLES / "view-change.txt"))
-            run = read_outputs(path)
+            self.assertTrue(is_outputs(str(path)))
+            self.assertFalse(is_outputs(str(EXAMPLES / "view-change.txt")))
+            run = read_outputs(str(path))
         self.assertEqual([output for step in run["steps"] for output in step["outputs"]], lines)
         came = [(step["outputs"][0], step["came"]) for step in run["steps"] if step["outputs"]]
         # Message 2 commits operation 1 at replica 0; message 10 is the statement on which replica 1 chooses; 21 is the log that brings replica 0 back.
@@ -114,9 +120,9 @@ class Members(unittest.TestCase):
                 path = Path(folder) / "out"
                 path.write_text(text)
                 with self.subTest(text), self.assertRaises(BadRun):
-                    merge_members([path])
+                    merge_members([str(path)])
         with self.assertRaises(BadRun):
-            merge_members([FILES[0], FILES[0]])
+            merge_members([str(FILES[0]), str(FILES[0])])
 
 
 class Kept:
@@ -124,7 +130,7 @@ class Kept:
 
     EPOCH = 1_800_000_000
 
-    def __init__(self):
+    def __init__(self) -> None:
         self.texts = [[f"{log.stamp(self.EPOCH)} keep: member {member} started, process 1"] for member in range(3)]
         self.thinners = [log.Thinner(100) for _ in range(3)]
         self.numbers = [0] * 3
@@ -141,7 +147,7 @@ class Kept:
         group.go_on(2)
         replay.end()
 
-    def hear(self, now, member, output):
+    def hear(self, now: float, member: int, output: str) -> None:
         words = output.split(" ")
         if words[0] == "start":
             self.numbers[member] = 0
@@ -155,24 +161,27 @@ class Kept:
 
 @unittest.skipUnless(os.access(PROGRAM, os.X_OK), "no program: rt ci makes it, or NOZHGIVA_PROGRAM names one")
 class WhatKeepersWrite(unittest.TestCase):
+    kept: Kept
+
     @classmethod
     def setUpClass(cls) -> None:
         cls.kept = Kept()
 
-    def merged(self, texts):
-        """The run of such files, by their names; None for one that has a line that is no member's."""
+    def merged(self, texts: Mapping[str, Sequence[str]]) -> ShownRun:
+        """The run of such files, by their names."""
         with tempfile.TemporaryDirectory() as folder:
             for name, text in texts.items():
                 (Path(folder) / name).write_text("".join(line + "\n" for line in text))
-            return merge_members([Path(folder) / name for name in texts])
+            return merge_members([os.path.join(folder, name) for name in texts])
 
-    def said(self, text):
+    def said(self, text: Sequence[str]) -> List[str]:
         """The lines of a log that a member put out."""
         return [line.split(" ", 1)[1] for line in text if " keep: " not in line]
 
-    def check(self, texts, run):
+    def check(self, texts: Mapping[int, Sequence[str]], run: ShownRun) -> None:
         """Each line once, in its member's order, and nothing received before it was sent."""
-        found, sent = {member: [] for member in texts}, 0
+        found: Dict[int, List[str]] = {member: [] for member in texts}
+        sent = 0
         for step in run["steps"]:
             self.assertTrue(all(number < sent for number in step["came"]))
             found[int(step["line"].split()[1])] += step["outputs"]

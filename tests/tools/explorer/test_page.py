@@ -6,12 +6,13 @@ import subprocess
 import tempfile
 import unittest
 from pathlib import Path
+from typing import List, Tuple, Union
 
 from nozhgiva_tools.pages.explorer.rules import read_rules
 from nozhgiva_tools.places import EXAMPLES, TOOLS, words_of_module
 
 from .browser import Browser, find_browser
-from .contrasts import contrast, parts_of
+from .contrasts import Colour, contrast, parts_of
 
 LIMIT = 2_000_000
 WORKED = ("view-change.txt", "damaged-copy.txt", "put-get.txt", "stop-between-writes.txt", "laggard.txt")
@@ -48,9 +49,9 @@ SHOWN = {
 }
 
 
-def read_text(path):
+def read_text(path: Path) -> List[Tuple[str, List[str]]]:
     """The schedule's lines with the outputs under each."""
-    lines = []
+    lines: List[Tuple[str, List[str]]] = []
     for line in path.read_text().splitlines():
         if line.startswith("  "):
             lines[-1][1].append(line.strip())
@@ -59,7 +60,7 @@ def read_text(path):
     return lines
 
 
-def make_page(folder, *words):
+def make_page(folder: str, *words: Union[str, Path]) -> Path:
     page = Path(folder) / "run.html"
     with open(page, "wb") as file:
         made = subprocess.run(words_of_module("nozhgiva_tools.pages.explore", *map(str, words)), stdout=file, stderr=subprocess.PIPE, check=False)
@@ -68,7 +69,7 @@ def make_page(folder, *words):
     return page
 
 
-def long_example(count):
+def long_example(count: int) -> str:
     """Two replicas and puts of the longest values, as replay would write them: the largest text that so many lines come to."""
     value = "v" * 1_024
     lines, sent, before = ["cluster 2"], 0, ""
@@ -85,6 +86,9 @@ def long_example(count):
 
 @unittest.skipUnless(find_browser(), "no Chromium (Debian's package is chromium)")
 class Page(unittest.TestCase):
+    browser: Browser
+    folder: "tempfile.TemporaryDirectory[str]"
+
     @classmethod
     def setUpClass(cls) -> None:
         cls.browser = Browser()
@@ -95,17 +99,17 @@ class Page(unittest.TestCase):
         cls.browser.close()
         cls.folder.cleanup()
 
-    def open(self, *words):
+    def open(self, *words: Union[str, Path]) -> Path:
         page = make_page(self.folder.name, *words)
         self.browser.open(page)
         self.assertEqual(self.browser.errors, [])
         self.assertEqual([url for url in self.browser.asked if not url.startswith(("file://", "data:"))], [])
         return page
 
-    def go(self, line):
+    def go(self, line: int) -> None:
         self.browser.value(f"location.hash = '#{line}'; choose({line} - 1)")
 
-    def shown(self, replica):
+    def shown(self, replica: int) -> Tuple[str, ...]:
         """What its card says, as a reader sees it."""
         return tuple(self.browser.value(f"""(() => {{
             const card = document.querySelector('[data-replica="{replica}"]');
@@ -242,10 +246,10 @@ class Page(unittest.TestCase):
         self.browser.scheme("light")
         self.assertEqual(len(grounds), 2)
 
-    def colour(self, name):
+    def colour(self, name: str) -> Colour:
         return parts_of(self.browser.value(f"getComputedStyle(document.documentElement).getPropertyValue('{name}').trim()"))
 
-    def picture(self, name):
+    def picture(self, name: str) -> None:
         if os.environ.get("PICTURES"):
             self.browser.picture(f"{os.environ['PICTURES']}/{name}.png")
 
