@@ -2,11 +2,14 @@
 
 import collections
 import os
-from typing import Counter, List
+from typing import Counter, List, TYPE_CHECKING
 
 import pytest
 
 from nozhgiva_tools.run import program
+
+if TYPE_CHECKING:
+    from _pytest.terminal import TerminalReporter  # which pytest 7 names nowhere else
 
 NOTHING_TRIED = 2
 ENDS_WELL = (pytest.ExitCode.OK, pytest.ExitCode.NO_TESTS_COLLECTED)
@@ -20,11 +23,11 @@ def pytest_configure() -> None:
         pass
 
 
-def passed(reporter: "pytest.TerminalReporter") -> int:
+def passed(reporter: "TerminalReporter") -> int:
     return len(reporter.stats.get("passed", [])) + len(reporter.stats.get("xfailed", []))
 
 
-def reasons(reporter: "pytest.TerminalReporter") -> List[str]:
+def reasons(reporter: "TerminalReporter") -> List[str]:
     """Why tests were left out, one for each of them."""
     skipped = [one.longrepr for one in reporter.stats.get("skipped", [])]
     return [str(one[2] if isinstance(one, tuple) else one).replace("Skipped: ", "") for one in skipped]
@@ -36,7 +39,7 @@ def pytest_sessionfinish(session: pytest.Session, exitstatus: int) -> None:
         session.exitstatus = NOTHING_TRIED
 
 
-def pytest_terminal_summary(terminalreporter: "pytest.TerminalReporter", exitstatus: int) -> None:
+def pytest_terminal_summary(terminalreporter: "TerminalReporter", exitstatus: int) -> None:
     why: Counter[str] = collections.Counter(reasons(terminalreporter))
     for reason, count in sorted(why.items()):
         terminalreporter.write_line(f"left out: {f'{count} of its tests: ' if count > 1 else ''}{reason}")

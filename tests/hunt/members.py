@@ -8,6 +8,7 @@ import shutil
 import signal
 import subprocess
 import time
+from functools import partial
 from typing import Callable, Counter, List, Optional, Tuple
 
 from nozhgiva_tools.run import hosts
@@ -66,13 +67,16 @@ class Members(Group):
         return True
 
     def signal(self, r: int, number: int) -> None:
-        if self.members[r] is not None:
-            self.members[r].send_signal(number)
+        process = self.members[r]
+        if process is not None:
+            process.send_signal(number)
 
     def move(self, r: int, draw: random.Random) -> None:
         """Ends a member, makes its file one of version 2, and starts it again. The migration may be killed in its midst at first."""
-        self.signal(r, signal.SIGTERM)
-        self.members[r].wait()
+        process = self.members[r]
+        if process is not None:
+            process.send_signal(signal.SIGTERM)
+            process.wait()
         words = [self.program, "migrate", "5", str(r), str(SIZE), self.file(r)]
         first = subprocess.Popen(words)
         if draw.random() < 0.5:
@@ -174,10 +178,11 @@ class Trouble:
     def pause(self, r: int) -> Optional[Callable[[], None]]:
         if not self.members.runs(r):
             return None
-        self.counts["paused"] += 1
-        self.members.signal(r, signal.SIGSTOP)
         process = self.members.members[r]
-        return lambda: process.send_signal(signal.SIGCONT)
+        assert process  # it runs
+        self.counts["paused"] += 1
+        process.send_signal(signal.SIGSTOP)
+        return partial(process.send_signal, signal.SIGCONT)
 
     def cut(self, *ways: Tuple[int, int]) -> Callable[[], None]:
         for way in ways:
