@@ -49,9 +49,13 @@ def examples() -> Iterator[Case]:
         yield Case(path.name, replay(schedule_of(path)))
 
 
+def soak(seed: int, program: str, _: str) -> Given:
+    return ran(program, ["soak", str(seed), str(SOAK_LINES)])
+
+
 def soaks(count: int) -> Iterator[Case]:
     for seed in range(count):
-        yield Case(f"soak {seed} {SOAK_LINES}", lambda program, folder, seed=seed: ran(program, ["soak", str(seed), str(SOAK_LINES)]))  # type: ignore[misc]
+        yield Case(f"soak {seed} {SOAK_LINES}", partial(soak, seed))
 
 
 # ---- hostile input
@@ -99,12 +103,16 @@ def odd_bytes() -> Iterator[Case]:
         yield Case(f"bytes: {name}", replay(schedule))
 
 
+def take_words(line: str, program: str, folder: str) -> Given:
+    return ran(program, line.split()[1:], folder=folder)
+
+
 def refused_words() -> Iterator[Case]:
     """The command lines of tests/rows/commands that have none of the forms."""
     lines = (TOP / "tests/rows/commands/stdout").read_text(encoding="utf-8").splitlines()
     for line, read in zip(lines, lines[1:]):
         if line.startswith("words") and read == "  usage":
-            yield Case(f"words: {line[6:]}", lambda program, folder, line=line: ran(program, line.split()[1:], folder=folder))  # type: ignore[misc]
+            yield Case(f"words: {line[6:]}", partial(take_words, line))
 
 
 def damages() -> Iterator[Tuple[str, Callable[[bytearray], object]]]:

@@ -7,6 +7,7 @@ import os
 import shutil
 import socket
 import time
+from functools import partial
 from pathlib import Path
 from typing import Callable, Dict, Iterator, Optional
 
@@ -171,7 +172,7 @@ def cases(shim: Optional[Shim]) -> Iterator[Case]:
         yield Case("group: three members", lambda program, folder: talk(standing, program, folder))
         yield Case("group: a member among strangers", lambda program, folder: hear_strangers(standing, program, folder))
     for name, scheme in (("UDP", ""), ("TCP", "tcp:")):
-        yield Case(f"group: trial over {name}", lambda program, folder, scheme=scheme: trial(scheme, program, folder))  # type: ignore[misc]
+        yield Case(f"group: trial over {name}", partial(trial, scheme))
 
 
 def prepare(program: str, folder: str) -> Prepared:

@@ -6,7 +6,7 @@ import select
 import signal
 import socket
 import time
-from typing import Any, Dict, List, NamedTuple, Optional, Sequence, Tuple
+from typing import Dict, List, NamedTuple, Optional, Sequence, Tuple, Union
 
 from .disk import Bytes
 from .reading import datafile
@@ -177,7 +177,7 @@ def bound(port: Optional[int]) -> socket.socket:
 def spawn(words: Sequence[str], output: Optional[int] = None) -> int:
     """Starts a program with no input, no environment and its errors dropped; its number."""
     null = os.devnull
-    actions: List[Tuple[Any, ...]] = [(os.POSIX_SPAWN_OPEN, 0, null, os.O_RDONLY, 0), (os.POSIX_SPAWN_OPEN, 2, null, os.O_WRONLY, 0)]
+    actions: List[Tuple[Union[int, str], ...]] = [(os.POSIX_SPAWN_OPEN, 0, null, os.O_RDONLY, 0), (os.POSIX_SPAWN_OPEN, 2, null, os.O_WRONLY, 0)]
     if output is None:
         actions.append((os.POSIX_SPAWN_OPEN, 1, null, os.O_WRONLY, 0))
     else:

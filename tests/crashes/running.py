@@ -11,7 +11,8 @@ import sys
 import threading
 import time
 import traceback
-from typing import Any, Callable, Counter, Dict, Iterator, List, NamedTuple, Optional, Tuple
+from multiprocessing.synchronize import Event
+from typing import Callable, Counter, Dict, Iterator, List, NamedTuple, Optional, Tuple
 
 from .disk import Bytes, SECTORS_ALONE
 from .judging import Case, judge, Verdict
@@ -102,7 +103,7 @@ class Line(NamedTuple):
     """Between the lanes and the one that started them: what they found (None from each at its end), and that they are to end."""
 
     results: "multiprocessing.Queue[Optional[Result]]"
-    stopped: Any
+    stopped: Event
 
 
 class Lane:

@@ -310,7 +310,8 @@ class Crowd(threading.Thread):
         again = 0.0
         while self.going:
             for key, _ in self.selector.select(0.02):
-                self.hear(key.fileobj)  # type: ignore[arg-type]
+                assert isinstance(key.fileobj, socket.socket)  # nothing else is registered
+                self.hear(key.fileobj)
             now = time.monotonic()
             for stream in [one for one, due in self.streams.items() if due <= now]:
                 self.say(stream, now)

@@ -22,6 +22,13 @@ def processes_with(text: str) -> List[str]:
     return ran.stdout.splitlines()
 
 
+def first(pattern: str, text: str) -> str:
+    """What a pattern's first group finds in a text."""
+    found = re.search(pattern, text)
+    assert found, text
+    return found[1]
+
+
 @needs_program
 class Clusters(unittest.TestCase):
     def begin(self, *words: str) -> "subprocess.Popen[str]":
@@ -52,7 +59,7 @@ class Clusters(unittest.TestCase):
         started = subprocess.Popen(["bash", "-c", again], cwd=TOP, stderr=subprocess.PIPE)
         self.addCleanup(started.communicate)
         self.addCleanup(started.kill)
-        folder = re.search(r"files in (\S+)\.", lines[0])[1]  # type: ignore[index]
+        folder = first(r"files in (\S+)\.", lines[0])
         until = time.monotonic() + 20
         while not [one for one in processes_with(f" {folder}/0 ") if "python3" not in one and "bash" not in one]:
             self.assertLess(time.monotonic(), until, "the printed line starts no member")
@@ -69,8 +76,8 @@ class Clusters(unittest.TestCase):
         for _ in range(2):
             child = self.begin("--port", str(free_run(3)))
             lines = self.lines(child, 2)
-            numbers.add(int(re.search(r"ask (\d+) ", lines[1])[1]))  # type: ignore[index]
-            member = int(re.search(r"processes (\d+)", lines[0])[1])  # type: ignore[index]
+            numbers.add(int(first(r"ask (\d+) ", lines[1])))
+            member = int(first(r"processes (\d+)", lines[0]))
             os.kill(member, signal.SIGKILL)
             self.lines(child, 1)
             child.send_signal(signal.SIGINT)

@@ -9,7 +9,7 @@ import subprocess
 import time
 import unittest
 from pathlib import Path
-from typing import Any, List
+from typing import List
 
 from nozhgiva_tools.places import EXAMPLES
 from tests.tools.explorer.browser import Browser, find_browser
@@ -254,7 +254,7 @@ class Page(unittest.TestCase):
         self.browser.scheme("light")
 
 
-def picture(browser: Any, name: str) -> None:
+def picture(browser: Browser, name: str) -> None:
     """A screenshot, where they are kept."""
     if folder := os.environ.get("PICTURES"):
         browser.picture(Path(folder) / name)

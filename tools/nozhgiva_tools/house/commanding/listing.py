@@ -2,7 +2,7 @@
 
 import re
 from pathlib import Path
-from typing import Dict, FrozenSet, List, NamedTuple, Optional, Sequence, Tuple
+from typing import Callable, Dict, FrozenSet, List, Match, NamedTuple, Optional, Sequence, Tuple
 
 from .finding import Command, may_run
 
@@ -71,6 +71,11 @@ def word(name: str) -> "re.Pattern[str]":
     return re.compile(rf"(?<![\w$]){re.escape(name)}(?!\w)")
 
 
+def literally(value: str) -> "Callable[[Match[str]], str]":
+    """What puts a value in the place of what was found, as it stands."""
+    return lambda _: value
+
+
 def with_words(text: str, words: Dict[str, List[str]]) -> List[str]:
     """A command with what stands for its words: as many commands as these have values."""
     used = [name for name in words if word(name).search(text)]
@@ -79,7 +84,7 @@ def with_words(text: str, words: Dict[str, List[str]]) -> List[str]:
         one = text
         for name in used:
             value = words[name][min(at, len(words[name]) - 1)]
-            one = word(name).sub(lambda _, value=value: value, one)  # type: ignore[misc]
+            one = word(name).sub(literally(value), one)
         made.append(one)
     return made
 
