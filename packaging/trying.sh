@@ -57,6 +57,7 @@ try_package() {
     dpkg-deb -x "$made" "$work/root"
     cmp -s "$NOZHGIVA_PROGRAM" "$work/root/usr/lib/nozhgiva/vr_app" || fail "the program isn't put in as it is"
     try_contents
+    try_shells
     try_purge
 }
 
@@ -73,6 +74,22 @@ try_contents() {
         || fail "what is in the package isn't what packaging/files.txt lists: $(cat "$work/said")"
     ! printf '%s\n' "${listed[@]}" | grep -E '(^|/)(tests?|trials|mutations|bench|house)(/|$)|_test\.|test_' > "$work/said" || fail "tests are in the package: $(cat "$work/said")"
     passed "the package: what packaging/files.txt lists, and no tests in it"
+}
+
+# The page for man is as mandoc wants it, and each shell that is here reads what it completes.
+try_shells() {
+    local share=$work/root/usr/share shell
+    local -A files=([bash]=bash-completion/completions/nozhgiva [zsh]=zsh/vendor-completions/_nozhgiva [fish]=fish/vendor_completions.d/nozhgiva.fish)
+    if command -v mandoc > /dev/null; then
+        gzip -cd "$share/man/man1/nozhgiva.1.gz" | mandoc -T lint > "$work/said" || fail "mandoc finds something in the page for man: $(cat "$work/said")"
+    else
+        leave_out "mandoc"
+    fi
+    for shell in "${!files[@]}"; do
+        [ -s "$share/${files[$shell]}" ] || fail "the package has nothing that $shell completes"
+        if command -v "$shell" > /dev/null; then "$shell" -n "$share/${files[$shell]}" || fail "$shell can't read what it completes"; else leave_out "$shell"; fi
+    done
+    passed "the package: a page for man, and what bash, zsh and fish complete"
 }
 
 # A purge removes what is enabled and what was written, and leaves data files.

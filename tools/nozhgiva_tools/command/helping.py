@@ -43,7 +43,7 @@ def of_all(home: str) -> str:
         parts += [f"\n{group}\n{tree.rows(rows)}"] if rows else []
     parts.append(f"\nFirst\n{tree.rows(FIRST)}" if is_clone(home) else "")
     parts.append("\n`nozhgiva COMMAND --help` tells a command's words, an example and its exit codes; `nozhgiva --version` the version, commit, program and toolchain;\n"
-                 "`nozhgiva --man` a page for man; `nozhgiva --completions` what bash completes. NOZHGIVA_PROGRAM=PATH names another program.\n")
+                 "`nozhgiva --man` a page for man; `nozhgiva --completions SHELL` what bash, zsh or fish complete. NOZHGIVA_PROGRAM=PATH names another program.\n")
     return "".join(parts)
 
 

@@ -8,11 +8,11 @@ from typing import List, Tuple
 from nozhgiva_tools.operate import standard
 from nozhgiva_tools.places import TOP
 
-from . import commands, helping
+from . import commands, helping, tree
 from .commands import Command
 
 HOME = str(TOP)
-TEXTS = ("--help", "-h", "help", "--version", "--man", "--completions")
+TEXTS = ("--help", "-h", "help", "--version", "--man")
 
 
 class NotThere(Exception):
@@ -74,11 +74,19 @@ def run_command(home: str, name: str, words: List[str]) -> int:
 def text_of(home: str, word: str) -> str:
     if word == "--version":
         return helping.version(home)
-    if word in ("--man", "--completions"):
+    if word == "--man":
         from . import manual
 
-        return manual.man(home) if word == "--man" else manual.completions(home)
+        return manual.man(home)
     return helping.of_all(home)
+
+
+def show_completions(home: str, words: List[str]) -> int:
+    from . import completing
+
+    if len(words) != 1 or words[0] not in tree.SHELLS:
+        return fail(f"--completions takes one word: {', '.join(tree.SHELLS)}")
+    return helping.show(completing.script(home, words[0]))
 
 
 def main(home: str, words: List[str]) -> int:
@@ -88,6 +96,8 @@ def main(home: str, words: List[str]) -> int:
             return 2
         if words[0] in TEXTS and len(words) == 1:
             return helping.show(text_of(home, words[0]))
+        if words[0] == "--completions":
+            return show_completions(home, words[1:] or [tree.SHELLS[0]])
         if words[0] == "help":
             return run_command(home, words[1], ["--help"]) if len(words) == 2 else fail("its words are help NAME")
         if words[0].startswith("-"):

@@ -1,4 +1,4 @@
-"""A page for `man`, and what bash completes, both made from the tree of words."""
+"""A page for `man`, made from the tree of words."""
 
 import argparse
 import os
@@ -9,25 +9,6 @@ from typing import List
 
 from . import commands, helping, tree
 from .commands import Command
-
-COMPLETION = """# Completion for bash: put this where bash-completion looks, or say: eval "$(nozhgiva --completions)"
-_nozhgiva() {
-    local word=${COMP_WORDS[COMP_CWORD]}
-    if [ "$COMP_CWORD" = 1 ]; then
-        mapfile -t COMPREPLY < <(compgen -W '@NAMES@' -- "$word")
-        return
-    fi
-    local flags='' words=''
-    case ${COMP_WORDS[1]} in
-@CASES@
-    esac
-    case $word in
-        -*) mapfile -t COMPREPLY < <(compgen -W "$flags" -- "$word") ;;
-        *) mapfile -t COMPREPLY < <(compgen -W "$words" -- "$word"; compgen -f -- "$word") ;;
-    esac
-}
-complete -o filenames -F _nozhgiva nozhgiva ./nozhgiva
-"""
 
 
 def escaped(text: str) -> str:
@@ -77,10 +58,3 @@ def man(home: str) -> str:
         lines += of_command(one, parsers[one.name])
     lines += [".SH ENVIRONMENT", ".TP", ".B NOZHGIVA_PROGRAM", *filled("The path of the program that is run, in place of the one that is built or installed. PROGRAM, its old name, is still read.")]
     return "\n".join(lines) + "\n"
-
-
-def completions(home: str) -> str:
-    parsers = tree.all_of(home)
-    cases = [f"        {name}) flags='{' '.join(tree.flags(one))}' words='{' '.join(tree.choices(one))}' ;;" for name, one in parsers.items()]
-    own = " ".join(("help", *tree.flags(tree.root())))
-    return COMPLETION.replace("@NAMES@", f"{' '.join(parsers)} {own}").replace("@CASES@", "\n".join(cases))

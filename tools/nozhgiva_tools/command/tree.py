@@ -8,6 +8,7 @@ from . import commands
 from .commands import Codes, Command
 
 ABOUT = "builds, plays, runs and looks after a small replicated table of keys and values, whose safety is proved"
+SHELLS = ("bash", "zsh", "fish")
 FORMATTER = argparse.RawDescriptionHelpFormatter
 
 
@@ -58,7 +59,7 @@ def root() -> argparse.ArgumentParser:
     parser = argparse.ArgumentParser(prog="nozhgiva", description=ABOUT, formatter_class=FORMATTER)
     parser.add_argument("--version", action="store_true", help="tell the version, commit, program and toolchain")
     parser.add_argument("--man", action="store_true", help="write a page for man")
-    parser.add_argument("--completions", action="store_true", help="write what bash completes")
+    parser.add_argument("--completions", metavar="SHELL", nargs="?", choices=SHELLS, help="write what a shell completes: bash, zsh or fish; bash where none is named")
     return parser
 
 
