@@ -2,16 +2,31 @@
 
 import collections
 import os
-from typing import Counter, List, TYPE_CHECKING
+from pathlib import Path
+from typing import Counter, List, Optional, TYPE_CHECKING
 
 import pytest
 
 from nozhgiva_tools.run import program
 
+try:
+    from hypothesis import HealthCheck, settings
+except ImportError:  # its tests are left out then, with a word
+    HAS_HYPOTHESIS = False
+else:
+    HAS_HYPOTHESIS = True
+    # The same few examples at each check; `--hypothesis-profile=long` draws many new ones.
+    for name, count in (("checks", 60), ("long", 3_000)):
+        settings.register_profile(name, max_examples=count, derandomize=name == "checks", deadline=None, database=None, print_blob=True,
+                                  suppress_health_check=[HealthCheck.too_slow])
+    settings.load_profile("checks")
+
 if TYPE_CHECKING:
     from _pytest.terminal import TerminalReporter  # which pytest 7 names nowhere else
 
 NOTHING_TRIED = 2
+PROPERTIES = "_properties.py"
+without_hypothesis: List[str] = []
 ENDS_WELL = (pytest.ExitCode.OK, pytest.ExitCode.NO_TESTS_COLLECTED)
 
 
@@ -21,6 +36,14 @@ def pytest_configure() -> None:
         os.environ["NOZHGIVA_PROGRAM"] = program.find().path
     except program.Missing:
         pass
+
+
+def pytest_ignore_collect(collection_path: Path) -> Optional[bool]:
+    """Whether a file can't be read, since it draws by hypothesis."""
+    if HAS_HYPOTHESIS or not collection_path.name.endswith(PROPERTIES):
+        return None
+    without_hypothesis.append(collection_path.name)
+    return True
 
 
 def passed(reporter: "TerminalReporter") -> int:
@@ -43,5 +66,7 @@ def pytest_terminal_summary(terminalreporter: "TerminalReporter", exitstatus: in
     why: Counter[str] = collections.Counter(reasons(terminalreporter))
     for reason, count in sorted(why.items()):
         terminalreporter.write_line(f"left out: {f'{count} of its tests: ' if count > 1 else ''}{reason}")
+    for name in without_hypothesis:
+        terminalreporter.write_line(f"left out: {name}: no hypothesis, which Debian's python3-hypothesis has")
     if exitstatus in ENDS_WELL and not passed(terminalreporter):
         terminalreporter.write_line(f"nothing was tried: {sum(why.values())} tests were left out")
