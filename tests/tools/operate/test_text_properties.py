@@ -9,6 +9,7 @@ from hypothesis import given, strategies as draw
 
 from nozhgiva_tools.operate import backups
 from nozhgiva_tools.told import datafile
+from nozhgiva_tools.told.table import Change
 
 from .files import empty_slot, named
 
@@ -18,17 +19,30 @@ U64 = draw.integers(0, 2**64 - 1)
 LATEST = 40  # the last operation of a drawn log, at most
 PLACES = {1: (144, 4), 2: (1424, 8)}  # by the version: the first sector of the prepares, and how many sectors each has
 BARE = bytes(8)
+KINDS = {"register": 1, "put": 2, "get": 3, "del": 4}
 
 
 def values(version: int) -> draw.SearchStrategy[str]:
     most = {1: 1024, 2: 3000}[version]
-    return draw.one_of(draw.text(VISIBLE, min_size=1, max_size=20), draw.builds(lambda letter: letter * most, VISIBLE))
+
+    def longest(letter: str) -> str:
+        return letter * most
+
+    return draw.one_of(draw.text(VISIBLE, min_size=1, max_size=20), draw.builds(longest, VISIBLE))
 
 
 # Backups.
 
-def changes(version: int) -> draw.SearchStrategy[Tuple[str, ...]]:
-    return draw.one_of(draw.tuples(draw.just("put"), KEYS, values(version)), draw.tuples(draw.just("del"), KEYS))
+def put(key: str, value: str) -> Change:
+    return "put", key, value
+
+
+def delete(key: str) -> Change:
+    return "del", key
+
+
+def changes(version: int) -> draw.SearchStrategy[Change]:
+    return draw.one_of(draw.builds(put, KEYS, values(version)), draw.builds(delete, KEYS))
 
 
 @draw.composite
@@ -77,7 +91,7 @@ class Log(NamedTuple):
 def logs(choose: draw.DrawFn) -> Log:
     version = choose(draw.sampled_from((1, 2)))
     asked = choose(draw.lists(draw.one_of(changes(version), draw.tuples(draw.just("get"), KEYS)), max_size=LATEST - 1))
-    operations = [("register",), *asked]
+    operations: List[Tuple[str, ...]] = [("register",), *asked]
     head = choose(draw.integers(0, len(operations)))
     return Log(choose(U64), version, choose(draw.booleans()), operations, head, choose(draw.integers(0, head)))
 
@@ -85,8 +99,7 @@ def logs(choose: draw.DrawFn) -> Log:
 def body_of(operation: Tuple[str, ...]) -> bytes:
     kind, *texts = operation
     sizes = [len(text) for text in texts]
-    front = {"register": lambda: b"\1", "put": lambda: bytes([2, sizes[0]]) + sizes[1].to_bytes(2, "big"), "get": lambda: bytes([3, sizes[0]]),
-             "del": lambda: bytes([4, sizes[0]])}[kind]()
+    front = bytes([KINDS[kind], *sizes[:1]]) + b"".join(size.to_bytes(2, "big") for size in sizes[1:])
     return front + "".join(texts).encode("ascii")
 
 
