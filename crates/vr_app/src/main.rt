@@ -12,8 +12,8 @@ use std::path::PathBuf;
 use std::process::ExitCode;
 use vr_file::FileDisk;
 use vr_real::{
-    RealClock, RealLink, RealSpawner, SocketLink, StdSink, StdSource,
-    take_missing_streams, take_stack,
+    RealClock, RealLink, RealSpawner, SocketLink, StdSink, StdSource, take_missing_streams,
+    take_stack,
 };
 use vr_top::{Maker, Program, Untold, run_outside};
 
@@ -59,6 +59,7 @@ impl<'r> Maker for Hand<'r> {
     fn disk(&mut self) -> Result<Self::Disk, AllocError> {
         let mut disk = FileDisk::new(self.rt.alloc(), self.rt);
         disk.remember()?;
+        disk.take_room()?;
         Ok(disk)
     }
 

@@ -87,8 +87,8 @@ impl<R> FileDisk<R> {
         Ok(())
     }
 
-    /// Takes memory for sectors, where it wasn't taken yet.
-    fn take_room(&mut self) -> io::Result<()>
+    /// Takes memory for sectors, where it wasn't taken yet: some 2.1 MB. An attach does it too, and fails where there is none.
+    pub fn take_room(&mut self) -> Result<(), AllocError>
         ensures stays { IfSome self.old.kept (λ k. self.new.kept ≡ Some k) }
         ensures faults { self.new.faults ≡ self.old.faults }
         ensures reads { self.new.read_faults ≡ self.old.read_faults }
