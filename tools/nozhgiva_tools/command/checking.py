@@ -77,6 +77,21 @@ def pytest_words() -> Optional[List[str]]:
     return [found] if found else None
 
 
+def pytest_python() -> Optional[str]:
+    """The Python that runs pytest: this one, or the one that Debian's script names."""
+    words = pytest_words()
+    if words is None or words[0] == sys.executable:
+        return words[0] if words else None
+    first = Path(words[0]).read_text(encoding="utf-8", errors="replace").split("\n", 1)[0]
+    return first[2:].strip() if first.startswith("#!") else None
+
+
+def has_pytest_module(name: str) -> bool:
+    """Whether tests can import a module."""
+    python = pytest_python()
+    return python is not None and subprocess.run([python, "-c", f"import {name}"], stdin=subprocess.DEVNULL, stderr=subprocess.DEVNULL, check=False).returncode == 0
+
+
 def words_to_run(words: Sequence[str]) -> List[str]:
     """The words of a command of the table as they are run from the top: `nozhgiva`, pytest, and modules of tests/ and bench/ are named by one word."""
     first, *rest = words
@@ -104,6 +119,8 @@ def is_there(need: str) -> bool:
         return pytest_words() is not None
     if need == "root":
         return os.geteuid() == 0
+    if need.startswith("pytest:"):
+        return has_pytest_module(need[len("pytest:"):])
     if need.startswith("python:"):
         return importlib.util.find_spec(need[len("python:"):]) is not None
     if need.startswith("/"):
