@@ -3,10 +3,11 @@
 Times are seconds of the keeper's clock."""
 
 from collections import deque
-from typing import Deque, Dict, Optional, Set, Tuple
+from typing import Deque, Dict, Optional, Tuple
 
 from nozhgiva_tools.told import datafile
 from nozhgiva_tools.told.lines import Line
+from nozhgiva_tools.told.store import of_words, Store
 
 REMEMBERED = 160  # operations whose lines are kept: a checkpoint and the window behind it
 LATELY = 300.0  # seconds; a session that was used within them may be one of a client at work
@@ -24,13 +25,13 @@ class Tally:
 
     def forget(self) -> None:
         self.op: Optional[int] = None  # up to which all is counted
-        self.names: Set[str] = set()
+        self.names = Store()
         self.clients: Dict[int, list] = {}  # by its number, the last request and the operation that executed it
         self.most = datafile.SESSIONS[1]
 
     @property
     def keys(self) -> Optional[int]:
-        return None if self.op is None else len(self.names)
+        return None if self.op is None else len(self.names.keys)
 
     @property
     def sessions(self) -> Optional[int]:
@@ -54,7 +55,7 @@ class Tally:
             return
         self.forget()
         self.op, self.most = report.checkpoint.op, datafile.SESSIONS[report.value.version]
-        self.names = {key for key, _ in report.checkpoint.pairs()}
+        self.names = Store(dict(report.checkpoint.pairs()))
         self.clients = {client: list(last) for client, last in report.checkpoint.clients().items()}
         self.used = {client: at for client, at in self.used.items() if client in self.clients}
         for now, line in sorted(self.lines, key=lambda heard: heard[1].op):
@@ -74,10 +75,7 @@ class Tally:
             self.register(now, line)
         elif line.client in self.clients and line.request == self.clients[line.client][0] + 1:
             self.clients[line.client], self.used[line.client] = [line.request, line.op], now
-            if line.what[0] == "put" and len(self.names) < datafile.KEYS:
-                self.names.add(line.what[1])
-            elif line.what[0] == "del":
-                self.names.discard(line.what[1])
+            self.names.execute(of_words(line.what))
 
     def register(self, now: float, line: Line) -> None:
         """A new session; where as many are held as may be, the one that was used longest ago goes."""

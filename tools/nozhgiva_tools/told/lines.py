@@ -1,6 +1,7 @@
-"""The lines that a member writes (docs/SCHEDULE.md, "Lines of the output"), as far as an operator's scripts look at them."""
+"""The lines that a member writes (docs/SCHEDULE.md, "Lines of the output"): the one reader of them. `parse` gives what an operator's scripts look at, the other
+functions what trials and pages ask of a line; `memberlines` reads whole files of lines."""
 
-from typing import Callable, Iterable, List, NamedTuple, Optional, Tuple
+from typing import Callable, Iterable, List, NamedTuple, Optional, Sequence, Tuple
 
 LONGEST = 4096  # bytes; the longest line that a member writes has some 1,300
 
@@ -18,6 +19,32 @@ class Line(NamedTuple):
     what: Tuple[str, ...] = ()  # and what it does: `register`, or `put`, `get`, `del` with the key
 
 
+class Applied(NamedTuple):
+    """What `commit R op K view W client C request Q OP` says: that a member applied an operation."""
+
+    op: int
+    view: int  # in which its entry was made
+    client: int
+    request: int
+    words: Tuple[str, ...]  # the operation: `register`, or `put`, `get`, `del` with the key, and of a put the value
+
+
+class Message(NamedTuple):
+    """What `send M A B ..` says: message M goes from A to B."""
+
+    number: int
+    sender: int
+    receiver: int
+
+
+class Reply(NamedTuple):
+    """What `reply R client C request Q ..` says, with the words behind it: `op K` and an outcome, `redirect V`, or a word alone."""
+
+    client: int
+    request: int
+    words: Tuple[str, ...]
+
+
 QUESTIONS = ("get_prepare", "get_block", "get_view", "get_sync")
 UNKNOWN = Line("unknown")
 
@@ -29,6 +56,31 @@ def parse(text: bytes) -> Line:
         return READERS.get(words[0], lambda _: UNKNOWN)(words)
     except (IndexError, ValueError):
         return UNKNOWN
+
+
+def owner_of(words: Sequence[str]) -> int:
+    """Whose line it is, by its words: the member that put it out."""
+    return int(words[2 if words[0] == "send" else 1])
+
+
+def message_of(words: Sequence[str]) -> Optional[Message]:
+    """The message that a line tells of, by its words; None for a line of another kind."""
+    return Message(int(words[1]), int(words[2]), int(words[3])) if words[0] == "send" else None
+
+
+def applied_of(words: Sequence[str]) -> Optional[Applied]:
+    """The operation that a whole line tells as applied, by its words; None for a line of another kind."""
+    return Applied(int(words[3]), int(words[5]), int(words[7]), int(words[9]), tuple(words[10:])) if words[0] == "commit" else None
+
+
+def reply_of(words: Sequence[str]) -> Optional[Reply]:
+    """The reply that a line tells of, by its words; None for a line of another kind."""
+    return Reply(int(words[3]), int(words[5]), tuple(words[6:])) if words[0] == "reply" else None
+
+
+def last_applied(texts: Iterable[bytes]) -> int:
+    """The last operation that lines tell as applied; 0 where there is none."""
+    return max((parse(text.rstrip(b"\n")).op or 0 for text in texts if text.startswith(b"commit ")), default=0)
 
 
 def value(words: List[str], name: str) -> int:
