@@ -11,7 +11,8 @@ import sys
 import time
 
 from nozhgiva_tools.operate import standard
-from nozhgiva_tools.run.real import best_net, Group, Net
+from nozhgiva_tools.run.keepers import Kept
+from nozhgiva_tools.run.nets import best_net, Net
 
 from .happening import Faults
 from .load import Load
@@ -32,7 +33,7 @@ def parse_words() -> argparse.Namespace:
     return parser.parse_args()
 
 
-def tell(load: Load, group: Group) -> int:
+def tell(load: Load, group: Kept) -> int:
     """What came of it; 1 where an answer is wrong."""
     restarts = [line for member in range(SIZE) for line in group.said(member) if "is stopped and started" in line]
     for line in restarts:
@@ -51,7 +52,7 @@ def main() -> int:
     signal.signal(signal.SIGTERM, lambda *_: sys.exit(130))
     net, group, load = Net(SIZE) if words.loopback else best_net(SIZE), None, None
     try:
-        group = Group(SIZE, net, words.scheme, ("--patience", str(words.patience)))
+        group = Kept(net, words.scheme, ("--patience", str(words.patience)))
         print(f"{'namespaces' if net.cuts else 'loopback, no cuts'}, {words.scheme or 'udp'}, patience {words.patience} s, seed {words.seed}, "
               f"load of the machine {os.getloadavg()[0]:.1f}; files in {group.folder}")
         group.start_all()
@@ -70,7 +71,7 @@ def main() -> int:
         if load is not None:
             load.stopping = True
         if group is not None:
-            group.end(words.keep_files)
+            group.close(words.keep_files)
         else:
             net.end()
 

@@ -5,7 +5,7 @@ import signal
 import time
 from typing import Callable, List, Optional, Tuple
 
-from nozhgiva_tools.run.real import Group
+from nozhgiva_tools.run.keepers import Kept
 
 EACH = 10.0  # seconds from fault to fault
 SIZE = 3
@@ -14,7 +14,7 @@ SIZE = 3
 class Faults:
     """Draws what happens, and lets it happen. Times are seconds since the beginning."""
 
-    def __init__(self, group: Group, seed: int) -> None:
+    def __init__(self, group: Kept, seed: int) -> None:
         self.group, self.chance = group, random.Random(seed)
         self.until: List[Tuple[float, Callable[[], object]]] = []  # what ends: when, and how
         self.began = time.monotonic()

@@ -18,8 +18,11 @@ import time
 from typing import Dict, List, NamedTuple, Tuple
 
 from nozhgiva_tools.operate import standard
+from nozhgiva_tools.places import OPERATE
 from nozhgiva_tools.run import built as program
-from nozhgiva_tools.run.real import CLUSTER, Group, HERE, Net
+from nozhgiva_tools.run.group import NUMBER
+from nozhgiva_tools.run.keepers import Kept
+from nozhgiva_tools.run.nets import Net
 
 from .commanded import Commands
 
@@ -69,14 +72,14 @@ class Trial:
 
     def __init__(self, seed: int, size: int) -> None:
         self.chance = random.Random(seed)
-        self.group = Group(size, Net(size))
+        self.group = Kept(Net(size))
         self.begun = os.path.join(self.group.folder, "begun")
         open(self.begun, "w", encoding="utf-8").close()
         self.commands = Commands(self.group, NOTE.format(folder=self.group.folder))
         self.kills: List[str] = []
 
     def ask(self, lines: str, *more: str) -> List[str]:
-        words = [os.path.join(HERE, "ask"), "--program", self.group.program, "--again", "--for", "120", str(CLUSTER), *self.group.addresses, *more]
+        words = [str(OPERATE / "ask"), "--program", self.group.program, "--again", "--for", "120", str(NUMBER), *self.group.addresses, *more]
         return subprocess.run(words, input=lines, stdout=subprocess.PIPE, stderr=subprocess.DEVNULL, text=True, check=False).stdout.splitlines()
 
     def run(self) -> str:
@@ -128,7 +131,7 @@ class Trial:
 
     def end(self) -> None:
         self.commands.stop_all()
-        self.group.end()
+        self.group.close()
 
 
 def one(seed: int, size: int) -> Tuple[int, str]:

@@ -13,9 +13,11 @@ import shutil
 import subprocess
 import tempfile
 
-from nozhgiva_tools.run.group import fail, Group, program
+from nozhgiva_tools.run.built import or_end as program
+from nozhgiva_tools.run.group import Group
+from nozhgiva_tools.run.scripts import end, fail
+from nozhgiva_tools.told.ends import Code
 
-DONE, READ_FAULT, WRITE_FAULT = 0, 5, 6
 NAMES = ["input", "output", "error"]
 CLOSINGS = [closed for count in (1, 2, 3) for closed in itertools.combinations(range(3), count)]
 
@@ -47,7 +49,7 @@ class Rows:
         names = ", ".join(NAMES[fd] for fd in closed)
         well = code == wanted and same
         self.wrong += not well
-        print(f"{'' if well else 'WRONG: '}{what}, closed: {names}: {code}{'' if code == wanted else f' in place of {wanted}'}{'' if same else ', the file is another'}")
+        print(f"{'' if well else 'WRONG: '}{what}, closed: {names}: {code}{'' if code == wanted else f' in place of {wanted:d}'}{'' if same else ', the file is another'}")
 
 
 def try_file(rows, folder, what, words, wanted):
@@ -60,7 +62,7 @@ def try_file(rows, folder, what, words, wanted):
         return code, sum_of(path)
 
     code, whole = run(())
-    if code != DONE:
+    if code != Code.DONE:
         fail(f"{what} with all streams open ends with {code}")
     for closed in CLOSINGS:
         code, found = run(closed)
@@ -68,7 +70,7 @@ def try_file(rows, folder, what, words, wanted):
 
 
 def needs_output(closed):
-    return WRITE_FAULT if 1 in closed else DONE
+    return Code.WRITE_FAULT if 1 in closed else Code.DONE
 
 
 def try_commands(rows, folder):
@@ -77,18 +79,18 @@ def try_commands(rows, folder):
         made.write("cluster 2\nrequest 1 7 0 register\n")
     for closed in ((0,), (1,), (0, 1)):
         with open(f"{folder}/schedule", "rb") as schedule:
-            rows.add("replay", closed, without(closed, ["replay"], stdin=schedule), READ_FAULT if 0 in closed else WRITE_FAULT)
-    rows.add("soak", (1,), without((1,), ["soak", "1", "100"]), WRITE_FAULT)
+            rows.add("replay", closed, without(closed, ["replay"], stdin=schedule), Code.READ_FAULT if 0 in closed else Code.WRITE_FAULT)
+    rows.add("soak", (1,), without((1,), ["soak", "1", "100"]), Code.WRITE_FAULT)
     for closed in ((0, 2), (1,)):
         rows.add("trial", closed, without(closed, ["trial", "5", "10000", f"{folder}/{len(closed)}.", *addresses("")]), needs_output(closed))
 
 
 def try_client(rows, scheme):
     """A client whose input is closed registers, and then can't read what to ask; one whose output is closed can't tell that it registered."""
-    with Group(scheme) as group:
+    with Group(scheme=scheme) as group:
         group.start_all()
         group.ask(1, ["put color green"])
-        for closed, wanted in (((0,), READ_FAULT), ((1,), WRITE_FAULT)):
+        for closed, wanted in (((0,), Code.READ_FAULT), ((1,), Code.WRITE_FAULT)):
             rows.add(f"client over {scheme or 'udp:'}", closed, without(closed, ["client", "5", "7", "10000", *group.addresses]), wanted)
 
 
@@ -101,11 +103,11 @@ def main():
     argparse.ArgumentParser(description=__doc__, formatter_class=argparse.RawDescriptionHelpFormatter).parse_args()
     rows = Rows()
     with tempfile.TemporaryDirectory() as folder:
-        if without((), member(f"{folder}/prepared", "", "--fresh")) != DONE:
+        if without((), member(f"{folder}/prepared", "", "--fresh")) != Code.DONE:
             fail("no member's file could be made")
         for scheme in ("", "tcp:"):
             try_file(rows, folder, f"node over {scheme or 'udp:'}", lambda path, scheme=scheme: member(path, scheme), needs_output)
-        try_file(rows, folder, "migrate", lambda path: ["migrate", "5", "0", "3", path], lambda _: DONE)
+        try_file(rows, folder, "migrate", lambda path: ["migrate", "5", "0", "3", path], lambda _: Code.DONE)
         try_commands(rows, folder)
     for scheme in ("", "tcp:"):
         try_client(rows, scheme)
@@ -115,4 +117,4 @@ def main():
 
 
 if __name__ == "__main__":
-    main()
+    end(main)

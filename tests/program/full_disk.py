@@ -11,10 +11,11 @@ import sys
 import tempfile
 import time
 
-from nozhgiva_tools.run.group import fail, no_words, program, sealed
+from nozhgiva_tools.run.built import or_end as program
+from nozhgiva_tools.run.scripts import end as end_script, fail, no_words, sealed
+from nozhgiva_tools.told.ends import Code
 
 LENGTH, SECTORS, KILLS = 2039808, 3984, 40
-DONE, DISK_FAULT, OCCUPIED = 0, 7, 12
 
 
 def words(path, turns):
@@ -42,12 +43,12 @@ def fill_up(folder):
     for turn in range(1, 4):
         code = make(path)
         print(f"a full disk, time {turn}: {code}, {room(path)[0]} bytes, of which {room(path)[1]} sectors have room")
-        if code != DISK_FAULT:
+        if code != Code.DISK_FAULT:
             fail("on a full disk a member has to end with 7")
     subprocess.run(["mount", "-o", "remount,size=4m", folder], check=True)
     code = make(path)
     print(f"with room: {code}, {room(path)[0]} bytes, of which {room(path)[1]} sectors have room")
-    if code != DONE or not is_whole(path):
+    if code != Code.DONE or not is_whole(path):
         fail("with room a member has to begin, on a whole file")
 
 
@@ -67,7 +68,7 @@ def kill_while_filling(folder):
         if room(path)[0] == LENGTH and not is_whole(path):
             fail(f"kill {kill} leaves a file of the whole length with holes")
         code = make(path)
-        if code not in (DONE, OCCUPIED) or not is_whole(path):
+        if code not in (Code.DONE, Code.OCCUPIED) or not is_whole(path):
             fail(f"after kill {kill} a member ends with {code} on a file of {room(path)}")
     print(f"{KILLS} kills while the file was made, {short} of them left it short: it is whole after the next --fresh")
 
@@ -85,4 +86,4 @@ def main():
 if __name__ == "__main__":
     no_words()
     sealed(sys.argv)
-    main()
+    end_script(main)

@@ -10,7 +10,8 @@ import tempfile
 import time
 
 from nozhgiva_tools.places import TOP
-from nozhgiva_tools.run.group import fail, Group, no_words
+from nozhgiva_tools.run.group import Group
+from nozhgiva_tools.run.scripts import end as end_script, fail, no_words
 
 PUTS, KEYS, CHECKPOINT = 100, 50, 96
 LAST = PUTS + 1
@@ -108,7 +109,7 @@ def try_version_2(folder, file):
 
 
 def try_group(mode, *more):
-    with Group("") as group, tempfile.TemporaryDirectory() as folder:
+    with Group(scheme="") as group, tempfile.TemporaryDirectory() as folder:
         group.start_all(*more)
         end = time.monotonic() + 30
         while inspect(group.file(2), "health")[0] != 0 and time.monotonic() < end:
@@ -134,4 +135,4 @@ def main():
 
 
 if __name__ == "__main__":
-    main()
+    end_script(main)

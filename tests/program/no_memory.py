@@ -11,7 +11,9 @@ import sys
 import tempfile
 from concurrent.futures import ThreadPoolExecutor
 
-from nozhgiva_tools.run.group import no_words, program
+from nozhgiva_tools.run.built import or_end as program
+from nozhgiva_tools.run.scripts import no_words
+from nozhgiva_tools.told.ends import Code, TEXTS
 
 REFUSE = r"""
 #define _GNU_SOURCE
@@ -42,6 +44,11 @@ void *realloc(void *old, size_t size) {
     return refused() ? NULL : real(old, size);
 }
 """
+
+
+def said(code):
+    """How a run ends with this code, and what it says then."""
+    return int(code), f"{TEXTS[code]}\n".encode()
 
 
 def puts(count):
@@ -86,7 +93,7 @@ class Runs:
             for number, ran in enumerate(pool.map(lambda n: self.run(words, text, n), range(1, count + 1)), 1):
                 if ran == whole:
                     passed += 1
-                elif not whole[1].startswith(ran[1]) or (ran[0], ran[2]) not in ((11, b"no memory\n"), (11, b""), *others):
+                elif not whole[1].startswith(ran[1]) or (ran[0], ran[2]) not in (said(Code.NO_MEMORY), (Code.NO_MEMORY, b""), *others):
                     failed += 1
                     print(f"{name}: request {number}: status {ran[0]}, {ran[2]!r}, {ran[1][-60:]!r}")
         print(f"{name}: {count} requests refused in turn, {passed} of them without effect; the whole run ends with {whole[0]}")
@@ -102,7 +109,7 @@ def main():
         failed += runs.refuse_each("a block repair", ["replay"], BLOCKS)
         member = ["node", "5", "0", "FILE", "2", "127.0.0.1:0", "127.0.0.1:1", "--fresh"]
         # Where the C library finds no memory to look an address up, the link fails.
-        failed += runs.refuse_each("a new member", member, [], [(8, b"link fault\n")])
+        failed += runs.refuse_each("a new member", member, [], [said(Code.LINK_FAULT)])
     sys.exit(1 if failed else 0)
 
 

@@ -13,9 +13,10 @@ import socket
 import subprocess
 import tempfile
 
-from nozhgiva_tools.run.group import fail, program
+from nozhgiva_tools.run.built import or_end as program
+from nozhgiva_tools.run.scripts import end, fail
+from nozhgiva_tools.told.ends import Code
 
-DISK_FAULT = 7
 LENGTH = 4 << 20
 ADDRESSES = ["127.0.0.1:28111", "127.0.0.1:28112", "127.0.0.1:28113"]
 WRITES = "write,pwrite64,writev,pwritev,ftruncate,fallocate"
@@ -50,9 +51,9 @@ class Rows:
         for name, place in (("", path), (" by a link", link)):
             for command, words in runs(place).items():
                 code, calls = self.changes(words)
-                well = code == DISK_FAULT and not calls and same()
+                well = code == Code.DISK_FAULT and not calls and same()
                 self.wrong += not well
-                said = "" if well else f" in place of {DISK_FAULT}, {len(calls)} calls that write, {'as it was' if same() else 'changed'}"
+                said = "" if well else f" in place of {Code.DISK_FAULT:d}, {len(calls)} calls that write, {'as it was' if same() else 'changed'}"
                 print(f"{'' if well else 'WRONG: '}{command} on {what}{name}: {code}{said}")
         os.unlink(link)
 
@@ -93,4 +94,4 @@ def main():
 
 
 if __name__ == "__main__":
-    main()
+    end(main)

@@ -12,7 +12,8 @@ import subprocess
 import sys
 import termios
 
-from nozhgiva_tools.run.group import answer_help, program
+from nozhgiva_tools.run.built import or_end as program
+from nozhgiva_tools.run.scripts import answer_help
 
 
 class Replay:

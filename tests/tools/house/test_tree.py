@@ -13,11 +13,9 @@ ALONE = {"tools/__main__.py"}
 NAMES = {"tools": "nozhgiva_tools", "tests": "tests", "bench": "bench"}
 # What each folder's Python may import of the others.
 BELOW = {"tools": set(), "bench": {"tools"}, "tests": {"tools", "bench"}}  # type: Dict[str, Set[str]]
-# What each part of the package may import of the others; the table of the checks' runner is in `command`.
-PARTS: Dict[str, Set[str]] = {
-    "told": set(), "operate": {"told"}, "run": {"told", "operate", "command"}, "command": {"run", "operate"}, "pages": {"run", "told", "command"},
-    "house": {"command", "told", "run", "pages"},
-}
+# The parts of the package, from the lowest: each may import those before it, and `places`, and no part imports one behind it. `command` names modules of
+# all parts in its table of subcommands, and imports the one that is called.
+PARTS = ("told", "operate", "run", "command", "pages", "house")
 NO_TEST = re.compile(r"(^|/)(tests?|mutations|bench|house)(/|$)|_test\.|test_|(^|/)check")
 
 
@@ -54,7 +52,11 @@ class Tree(unittest.TestCase):
             part = path.split("/")[2] if path.startswith("tools/nozhgiva_tools/") else ""
             if part in PARTS:
                 called = (imports(text, "nozhgiva_tools") & set(PARTS)) - {part}
-                self.assertLessEqual(called, PARTS[part], path)
+                self.assertLessEqual(called, set(PARTS[:PARTS.index(part)]), path)
+
+    def test_the_order_has_all_parts(self) -> None:
+        found = {path.split("/")[2] for path, _ in python() if path.startswith("tools/nozhgiva_tools/") and path.count("/") > 2}
+        self.assertEqual(found, set(PARTS))
 
     def test_what_may_be_run_says_by_what(self) -> None:
         listed = subprocess.run(["git", "ls-files", "-s"], cwd=TOP, stdout=subprocess.PIPE, text=True, check=True).stdout.splitlines()

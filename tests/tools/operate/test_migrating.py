@@ -12,7 +12,9 @@ from nozhgiva_tools.operate.migrating import File, HANDOVER, Hands, Walk
 from nozhgiva_tools.operate.rolling import Bounds, Stopped
 from nozhgiva_tools.places import DOCS, OPERATE, words_of_module
 from nozhgiva_tools.run import built as program
-from nozhgiva_tools.run.real import CLUSTER, Group, Net
+from nozhgiva_tools.run.group import NUMBER
+from nozhgiva_tools.run.keepers import Kept
+from nozhgiva_tools.run.nets import Net
 from nozhgiva_tools.told import datafile
 from tests.group.commanded import Commands
 
@@ -196,7 +198,7 @@ class Walking(unittest.TestCase):
 
 class Lock(unittest.TestCase):
     def test_a_walk_waits_for_the_commands_of_one_that_was_killed(self):
-        words = argparse.Namespace(cluster=CLUSTER, stop=f"stop {os.getpid()}", start="start", migrate="move")
+        words = argparse.Namespace(cluster=NUMBER, stop=f"stop {os.getpid()}", start="start", migrate="move")
         path = script.lock_path(words)
         self.assertNotEqual(path, script.lock_path(argparse.Namespace(**dict(vars(words), stop="stop"))))
         lock = script.take_lock(path)
@@ -226,11 +228,11 @@ file={{folder}}/$1
 
 @unittest.skipUnless(program.is_there(), program.MISSING)
 class Real(unittest.TestCase):
-    def ask(self, group: Group, lines: str, *more: str) -> str:
-        words = [os.path.join(HERE, "ask"), "--program", group.program, "--again", "--for", "120", str(CLUSTER)] + group.addresses + list(more)
+    def ask(self, group: Kept, lines: str, *more: str) -> str:
+        words = [os.path.join(HERE, "ask"), "--program", group.program, "--again", "--for", "120", str(NUMBER)] + group.addresses + list(more)
         return subprocess.run(words, input=lines, capture_output=True, text=True).stdout
 
-    def begin(self, group: Group) -> List[str]:
+    def begin(self, group: Kept) -> List[str]:
         """Starts the members by commands, and gives the words that move them."""
         commands = Commands(group, move=LOSSY)
         commands.start_all()
@@ -238,8 +240,8 @@ class Real(unittest.TestCase):
         return commands.words()
 
     def test_a_group_whose_first_member_loses_an_entry_in_its_move(self):
-        group = Group(3, Net(3))
-        self.addCleanup(group.end)
+        group = Kept(Net(3))
+        self.addCleanup(group.close)
         words = self.begin(group)
         group.await_leader(120)
         self.assertEqual(self.ask(group, "".join(f"put k{i} v{i}\n" for i in range(8))), "ok\n" * 8)

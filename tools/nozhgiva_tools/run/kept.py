@@ -42,6 +42,6 @@ class Keepers:
             self.group.plan(now, lambda at: self.restart(member))
 
     def restart(self, member: int) -> None:
-        if member in self.group.running:
+        if self.group is not None and member in self.group.running:
             self.group.stop(member)
             self.group.start(member)
