@@ -29,8 +29,8 @@ NOTHING = (
 )
 # What takes no words.
 WORDLESS = (
-    "tests/program/readme", "tests.program.closed_streams", "tests/program/crash", "tests.group.endless", "tests.program.full_disk", "tests.program.inspect_check",
-    "tests/program/migrate", "tests.program.no_memory", "tests.program.not_a_file", "tests.group.reads", "tests.group.second_process", "tests.group.silent", "tests.program.stops",
+    "tests.program.closed_streams", "tests.group.endless", "tests.program.full_disk", "tests.program.inspect_check",
+    "tests.program.no_memory", "tests.program.not_a_file", "tests.group.reads", "tests.group.second_process", "tests.group.silent", "tests.program.stops",
 )
 FOLDERS = ("bench", "operate", "packaging", "clients/go", "clients/vectors", "tests/program")
 
