@@ -10,7 +10,7 @@ import time
 from pathlib import Path
 from typing import Callable, Dict, Iterator, Optional
 
-from nozhgiva_tools.places import TOP
+from nozhgiva_tools.places import ROWS
 from nozhgiva_tools.run import ports
 from nozhgiva_tools.run.group import Group, SIZE
 from nozhgiva_tools.run.nets import Net
@@ -137,7 +137,7 @@ def hear_strangers(shim: Shim, program: str, folder: str) -> Given:
 def messages() -> Iterator[bytes]:
     """The messages of tests/rows/messages."""
     pieces: Dict[str, str] = {}
-    for line in (TOP / "tests/rows/messages/stdin").read_text(encoding="ascii").splitlines():
+    for line in (ROWS / "messages" / "stdin").read_text(encoding="ascii").splitlines():
         kind, _, rest = line.partition(" ")
         if kind == "piece":
             name, _, pieces[name] = rest.partition(" ")

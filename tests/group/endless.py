@@ -51,7 +51,7 @@ def main() -> None:
         puts.await_answers(20)
         count, gap = puts.phase(PHASE)
         print(f"alone: {count} puts answered in {PHASE} s, at most {gap:.2f} s between two", flush=True)
-        senders = [subprocess.Popen([*words_of_module("tests.group.endless"), "send", str(group.ports[r]), str(PHASE + 1)]) for r in range(3)]
+        senders = [subprocess.Popen([*words_of_module(sys.modules["__main__"]), "send", str(group.ports[r]), str(PHASE + 1)]) for r in range(3)]
         time.sleep(1)
         count, gap = puts.phase(PHASE - 1)
         print(f"beside an endless stream to each member: {count} puts answered in {PHASE - 1} s, at most {gap:.2f} s between two")

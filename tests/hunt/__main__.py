@@ -26,7 +26,7 @@ from nozhgiva_tools.run.built import or_end as program
 from nozhgiva_tools.run.nets import Sealed
 from nozhgiva_tools.run.scripts import fail, sealed
 
-from . import history, planted
+from . import history, planted, worker as worker_in_python
 from .members import Members, Stuck, Trouble
 from .order import judge
 from .workers import Board, FAST, KEYS, SLOW, Worker
@@ -72,7 +72,7 @@ class Round:
 
     def worker(self, number, name):
         """A client: every second one is in Go, where there is Go."""
-        words = [self.go] if self.go and number % 2 else words_of_module("tests.hunt.worker")
+        words = [self.go] if self.go and number % 2 else words_of_module(worker_in_python)
         return Worker(name, [*self.members.net.inside(None), *words, str(self.members.number), *self.members.addresses], self.board, random.Random(f"{self.seed} {number}"))
 
     def change_pace(self):

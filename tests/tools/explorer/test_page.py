@@ -7,6 +7,7 @@ import tempfile
 import unittest
 from pathlib import Path
 
+from nozhgiva_tools.pages import explore
 from nozhgiva_tools.pages.explorer.rules import read_rules
 from nozhgiva_tools.places import EXAMPLES, TOOLS, words_of_module
 
@@ -62,7 +63,7 @@ def read_text(path):
 def make_page(folder, *words):
     page = Path(folder) / "run.html"
     with open(page, "wb") as file:
-        made = subprocess.run(words_of_module("nozhgiva_tools.pages.explore", *map(str, words)), stdout=file, stderr=subprocess.PIPE, check=False)
+        made = subprocess.run(words_of_module(explore, *map(str, words)), stdout=file, stderr=subprocess.PIPE, check=False)
     if made.returncode:
         raise AssertionError(made.stderr.decode())
     return page

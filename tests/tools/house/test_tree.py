@@ -6,7 +6,7 @@ import subprocess
 import unittest
 from typing import Dict, Iterator, List, Set, Tuple
 
-from nozhgiva_tools.places import TOP
+from nozhgiva_tools.places import PACKAGING, TOOLS, TOP
 
 CHANGES_PATHS = re.compile(r"\bsys\.path(?:\.insert|\.append|\.extend|\[[^\]]*\] *\+?=| *\+?=)")
 ALONE = {"tools/__main__.py"}
@@ -16,6 +16,8 @@ BELOW = {"tools": set(), "bench": {"tools"}, "tests": {"tools", "bench"}}  # typ
 # The parts of the package, from the lowest: each may import those before it, and `places`, and no part imports one behind it. `command` names modules of
 # all parts in its table of subcommands, and imports the one that is called.
 PARTS = ("told", "operate", "run", "command", "pages", "house")
+CALLED = re.compile(r"words_of_module\(\"([\w.]+)\"")
+NAMED = re.compile(r"\bTOP(?: /|,) \"(tests|tools|bench|packaging|operate|examples)\b")
 NO_TEST = re.compile(r"(^|/)(tests?|mutations|bench|house)(/|$)|_test\.|test_|(^|/)check")
 
 
@@ -54,6 +56,14 @@ class Tree(unittest.TestCase):
                 called = (imports(text, "nozhgiva_tools") & set(PARTS)) - {part}
                 self.assertLessEqual(called, set(PARTS[:PARTS.index(part)]), path)
 
+    def test_what_another_folder_has_is_imported_or_named_once(self) -> None:
+        """A module of another folder is imported and handed to `words_of_module`; where folders are stands in places.py."""
+        for path, text in python():
+            own = path[:-len(".py")].replace("tools/nozhgiva_tools/", "nozhgiva_tools/").replace("/", ".")
+            called = {name for name in CALLED.findall(text) if not own.startswith(name.rpartition(".")[0] + ".")}
+            named = set(NAMED.findall(text)) - {path.split("/")[0]} if path != "tools/nozhgiva_tools/places.py" else set()
+            self.assertEqual((called, named), (set(), set()), path)
+
     def test_the_order_has_all_parts(self) -> None:
         found = {path.split("/")[2] for path, _ in python() if path.startswith("tools/nozhgiva_tools/") and path.count("/") > 2}
         self.assertEqual(found, set(PARTS))
@@ -70,7 +80,7 @@ class Tree(unittest.TestCase):
 
 class Installed(unittest.TestCase):
     def patterns(self) -> List[str]:
-        lines = (TOP / "packaging" / "files.txt").read_text(encoding="utf-8").splitlines()
+        lines = (PACKAGING / "files.txt").read_text(encoding="utf-8").splitlines()
         return [line for line in lines if line and not line.startswith("#")]
 
     def test_each_line_names_files_and_no_test(self) -> None:
@@ -87,8 +97,8 @@ class Installed(unittest.TestCase):
             for found in re.finditer(r"(?m)^ *from (nozhgiva_tools[\w.]*|\.[\w.]*) import ([\w, ]+)$", (TOP / path).read_text(encoding="utf-8")):
                 base = found[1] if found[1].startswith("nozhgiva") else (package + found[1] if found[1] != "." else package)
                 for name in (word.split(" as ")[0].strip() for word in found[2].split(",")):
-                    self.assertTrue(base in modules and ((TOP / "tools" / (base.replace(".", "/") + ".py")).is_file() or f"{base}.{name}" in modules
-                                                         or (TOP / "tools" / base.replace(".", "/") / "__init__.py").read_text(encoding="utf-8").find(name) >= 0),
+                    self.assertTrue(base in modules and ((TOOLS / (base.replace(".", "/") + ".py")).is_file() or f"{base}.{name}" in modules
+                                                         or (TOOLS / base.replace(".", "/") / "__init__.py").read_text(encoding="utf-8").find(name) >= 0),
                                     f"{path}: {base}.{name}")
 
 

@@ -16,6 +16,7 @@ from nozhgiva_tools.run.group import NUMBER
 from nozhgiva_tools.run.keepers import Kept
 from nozhgiva_tools.run.nets import Net
 from nozhgiva_tools.told import datafile
+from tests.group import killed
 from tests.group.commanded import Commands
 
 HERE = str(OPERATE)
@@ -262,5 +263,5 @@ class Real(unittest.TestCase):
         self.assertEqual(self.ask(group, "get k1\nget k7\n", "--v2"), "value v1\nvalue v7\n")
 
     def test_walks_that_are_killed_are_run_again(self):
-        made = subprocess.run(words_of_module("tests.group.killed", "--short"), capture_output=True, text=True, env=dict(os.environ, NOZHGIVA_PROGRAM=program.PATH))
+        made = subprocess.run(words_of_module(killed, "--short"), capture_output=True, text=True, env=dict(os.environ, NOZHGIVA_PROGRAM=program.PATH))
         self.assertEqual(made.returncode, 0, made.stdout + made.stderr)

@@ -1,9 +1,9 @@
 """A group of members on this machine, and clients that ask it: the one way in which the tools, tests and figures start members.
 
 Each member has its file, its lines and what it says on standard error in one new folder. `keepers.Kept` has the members under keepers, `cluster` one whose
-members end with whoever started them. Apart stand, each for its own reason: the tests of the clients in Python and Go, whose packages need nothing of this
-repository; the members that bench/measuring compares with other programs, which end with their place; and single members that a test starts by words of its
-own, since the words are what it tries. They too take the words from here where they are Python of this repository."""
+members end with whoever started them. Apart stand, each for its own reason: the tests of the clients in Python and Go, and what makes their vectors, since those
+packages need nothing of this repository; the members that bench measures beside those of other programs, which are started and ended alike; and single members
+that a test starts by words of its own, since the words are what it tries. They take the words from here where they are Python of this repository."""
 
 import os
 import shutil

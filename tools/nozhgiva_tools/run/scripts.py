@@ -40,13 +40,6 @@ def end(main: Callable[[], Optional[int]]) -> NoReturn:
     sys.exit(code)
 
 
-def own_module() -> str:
-    """The name of the module that is run."""
-    spec = sys.modules["__main__"].__spec__
-    assert spec is not None
-    return spec.name[:-len(".__main__")] if spec.name.endswith(".__main__") else spec.name
-
-
 def sealed(words: Sequence[str], *namespaces: str) -> None:
     """Runs the script once more, as root in namespaces of its own, so that what it mounts and joins is gone with it."""
     if os.environ.get("SEALED"):
@@ -55,4 +48,4 @@ def sealed(words: Sequence[str], *namespaces: str) -> None:
         print("this script has to mount and to make networks of its own: run it as root", file=sys.stderr)
         sys.exit(2)
     os.environ["SEALED"] = "1"
-    os.execvp("unshare", ["unshare", *namespaces, "--mount", "--pid", "--fork", "--kill-child", "--mount-proc", *places.words_of_module(own_module(), *words[1:])])
+    os.execvp("unshare", ["unshare", *namespaces, "--mount", "--pid", "--fork", "--kill-child", "--mount-proc", *places.words_of_module(sys.modules["__main__"], *words[1:])])
