@@ -27,7 +27,7 @@ from nozhgiva_tools.run.group import NUMBER
 from nozhgiva_tools.run.keepers import Kept
 from nozhgiva_tools.run.nets import best_net, Namespaces, Net
 
-from .happening import Faults
+from .faults import Faults
 from .load import Load
 
 SIZE = 3

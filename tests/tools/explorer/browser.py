@@ -1,13 +1,15 @@
-"""A headless Chromium, steered over a pipe by its debugging protocol, with the standard library alone."""
+"""A headless Chromium, steered over a pipe by its debugging protocol, with the standard library alone; and how well what it shows is read."""
 
 import base64
 import json
 import os
+import re
 import select
 import shutil
 import subprocess
 import tempfile
 import time
+from typing import List
 
 NAMES = ("chromium", "chromium-browser", "google-chrome")
 PATIENCE = 120.0
@@ -123,3 +125,19 @@ class Browser:
         data = self.call("Page.captureScreenshot", format="png")["data"]
         with open(path, "wb") as file:
             file.write(base64.b64decode(data))
+
+
+def parts_of(colour: str) -> List[float]:
+    """Red, green and blue of `#rrggbb` or `rgb(r, g, b)`, from 0 to 1."""
+    if colour.startswith("#"):
+        return [int(colour[at:at + 2], 16) / 255 for at in (1, 3, 5)]
+    return [int(number) / 255 for number in re.findall(r"\d+", colour)[:3]]
+
+
+def contrast(one: str, other: str) -> float:
+    """The ratio of two colours' brightness: how well one is read on the other, as the accessibility guidelines (WCAG 2) define it."""
+    def brightness(colour: str) -> float:
+        parts = [part / 12.92 if part <= 0.03928 else ((part + 0.055) / 1.055) ** 2.4 for part in colour]
+        return 0.2126 * parts[0] + 0.7152 * parts[1] + 0.0722 * parts[2]
+    dark, light = sorted((brightness(one), brightness(other)))
+    return (light + 0.05) / (dark + 0.05)

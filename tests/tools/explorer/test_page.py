@@ -11,8 +11,7 @@ from nozhgiva_tools.pages import explore
 from nozhgiva_tools.pages.explorer.rules import read_rules
 from nozhgiva_tools.places import EXAMPLES, TOOLS, words_of_module
 
-from .browser import Browser, find_browser
-from .contrasts import contrast, parts_of
+from .browser import Browser, contrast, find_browser, parts_of
 
 LIMIT = 2_000_000
 WORKED = ("view-change.txt", "damaged-copy.txt", "put-get.txt", "stop-between-writes.txt", "laggard.txt")

@@ -6,7 +6,7 @@ import subprocess
 import unittest
 from typing import Dict, Iterator, List, Set, Tuple
 
-from nozhgiva_tools.places import PACKAGING, TOOLS, TOP
+from nozhgiva_tools.places import EXAMPLES, PACKAGING, TOOLS, TOP
 
 CHANGES_PATHS = re.compile(r"\bsys\.path(?:\.insert|\.append|\.extend|\[[^\]]*\] *\+?=| *\+?=)")
 ALONE = {"tools/__main__.py"}
@@ -72,6 +72,12 @@ class Tree(unittest.TestCase):
         listed = subprocess.run(["git", "ls-files", "-s"], cwd=TOP, stdout=subprocess.PIPE, text=True, check=True).stdout.splitlines()
         programs = {path for mode, path in ((line.split()[0], line.split("\t")[1]) for line in listed) if mode == "100755"}
         self.assertEqual({path for path in programs if not (TOP / path).read_bytes().startswith(b"#!")}, set())
+
+    def test_each_example_has_a_line_on_its_page(self) -> None:
+        page = (EXAMPLES / "README.md").read_text(encoding="utf-8")
+        names = [path.name for path in EXAMPLES.iterdir() if path.name not in ("README.md", "__pycache__")]
+        self.assertGreater(len(names), 20)
+        self.assertEqual([name for name in names if not any(f"`{name}{end}" in page for end in "` /")], [])
 
     def test_each_top_folder_says_what_it_holds(self) -> None:
         folders = {path.split("/")[0] for path in files() if "/" in path} - {".ci", "docs", "clients"}

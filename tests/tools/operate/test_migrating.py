@@ -17,7 +17,7 @@ from nozhgiva_tools.run.keepers import Kept
 from nozhgiva_tools.run.nets import Net
 from nozhgiva_tools.told import datafile
 from tests.group import killed
-from tests.group.commanded import Commands
+from tests.group.killed import Commands
 
 HERE = str(OPERATE)
 

@@ -9,8 +9,8 @@ import unittest
 from nozhgiva_tools.operate.policy import PATIENCE
 from nozhgiva_tools.places import EXAMPLES, OPERATE, words_of_module
 from nozhgiva_tools.run import built as program, standing
-from nozhgiva_tools.run.kept import Keepers
 from nozhgiva_tools.run.playing import Client, Group, Replay
+from nozhgiva_tools.run.standing import Keepers
 from tests import progress
 
 HERE = str(OPERATE)
