@@ -14,6 +14,7 @@ import termios
 
 from nozhgiva_tools.run.built import or_end as program
 from nozhgiva_tools.run.scripts import answer_help
+from nozhgiva_tools.told.lines import applied_of, message_of, reply_of
 
 
 class Replay:
@@ -99,16 +100,16 @@ class Soak:
         self.sum.update(text)
         for line in text.decode().splitlines():
             words = line.split()
-            self.messages += words[0] == "send"
-            self.commits += words[0] == "commit"
+            self.messages += message_of(words) is not None
+            self.commits += applied_of(words) is not None
             self.done += line == "done"
             self.kept_out += line == "kept out"
             # Whoever enters a view says so to all others, and whoever is recovered tells its view.
             if words[0] in ("send", "start") and "view" in words:
                 self.view = max(self.view, int(words[words.index("view") + 1]))
-            if words[0] == "reply" and words[6] == "op":
-                client, number = int(words[3]), int(words[5])
-                self.answered[client] = max(number, self.answered.get(client, 0))
+            reply = reply_of(words)
+            if reply is not None and reply.words[0] == "op":
+                self.answered[reply.client] = max(reply.request, self.answered.get(reply.client, 0))
 
     def summary(self, count):
         return (f"events {count}\nmessages {self.messages}\ncommits {self.commits}\nview {self.view}\ndone {self.done}\n"
