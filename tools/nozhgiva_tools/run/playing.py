@@ -8,7 +8,7 @@ import subprocess
 from functools import partial
 from typing import Callable, Dict, Iterable, List, Optional, Set, Tuple
 
-from nozhgiva_tools.told.lines import Message, message_of, owner_of, reply_of
+from nozhgiva_tools.told.lines import applied_of, Message, message_of, owner_of, reply_of, value
 
 TICK = 0.1  # seconds from tick to tick
 MARK = "damage 0 1423"  # a sector that belongs to no block of any state: the line changes nothing that is looked at, and answers
@@ -17,6 +17,7 @@ AT_ONCE = 40  # lines, of which none has more than 1,135 bytes, so that they fit
 AGAIN = 0.5  # seconds; so long a client waits for an answer before it asks again
 SAVE = 4  # syncs of a save of the superblock
 STORE = 2  # syncs of an entry that is stored
+CHECKPOINT = 32  # operations from one checkpoint to the next
 
 
 class Replay:
@@ -269,13 +270,14 @@ class Group:
         count = SAVE if any(output.startswith(("choose ", "start ")) for output in outputs) else 0
         for output in outputs:
             words = output.split(" ")
-            if words[0] == "commit" and int(words[3]) % 32 == 0:
+            applied, is_sent = applied_of(words), message_of(words) is not None
+            if applied is not None and applied.op % CHECKPOINT == 0:
                 count += 1 + SAVE
-            elif words[0] == "send" and words[4] == "start_view_change" and int(words[6]) > self.views[member]:
-                self.views[member] = int(words[6])
+            elif is_sent and words[4] == "start_view_change" and value(words, "view") > self.views[member]:
+                self.views[member] = value(words, "view")
                 count += SAVE
-            elif words[0] == "send" and words[4] in ("prepare", "prepare_ok"):
-                count += self.store(member, int(words[8]), int(words[10]))
+            elif is_sent and words[4] in ("prepare", "prepare_ok"):
+                count += self.store(member, value(words, "op"), value(words, "made"))
         return count
 
     def store(self, member: int, op: int, made: int) -> int:
