@@ -12,6 +12,8 @@ import pathlib
 import shutil
 import subprocess
 import tempfile
+from functools import partial
+from typing import Any, Callable, Dict, List, Sequence, Tuple
 
 from nozhgiva_tools.run.built import or_end as program
 from nozhgiva_tools.run.group import Group
@@ -22,41 +24,42 @@ NAMES = ["input", "output", "error"]
 CLOSINGS = [closed for count in (1, 2, 3) for closed in itertools.combinations(range(3), count)]
 
 
-def addresses(scheme):
+def addresses(scheme: str) -> List[str]:
     """Three of this machine that no other process has now."""
     base = 21000 + os.getpid() * 3 % 9000
     return [f"{scheme}127.0.0.1:{base + r}" for r in range(3)]
 
 
-def without(closed, words, **streams):
+def without(closed: Sequence[int], words: Sequence[str], **streams: Any) -> int:
     """The exit code of the program with these streams closed, and all others at /dev/null but for those that are handed in."""
     closing = " ".join(f"{fd}{'<' if fd == 0 else '>'}&-" for fd in closed)
-    given = {"stdin": subprocess.DEVNULL, "stdout": subprocess.DEVNULL, "stderr": subprocess.DEVNULL, **streams}
-    return subprocess.run(["sh", "-c", f'exec "$@" {closing}', "sh", program(), *words], timeout=60, check=False, **given).returncode
+    given: Dict[str, Any] = {"stdin": subprocess.DEVNULL, "stdout": subprocess.DEVNULL, "stderr": subprocess.DEVNULL, **streams}
+    code: int = subprocess.run(["sh", "-c", f'exec "$@" {closing}', "sh", program(), *words], timeout=60, check=False, **given).returncode
+    return code
 
 
-def sum_of(path):
+def sum_of(path: str) -> str:
     return hashlib.sha256(pathlib.Path(path).read_bytes()).hexdigest()
 
 
 class Rows:
     """What was tried, a line each, and how many went wrong."""
 
-    def __init__(self):
+    def __init__(self) -> None:
         self.wrong = 0
 
-    def add(self, what, closed, code, wanted, same=True):
+    def add(self, what: str, closed: Sequence[int], code: int, wanted: int, same: bool = True) -> None:
         names = ", ".join(NAMES[fd] for fd in closed)
         well = code == wanted and same
         self.wrong += not well
         print(f"{'' if well else 'WRONG: '}{what}, closed: {names}: {code}{'' if code == wanted else f' in place of {wanted:d}'}{'' if same else ', the file is another'}")
 
 
-def try_file(rows, folder, what, words, wanted):
+def try_file(rows: Rows, folder: str, what: str, words: Callable[[str], List[str]], wanted: Callable[[Sequence[int]], int]) -> None:
     """Runs a command on a copy of a member's file with each closing, and compares it with that of the run with all streams open."""
     path = f"{folder}/file"
 
-    def run(closed):
+    def run(closed: Sequence[int]) -> Tuple[int, str]:
         shutil.copy(f"{folder}/prepared", path)
         code = without(closed, words(path))
         return code, sum_of(path)
@@ -69,11 +72,11 @@ def try_file(rows, folder, what, words, wanted):
         rows.add(what, closed, code, wanted(closed), found == whole)
 
 
-def needs_output(closed):
+def needs_output(closed: Sequence[int]) -> int:
     return Code.WRITE_FAULT if 1 in closed else Code.DONE
 
 
-def try_commands(rows, folder):
+def try_commands(rows: Rows, folder: str) -> None:
     """Commands that take no file: what is closed is an input or an output that fails. A trial starts members, with streams of their own."""
     with open(f"{folder}/schedule", "w", encoding="ascii") as made:
         made.write("cluster 2\nrequest 1 7 0 register\n")
@@ -85,7 +88,7 @@ def try_commands(rows, folder):
         rows.add("trial", closed, without(closed, ["trial", "5", "10000", f"{folder}/{len(closed)}.", *addresses("")]), needs_output(closed))
 
 
-def try_client(rows, scheme):
+def try_client(rows: Rows, scheme: str) -> None:
     """A client whose input is closed registers, and then can't read what to ask; one whose output is closed can't tell that it registered."""
     with Group(scheme=scheme) as group:
         group.start_all()
@@ -94,19 +97,19 @@ def try_client(rows, scheme):
             rows.add(f"client over {scheme or 'udp:'}", closed, without(closed, ["client", "5", "7", "10000", *group.addresses]), wanted)
 
 
-def member(path, scheme, *more):
+def member(scheme: str, path: str, *more: str) -> List[str]:
     """The words of a member that starts, of which it tells a line, and ends after a turn."""
     return ["node", "5", "0", path, "1", *addresses(scheme), *more]
 
 
-def main():
+def main() -> None:
     argparse.ArgumentParser(description=__doc__, formatter_class=argparse.RawDescriptionHelpFormatter).parse_args()
     rows = Rows()
     with tempfile.TemporaryDirectory() as folder:
-        if without((), member(f"{folder}/prepared", "", "--fresh")) != Code.DONE:
+        if without((), member("", f"{folder}/prepared", "--fresh")) != Code.DONE:
             fail("no member's file could be made")
         for scheme in ("", "tcp:"):
-            try_file(rows, folder, f"node over {scheme or 'udp:'}", lambda path, scheme=scheme: member(path, scheme), needs_output)
+            try_file(rows, folder, f"node over {scheme or 'udp:'}", partial(member, scheme), needs_output)
         try_file(rows, folder, "migrate", lambda path: ["migrate", "5", "0", "3", path], lambda _: Code.DONE)
         try_commands(rows, folder)
     for scheme in ("", "tcp:"):

@@ -10,6 +10,7 @@ import subprocess
 import sys
 import tempfile
 import time
+from typing import List, Tuple
 
 from nozhgiva_tools.run.built import or_end as program
 from nozhgiva_tools.run.scripts import end as end_script, fail, no_words, sealed
@@ -18,27 +19,27 @@ from nozhgiva_tools.told.ends import Code
 LENGTH, SECTORS, KILLS = 2039808, 3984, 40
 
 
-def words(path, turns):
+def words(path: str, turns: int) -> List[str]:
     return [program(), "node", "5", "0", path, str(turns), "127.0.0.1:28101", "127.0.0.1:28102", "127.0.0.1:28103", "--fresh"]
 
 
-def make(path):
+def make(path: str) -> int:
     """Makes a member with few turns, and returns its exit code."""
     return subprocess.run(words(path, 20), stdin=subprocess.DEVNULL, stdout=subprocess.DEVNULL, stderr=subprocess.DEVNULL, timeout=60).returncode
 
 
-def room(path):
+def room(path: str) -> Tuple[int, int]:
     """The length of a file, and how many sectors of it have room on the disk."""
     found = os.stat(path)
     return found.st_size, found.st_blocks
 
 
-def is_whole(path):
+def is_whole(path: str) -> bool:
     length, sectors = room(path)
     return length == LENGTH and sectors >= SECTORS
 
 
-def fill_up(folder):
+def fill_up(folder: str) -> None:
     path = f"{folder}/member"
     for turn in range(1, 4):
         code = make(path)
@@ -52,7 +53,7 @@ def fill_up(folder):
         fail("with room a member has to begin, on a whole file")
 
 
-def kill_while_filling(folder):
+def kill_while_filling(folder: str) -> None:
     path, short = f"{folder}/member", 0
     for kill in range(KILLS):
         if os.path.exists(path):
@@ -73,7 +74,7 @@ def kill_while_filling(folder):
     print(f"{KILLS} kills while the file was made, {short} of them left it short: it is whole after the next --fresh")
 
 
-def main():
+def main() -> None:
     with tempfile.TemporaryDirectory() as folder:
         subprocess.run(["mount", "-t", "tmpfs", "-o", "size=420k", "none", folder], check=True)
         try:

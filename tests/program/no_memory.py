@@ -5,11 +5,12 @@ what it writes with memory; or it goes as if nothing had been refused (requests 
 `replay`, and a new member that serves two
 turns. Needs cc, for a library of a few lines that counts requests and refuses one (LD_PRELOAD)."""
 
+from concurrent.futures import ThreadPoolExecutor
 import os
 import subprocess
 import sys
 import tempfile
-from concurrent.futures import ThreadPoolExecutor
+from typing import List, Sequence, Tuple
 
 from nozhgiva_tools.run.built import or_end as program
 from nozhgiva_tools.run.scripts import no_words
@@ -46,12 +47,12 @@ void *realloc(void *old, size_t size) {
 """
 
 
-def said(code):
+def said(code: Code) -> Tuple[int, bytes]:
     """How a run ends with this code, and what it says then."""
     return int(code), f"{TEXTS[code]}\n".encode()
 
 
-def puts(count):
+def puts(count: int) -> List[str]:
     lines = ["cluster 2"]
     for op in range(count + 1):
         lines += [f"request 0 7 {op} {'put a b' if op else 'register'}", f"deliver {2 * op}", f"deliver {2 * op + 1}"]
@@ -65,14 +66,14 @@ BLOCKS = puts(32) + ["damage 1 912", "stop 1", "start 1", "tick 1", "deliver 66"
 
 
 class Runs:
-    def __init__(self, program, folder):
+    def __init__(self, program: str, folder: str) -> None:
         self.program, self.folder = program, folder
         self.library = f"{folder}/refuse.so"
         with open(f"{folder}/refuse.c", "w") as file:
             file.write(REFUSE)
         subprocess.run(["cc", "-shared", "-fPIC", "-O1", "-o", self.library, f"{folder}/refuse.c", "-ldl"], check=True)
 
-    def run(self, words, text, at):
+    def run(self, words: List[str], text: str, at: int) -> Tuple[int, bytes, bytes]:
         words = [word.replace("FILE", f"{self.folder}/member-{at}") for word in words]
         env = dict(os.environ, LD_PRELOAD=self.library, REFUSE=str(at))
         if not at:
@@ -83,7 +84,7 @@ class Runs:
                 os.remove(word)
         return ran.returncode, ran.stdout, ran.stderr
 
-    def refuse_each(self, name, words, lines, others=()):
+    def refuse_each(self, name: str, words: List[str], lines: List[str], others: Sequence[Tuple[int, bytes]] = ()) -> int:
         text = "".join(line + "\n" for line in lines)
         whole = self.run(words, text, 0)
         with open(f"{self.folder}/count") as file:
@@ -100,7 +101,7 @@ class Runs:
         return failed
 
 
-def main():
+def main() -> None:
     no_words()
     with tempfile.TemporaryDirectory() as folder:
         runs = Runs(program(), folder)
