@@ -28,6 +28,7 @@ from typing import Callable, Dict, List, NamedTuple, Optional, Sequence, Tuple, 
 from nozhgiva import Group, Retry
 from nozhgiva_tools.places import TOP, words_of_module
 from nozhgiva_tools.run import program
+from nozhgiva_tools.run.group import CLIENT_TURNS, client_words, node_words, NUMBER, TURNS
 
 SIZE = 3
 VALUE = "v" * 100
@@ -45,7 +46,7 @@ Thing = TypeVar("Thing")
 
 
 class Members(ABC):
-    """A group that runs; `primary` is the place of the member that leads."""
+    """A group that runs, of this program or of etcd, whose calls are counted alike; `primary` is the place of the member that leads."""
 
     name: str
 
@@ -89,8 +90,8 @@ class Program(Members):
         self.name = f"group over {'TCP' if scheme else 'UDP'}"
         self.addresses = [f"{scheme}127.0.0.1:{4000 + member}" for member in range(SIZE)]
         for member in range(SIZE):
-            self.start([program.or_end(), "node", "5", str(member), f"{self.folder}/{member}", "1000000000", *self.addresses, "--fresh"])
-        self.group = Group(5, self.addresses, timeout=PATIENCE, retry=Retry(first=PAUSE, factor=1.0, most=PAUSE, jitter=0.0))
+            self.start(node_words(program.or_end(), NUMBER, member, f"{self.folder}/{member}", TURNS, self.addresses, "--fresh"))
+        self.group = Group(NUMBER, self.addresses, timeout=PATIENCE, retry=Retry(first=PAUSE, factor=1.0, most=PAUSE, jitter=0.0))
         self.session = self.group.register()
         self.client = 100
 
@@ -98,7 +99,8 @@ class Program(Members):
         """Puts by a client with a number of its own, which registers first."""
         self.client += 1
         lines = "".join(f"put k{number % 10} {VALUE}\n" for number in range(count))
-        subprocess.run([program.or_end(), "client", "5", str(self.client), "1000000", *self.addresses], input=lines.encode(), stdout=subprocess.DEVNULL, check=True)
+        words = client_words(program.or_end(), NUMBER, self.client, CLIENT_TURNS, self.addresses)
+        subprocess.run(words, input=lines.encode(), stdout=subprocess.DEVNULL, check=True)
 
     def put(self) -> None:
         self.session.put("k", VALUE)
@@ -285,7 +287,7 @@ def main() -> None:
     parent, puts = parse_words()
     if "BESIDE_ALONE" not in os.environ:
         os.environ["BESIDE_ALONE"] = "1"
-        os.execvp("unshare", ["unshare", "-n", "bash", "-c", 'ip link set lo up && exec "$@"', "bash", *words_of_module("bench.beside", *sys.argv[1:])])
+        os.execvp("unshare", ["unshare", "-n", "bash", "-c", 'ip link set lo up && exec "$@"', "bash", *words_of_module(sys.modules["__main__"], *sys.argv[1:])])
     with tempfile.TemporaryDirectory(dir=parent) as folder:
         client = f"{folder}/etcd-client"
         subprocess.run(["cc", "-O2", "-o", client, TOP / "bench/node/etcd.c"], check=True)

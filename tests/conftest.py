@@ -4,7 +4,10 @@ from typing import Iterator
 
 import pytest
 
-from nozhgiva_tools.run import built, group as plain, real
+from nozhgiva_tools.run import built
+from nozhgiva_tools.run.group import Group
+from nozhgiva_tools.run.keepers import Kept
+from nozhgiva_tools.run.nets import Net
 
 
 @pytest.fixture(scope="session")
@@ -16,19 +19,19 @@ def program() -> str:
 
 
 @pytest.fixture
-def group(program: str) -> Iterator[plain.Group]:
+def group(program: str) -> Iterator[Group]:
     """Three members on loopback that run, each on a new file."""
-    with plain.Group() as made:
+    with Group() as made:
         made.start_all()
         yield made
 
 
 @pytest.fixture
-def keepers(program: str) -> Iterator[real.Group]:
+def keepers(program: str) -> Iterator[Kept]:
     """Three members on loopback under keepers that run, each on a new file."""
-    made = real.Group(3, real.Net(3))
+    made = Kept(Net(3))
     try:
         made.start_all()
         yield made
     finally:
-        made.end()
+        made.close()

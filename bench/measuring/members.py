@@ -11,11 +11,11 @@ from pathlib import Path
 from typing import Callable, Dict, Iterator, List, NamedTuple, Optional, Sequence
 
 from nozhgiva_tools.run import ports as holders
+from nozhgiva_tools.run.group import CLIENT_TURNS, client_words, node_words, NUMBER, TURNS
 
 from . import reading, Refused
 from .places import Place
 
-NUMBER, TURNS, CLIENT_TURNS = "5", "1000000000", "1000000"
 VALUE = "v" * 100
 KEYS = 10  # that a client puts in turn
 PATIENCE = 20.0  # seconds until members are there
@@ -49,7 +49,8 @@ def await_that(is_so: Callable[[], bool], what: str, most: float = PATIENCE) -> 
 
 
 class Members:
-    """Members that run until they are ended, or their place goes."""
+    """Members that run until they are ended, or their place goes. They are of three programs that are measured alike, so those of this one are no `Group` of
+    nozhgiva_tools.run.group; their words are from there."""
 
     kind = "group"
 
@@ -133,13 +134,12 @@ class Program(Members):
         self.keeps = False
 
     def start(self, member: int, before: Sequence[str] = ()) -> None:
-        words = [self.program, "node", NUMBER, member, self.file(member), TURNS, *self.addresses, "--fresh", *self.more]
-        self.begin(member, [*before, *words], keeps=self.keeps)
+        self.begin(member, [*before, *node_words(self.program, NUMBER, member, self.file(member), TURNS, self.addresses, "--fresh", *self.more)], keeps=self.keeps)
 
     def asking(self) -> List[str]:
         """The words of a client with a number that no other had."""
         self.clients += 1
-        return [self.program, "client", NUMBER, str(self.clients), CLIENT_TURNS, *self.addresses, *self.more]
+        return client_words(self.program, NUMBER, self.clients, CLIENT_TURNS, self.addresses, *self.more)
 
     def client(self, number: int, times: Path) -> List["subprocess.Popen[bytes]"]:
         return self.stamped(puts(self.place, self.puts, number), times)

@@ -8,7 +8,7 @@ from functools import partial
 from pathlib import Path
 from typing import Callable, Iterator, List, NamedTuple, Tuple
 
-from nozhgiva_tools.places import TOP
+from nozhgiva_tools.places import EXAMPLES, ROWS
 
 from . import Case, Given, ran
 
@@ -41,7 +41,7 @@ def schedule_of(path: Path) -> bytes:
 
 
 def example_paths() -> List[Path]:
-    return sorted(path for folder in ("examples", "examples/standstills") for path in (TOP / folder).glob("*.txt"))
+    return sorted(path for pattern in ("*.txt", "standstills/*.txt") for path in EXAMPLES.glob(pattern))
 
 
 def examples() -> Iterator[Case]:
@@ -62,7 +62,7 @@ def soaks(count: int) -> Iterator[Case]:
 
 def rows() -> Iterator[Case]:
     """The schedules of tests/rows/schedules, many of which are refused."""
-    for row in (TOP / "tests/rows/schedules/stdin").read_bytes().split(b"== ")[1:]:
+    for row in (ROWS / "schedules" / "stdin").read_bytes().split(b"== ")[1:]:
         title, *lines = row.splitlines(keepends=True)
         schedule = b"".join(line[2:] if line.startswith(b"- ") else line for line in lines)
         yield Case(f"row: {title.decode().strip()}", replay(schedule))
@@ -95,7 +95,7 @@ def spoiled() -> Iterator[Case]:
 
 
 def odd_bytes() -> Iterator[Case]:
-    whole = schedule_of(TOP / "examples/put-get.txt")
+    whole = schedule_of(EXAMPLES / "put-get.txt")
     schedules = {
         "nothing": b"", "no last line end": whole[:-1], "CR before each line end": whole.replace(b"\n", b"\r\n"), "zeros": whole + bytes(5000),
         "a line of a million bytes": whole + b"a" * 10**6, "not UTF-8": whole + b"\xff\xfe\n", "empty lines": whole + b"\n\n"}
@@ -109,7 +109,7 @@ def take_words(line: str, program: str, folder: str) -> Given:
 
 def refused_words() -> Iterator[Case]:
     """The command lines of tests/rows/commands that have none of the forms."""
-    lines = (TOP / "tests/rows/commands/stdout").read_text(encoding="utf-8").splitlines()
+    lines = (ROWS / "commands" / "stdout").read_text(encoding="utf-8").splitlines()
     for line, read in zip(lines, lines[1:]):
         if line.startswith("words") and read == "  usage":
             yield Case(f"words: {line[6:]}", partial(take_words, line))

@@ -11,15 +11,15 @@ from functools import partial
 from pathlib import Path
 from typing import Callable, Dict, Iterator, Optional
 
-from nozhgiva_tools.places import TOP
+from nozhgiva_tools.places import ROWS
 from nozhgiva_tools.run import ports
-from nozhgiva_tools.run.group import Group
+from nozhgiva_tools.run.group import Group, SIZE
+from nozhgiva_tools.run.nets import Net
 from tests.faults.shim import read_counts, Shim
 
 from . import Case, Given, ran
 from .cases import CLUSTER, Prepared
 
-SIZE = 3
 BACKUP = 2  # it is ended in the midst, and started again
 FIRST, SECOND = 7, 8  # clients
 PUTS, MORE_PUTS = 70, 40  # the first come to a checkpoint
@@ -42,12 +42,8 @@ class Members(Group):
     """Members of one program, over UDP. Under a shim their clocks stand still."""
 
     def __init__(self, program: str, shim: Optional[Shim] = None) -> None:
-        super().__init__("", port=0)
-        self.program, self.shim = program, shim
-        self.addresses = [f"127.0.0.1:{port}" for port in ports.free(SIZE)]
-
-    def __enter__(self) -> "Members":
-        return self
+        super().__init__(Net(SIZE, ports.free(SIZE)), "", program=program)
+        self.shim = shim
 
     def environment(self, r: int) -> Dict[str, str]:
         if self.shim is None:
@@ -65,8 +61,7 @@ class Members(Group):
     def begin(self, r: int, *more: str) -> None:
         """Starts a member, and waits until it receives."""
         self.start(r, *more, env=self.environment(r))
-        port = int(self.addresses[r].rpartition(":")[2])
-        await_that(lambda: waiting(port) is not None, f"member {r} doesn't start")
+        await_that(lambda: waiting(self.ports[r]) is not None, f"member {r} doesn't start")
 
     def lines(self, r: int) -> bytes:
         return Path(self.folder, f"{r}.text").read_bytes()
@@ -74,8 +69,7 @@ class Members(Group):
     def puts(self, client: int, count: int) -> bytes:
         """Asks puts, a get and a delete, and gives the answers."""
         lines = [*(f"put k{at % 10} {client}-{at}" for at in range(count)), "get k1", "del k1", "get k1"]
-        words = ["client", CLUSTER, str(client), "1000000", *self.addresses]
-        asked = ran(self.program, words, "".join(f"{line}\n" for line in lines).encode())
+        asked = ran(self.program, self.asking(client)[1:], "".join(f"{line}\n" for line in lines).encode())
         return b"status " + asked["status"] + b"\n" + asked.get("output", b"") + asked.get("errors", b"")
 
     def settle(self, ops: int) -> None:
@@ -129,7 +123,7 @@ def hear_strangers(shim: Shim, program: str, folder: str) -> Given:
         host, _, port = members.addresses[1].partition(":")
         peer.bind((host, int(port)))
         members.begin(0, "--fresh")
-        own = int(members.addresses[0].rpartition(":")[2])
+        own = members.ports[0]
         for data in messages():
             for sender in (peer, stranger):
                 sender.sendto(data, (host, own))
@@ -144,7 +138,7 @@ def hear_strangers(shim: Shim, program: str, folder: str) -> Given:
 def messages() -> Iterator[bytes]:
     """The messages of tests/rows/messages."""
     pieces: Dict[str, str] = {}
-    for line in (TOP / "tests/rows/messages/stdin").read_text(encoding="ascii").splitlines():
+    for line in (ROWS / "messages" / "stdin").read_text(encoding="ascii").splitlines():
         kind, _, rest = line.partition(" ")
         if kind == "piece":
             name, _, pieces[name] = rest.partition(" ")

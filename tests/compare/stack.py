@@ -12,8 +12,10 @@ import tempfile
 import termios
 from typing import Callable, Dict, Iterator, List, Optional, Tuple
 
+from nozhgiva_tools.run.group import SIZE
+
 from .cases import CLUSTER, example_paths, schedule_of
-from .members import await_that, Members, SIZE
+from .members import await_that, Members
 
 TAKEN = 56 * 4096
 """The bytes that the program takes at its start (`take_stack` of `vr_real`), and within which a run has to stay."""
@@ -126,7 +128,7 @@ def group(program: str) -> Iterator[Tuple[str, int]]:
     with Members(program) as members:
         for r in range(SIZE):
             members.begin(r, "--fresh")
-        painted = [Painted(child.pid) for child in members.members if child is not None]
+        painted = [Painted(child.pid) for child in members.members.values()]
         lines = "".join(f"put k{at % 10} {'v' * 1000}\n" for at in range(PUTS))
         used = driven(program, ["client", CLUSTER, "7", "1000000", *members.addresses], lines.encode())
         if used is not None:

@@ -13,7 +13,7 @@ from pathlib import Path
 from typing import Dict, Iterable, Iterator, List, Optional, Tuple
 from unittest import mock
 
-from nozhgiva_tools.places import TOP
+from nozhgiva_tools.places import EXAMPLES, TOP
 from nozhgiva_tools.run import built
 from tests.compare import __main__ as script
 from tests.faults.shim import compiler, Shim
@@ -166,7 +166,7 @@ class Planted(unittest.TestCase):
 
     def test_more_of_the_stack_than_a_program_takes(self) -> None:
         deep = write_program(self.folder / "deep", DEEP.format(python=sys.executable))
-        schedule = cases.schedule_of(TOP / "examples/put-get.txt")
+        schedule = cases.schedule_of(EXAMPLES / "put-get.txt")
         measured = {"replay": lambda program: [("put-get", stack.driven(program, ["replay"], schedule))]}
         for other, differs in ((str(PROGRAM), 0), (deep, 1)):
             comparison = script.Comparison(script.Programs(str(PROGRAM), other), str(self.folder))

@@ -3,13 +3,17 @@
 import random
 from typing import Callable, List, NamedTuple, Optional
 
+from nozhgiva_tools.run.group import migrate_words, NUMBER
+from nozhgiva_tools.told.ends import Code
+from nozhgiva_tools.told.lines import applied_of
+
 from .disk import Bytes, State
-from .members import CLUSTER, Desk, Seen
+from .members import Desk, Seen
 from .reading import datafile
 from .statements import Part
 from .told import executed_of, Log, Told
 
-LOST, OCCUPIED = 9, 12
+LOST, OCCUPIED = int(Code.SUPER_LOST), int(Code.OCCUPIED)
 NOTHING = Part("nothing", b"")
 # The row of docs/OPERATING.md that a choice which waits is.
 WAITS = "a choice waits"
@@ -52,7 +56,7 @@ def judge(case: Case, desk: Desk) -> Verdict:
     if case.how == "fresh":
         return Verdict(judge_fresh(case, desk), [])
     if case.how == "migrate":
-        code = desk.run("migrate", str(CLUSTER), str(case.member), str(case.size), desk.path)
+        code = desk.run(migrate_words(desk.program, NUMBER, case.member, case.size, desk.path))
         if code:
             return Verdict([f"ended: migrate again ends with {code}"], [])
     return judge_start(case, desk)
@@ -171,7 +175,7 @@ def judge_alone(case: Case, report: datafile.Report, seen: Seen, rows: List[str]
         return [f"waits: at operation {op}, which {'is doubtful in a strict file' if doubtful else 'inspect knows'}"]
     head = int(chosen[9])
     failures = [f"inspect: own parts {chosen[11]}, and it reads {own_of(report)}"] if chosen[11] != own_of(report) else []
-    executed = dict(executed_of(line.split()) for line in seen.lines if line.startswith("commit "))
+    executed = {it.op: executed_of(it) for it in (applied_of(line.split()) for line in seen.lines if line) if it is not None}
     for op, its in sorted(executed.items()):
         if op in case.log.executed and its[1:] != case.log.executed[op][1:] and is_answered(case, op):
             failures.append(f"other: operation {op} is {its}, and was {case.log.executed[op]}")

@@ -8,17 +8,19 @@ import socket
 import time
 from typing import Dict, List, NamedTuple, Optional, Sequence, Tuple, Union
 
+from nozhgiva_tools.run.group import node_words, NUMBER
+from nozhgiva_tools.told.ends import Code
+
 from .disk import Bytes
 from .reading import datafile
 from .statements import DO_VIEW_CHANGE, start_view_change, Statement, statement_of
 
-CLUSTER = 5
 TURNS = "1000000"
 # A member that said nothing for so many seconds is judged to be silent; after fewer it is told again.
 PATIENCE, AGAIN = 300.0, 1.0
 POLL = 30  # milliseconds
 # The code of a member whose port is in use, how often it is started then, and after how many seconds.
-LINK_FAULT, TRIES, PAUSE = 8, 40, 0.25
+LINK_FAULT, TRIES, PAUSE = int(Code.LINK_FAULT), 40, 0.25
 HOST = "127.0.0.1"
 NO_ENVIRONMENT: Dict[str, str] = {}
 
@@ -55,10 +57,10 @@ class Desk:
     def addresses(self, size: int) -> List[str]:
         return [f"{HOST}:{self.port + member}" for member in range(size)]
 
-    def run(self, *words: str) -> int:
+    def run(self, words: Sequence[str]) -> int:
         """Runs a command of the program to its end; its code."""
         self.starts += 1
-        process = spawn([self.program, *words])
+        process = spawn(words)
         end = time.monotonic() + PATIENCE
         while True:
             ended, status = os.waitpid(process, os.WNOHANG)
@@ -70,7 +72,7 @@ class Desk:
 
     def make(self, member: int, size: int, *more: str) -> int:
         """Makes the member's file and ends; the code. A port that is in use is no matter of the file, which is made before."""
-        code = self.run("node", str(CLUSTER), str(member), self.path, "1", *self.addresses(size), "--fresh", *more)
+        code = self.run(node_words(self.program, NUMBER, member, self.path, 1, self.addresses(size), "--fresh", *more))
         return 0 if code == LINK_FAULT else code
 
     def start(self, member: int, size: int, version: int, view: int) -> Seen:
@@ -105,8 +107,7 @@ class Conversation:
         self.statement: Optional[Statement] = None
         self.is_quiet = self.is_told = False
         self.reader, writer = os.pipe()
-        words = [desk.program, "node", str(CLUSTER), str(member), desk.path, TURNS, *desk.addresses(size)]
-        self.process = spawn(words, writer)
+        self.process = spawn(node_words(desk.program, NUMBER, member, desk.path, TURNS, desk.addresses(size)), writer)
         os.close(writer)
         self.code: Optional[int] = None
 
@@ -154,7 +155,7 @@ class Conversation:
         self.is_told = True
         for sender in range(self.size):
             if sender != self.member:
-                self.socket.sendto(start_view_change(CLUSTER, self.version, sender, self.view), self.target)
+                self.socket.sendto(start_view_change(NUMBER, self.version, sender, self.view), self.target)
 
     def hear(self, data: bytes) -> None:
         header = datafile.header_of(data)
@@ -175,7 +176,8 @@ def bound(port: Optional[int]) -> socket.socket:
 
 
 def spawn(words: Sequence[str], output: Optional[int] = None) -> int:
-    """Starts a program with no input, no environment and its errors dropped; its number."""
+    """Starts a program with no input, no environment and its errors dropped; its number. A run starts single members by the hundred thousand, each of which
+    lives for some milliseconds: so none of them is a `Group`, and each is spawned without a copy of this process."""
     null = os.devnull
     actions: List[Tuple[Union[int, str], ...]] = [(os.POSIX_SPAWN_OPEN, 0, null, os.O_RDONLY, 0), (os.POSIX_SPAWN_OPEN, 2, null, os.O_WRONLY, 0)]
     if output is None:

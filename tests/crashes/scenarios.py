@@ -4,18 +4,18 @@ import os
 import random
 import threading
 import time
-from typing import Callable, Dict, List, NamedTuple, Optional, Sequence, Tuple
+from typing import Any, Callable, Dict, List, NamedTuple, Optional, Sequence, Tuple
 
 from nozhgiva import Group, Retry, Session
+from nozhgiva_tools.run import group, nets
 
 from .damage import on_top
 from .disk import Disk
-from .members import CLUSTER, HOST
 from .reading import datafile
 from .recording import Call, SECTOR, Traced
 from .told import Log, Told
 
-TURNS, FIRST_TURNS = "1000000000", "40"
+FIRST_TURNS = 40
 CLIENTS, KEYS = 3, 8
 # The longest values that are put, and the length of a file that an earlier program made, which grows at its next start.
 LONGEST = {1: 900, 2: 2400}
@@ -80,34 +80,29 @@ class Recording(NamedTuple):
     log: Log
 
 
-class Recorder:
-    """A group that is recorded, in a folder of its own."""
+class Recorder(group.Group):
+    """A group that is recorded, in a folder of its own: each member runs under strace."""
 
     def __init__(self, program: str, folder: str, port: int, scenario: Scenario, draw: random.Random) -> None:
-        self.program, self.folder, self.scenario, self.draw = program, folder, scenario, draw
         os.makedirs(folder)
-        self.addresses = [f"{HOST}:{port + member}" for member in range(scenario.size)]
+        super().__init__(nets.Net(scenario.size, range(port, port + scenario.size)), "", version=scenario.version, program=program, folder=folder)
+        self.scenario, self.draw = scenario, draw
         self.running: Dict[int, Traced] = {}
         self.calls: Dict[int, List[Call]] = {member: [] for member in range(scenario.size)}
         self.begin = dict.fromkeys(range(scenario.size), 0)
         self.traces = 0
-        self.version = scenario.version
 
-    def file(self, member: int) -> str:
-        return os.path.join(self.folder, str(member))
-
-    def trace(self, member: int, *words: str) -> None:
+    def trace(self, member: int, words: Sequence[str]) -> None:
         self.traces += 1
-        self.running[member] = Traced([self.program, *words], self.file(member), os.path.join(self.folder, f"trace-{self.traces}"))
+        self.running[member] = Traced(words, self.file(member), os.path.join(self.folder, f"trace-{self.traces}"))
 
-    def start(self, member: int) -> None:
-        self.trace(member, "node", str(CLUSTER), str(member), self.file(member), TURNS, *self.addresses)
+    def start(self, member: int, *more: str, **how: Any) -> None:
+        self.trace(member, self.words(member, *more))
 
     def make(self) -> None:
         """Makes the members' files, on which they then run for some turns."""
         for member in range(self.scenario.size):
-            more = [*self.scenario.mode(member), *(["--v2"] if self.scenario.version == 2 else [])]
-            self.trace(member, "node", str(CLUSTER), str(member), self.file(member), FIRST_TURNS, *self.addresses, "--fresh", *more)
+            self.trace(member, self.words(member, "--fresh", *self.scenario.mode(member), turns=FIRST_TURNS))
         for member in range(self.scenario.size):
             self.await_end(member, "--fresh")
 
@@ -157,10 +152,10 @@ class Recorder:
 
     def session(self, client: int) -> Session:
         retry = Retry(first=0.05, factor=1.2, most=0.3, jitter=0.5)
-        return Group(CLUSTER, self.addresses, version=self.version, timeout=90.0, retry=retry).register(client=client)
+        return Group(self.number, self.addresses, version=self.version, timeout=90.0, retry=retry).register(client=client)
 
     def recording(self) -> Recording:
-        ports = {int(address.rsplit(":", 1)[1]): member for member, address in enumerate(self.addresses)}
+        ports = {port: member for member, port in enumerate(self.ports)}
         log = Log()
         for calls in self.calls.values():
             log.add(calls, ports)
@@ -300,7 +295,7 @@ def served(recorder: Recorder) -> None:
 def migrate(recorder: Recorder) -> None:
     served(recorder)
     for member in range(recorder.scenario.size):
-        recorder.trace(member, "migrate", str(CLUSTER), str(member), str(recorder.scenario.size), recorder.file(member))
+        recorder.trace(member, group.migrate_words(recorder.program, recorder.number, member, recorder.size, recorder.file(member)))
         recorder.await_end(member, "migrate")
 
 

@@ -2,6 +2,9 @@
 
 from typing import Dict, List, NamedTuple, Optional, Set, Tuple
 
+from nozhgiva_tools.told.lines import applied_of, Execution
+from nozhgiva_tools.told.store import of_words, Store
+
 from .reading import datafile
 from .recording import Call
 from .statements import Statement, statement_of
@@ -49,8 +52,9 @@ class Log:
                 self.given.add((ports[call.at], datafile.number(call.data, 128, 8)))
 
     def add_line(self, words: List[str]) -> None:
-        if words[:1] == ["commit"]:
-            op, executed = executed_of(words)
+        applied = applied_of(words) if words else None
+        if applied is not None:
+            op, executed = applied.op, executed_of(applied)
             if self.executed.setdefault(op, executed) != executed:
                 raise Split(f"operation {op} is {executed} and {self.executed[op]}")
 
@@ -62,20 +66,15 @@ class Log:
     def keys_at(self, op: int) -> Dict[str, str]:
         """The keys and their values once so many operations were executed."""
         if op not in self.kept:
-            keys: Dict[str, str] = {}
+            store = Store()
             for number in range(1, op + 1):
-                words = self.executed[number].words
-                if words[0] == "put":
-                    keys[words[1]] = words[2]
-                elif words[0] == "del":
-                    keys.pop(words[1], None)
-            self.kept[op] = keys
+                store.execute(of_words(self.executed[number].words))
+            self.kept[op] = store.keys
         return self.kept[op]
 
 
-def executed_of(words: List[str]) -> Tuple[int, Executed]:
-    """A line `commit R op K view W client C request Q OP`, by its words: K, and the operation."""
-    return int(words[3]), Executed(int(words[5]), int(words[7]), int(words[9]), tuple(words[10:]))
+def executed_of(applied: Execution) -> Executed:
+    return Executed(applied.view, applied.client, applied.request, applied.words)
 
 
 class Claim(NamedTuple):

@@ -3,15 +3,16 @@
 import itertools
 import os
 import random
-import signal
+import tempfile
 import time
 from typing import Dict, Iterator, List, NamedTuple, Optional, Tuple
 
 from nozhgiva import Group, Retry, SessionLost, Unknown
+from nozhgiva_tools.run import group, nets
 
 from .disk import SECTORS_ALONE, State
 from .judging import Verdict, WAITS
-from .members import CLUSTER, Desk, LINK_FAULT, PAUSE, spawn, TRIES, TURNS
+from .members import Desk, LINK_FAULT, NO_ENVIRONMENT, PAUSE, TRIES
 from .recording import Call
 from .scenarios import key_of, KEYS, Part, Recording
 
@@ -113,48 +114,28 @@ def moment_of(recording: Recording, walks: List[Walk], number: str, unit: int) -
     return Moment(number, recording, states, answered)
 
 
-class Standing:
+class Standing(group.Group):
     """A group that was started on the files of a moment."""
 
     def __init__(self, desk: Desk, moment: Moment) -> None:
-        self.desk, self.size = desk, moment.recording.scenario.size
-        self.processes: List[int] = []
+        size = moment.recording.scenario.size
+        folder = tempfile.mkdtemp(dir=os.path.dirname(desk.path))
+        super().__init__(nets.Net(size, range(desk.port, desk.port + size)), "", program=desk.program, folder=folder)
         for member, state in enumerate(moment.states):
             assert state.image is not None
             with open(self.file(member), "wb") as file:
                 file.write(state.image)
-        for member in range(self.size):
+        for member in range(size):
             desk.starts += 1
-            output = os.open(self.lines(member), os.O_WRONLY | os.O_CREAT | os.O_TRUNC, 0o600)
-            self.processes.append(spawn([desk.program, "node", str(CLUSTER), str(member), self.file(member), TURNS, *desk.addresses(self.size)], output))
-            os.close(output)
-
-    def file(self, member: int) -> str:
-        return f"{self.desk.path}-of-{member}"
-
-    def lines(self, member: int) -> str:
-        return f"{self.desk.path}-lines-{member}"
+            self.start(member, env=NO_ENVIRONMENT)
 
     def text(self) -> str:
-        found = []
-        for member in range(self.size):
-            with open(self.lines(member), encoding="ascii", errors="replace") as file:
-                found.append(file.read())
-        return "\n".join(found)
+        return "\n".join(line for member in range(self.size) for line in self.told(member))
 
     def end(self) -> List[int]:
         """Ends all members; the codes of those that had ended by themselves."""
-        codes = []
-        for process in self.processes:
-            ended, status = os.waitpid(process, os.WNOHANG)
-            if ended:
-                codes.append(os.waitstatus_to_exitcode(status))
-                continue
-            os.kill(process, signal.SIGKILL)
-            os.waitpid(process, 0)
-        for member in range(self.size):
-            for path in (self.file(member), self.lines(member)):
-                os.unlink(path)
+        codes = [child.returncode for child in self.members.values() if child.poll() is not None]
+        self.close()
         return codes
 
 
@@ -194,7 +175,7 @@ def read_all(desk: Desk, moment: Moment, reader: int) -> Optional[Dict[str, str]
     retry = Retry(first=0.05, factor=1.3, most=0.3, jitter=0.5)
     clients = sorted({it.client for it in moment.recording.log.executed.values()})
     try:
-        with Group(CLUSTER, desk.addresses(scenario.size), version=scenario.version, timeout=SECONDS, retry=retry).register(client=reader) as session:
+        with Group(group.NUMBER, desk.addresses(scenario.size), version=scenario.version, timeout=SECONDS, retry=retry).register(client=reader) as session:
             return {key_of(client, at): session.get(key_of(client, at)) or "" for client in clients for at in range(KEYS)}
     except (Unknown, SessionLost):
         return None

@@ -32,7 +32,7 @@ from pathlib import Path
 from typing import Callable, Iterator, List, NoReturn, Optional, Tuple
 
 from nozhgiva_tools.run import ports
-from nozhgiva_tools.run.group import program
+from nozhgiva_tools.run.built import or_end as program
 
 from . import calls, disk, elsewhere, machine, planted, strangers
 from .shim import compiler, Shim

@@ -8,10 +8,10 @@ from typing import Callable, Iterable, List, Optional, Sequence, Union
 
 from nozhgiva import Get, Group, Put, Retry, Session, SessionLost, Unknown
 from nozhgiva.messages import Outcome
+from nozhgiva_tools.run.group import NUMBER
 from tests.hunt.history import Operation, UNTOLD
 from tests.hunt.order import by_key, judge
 
-CLUSTER = 5
 HASTY = Retry(first=0.05, factor=1.5, most=0.25, jitter=0.3)
 STEP = 0.3  # seconds that one ask waits; it is asked again, under its number, as long as there is patience
 
@@ -25,7 +25,7 @@ class Account:
 
     def __init__(self, name: str, addresses: Sequence[str], version: int = 1, history: Iterable[Operation] = (), keys: int = 6, seed: int = 0) -> None:
         self.name, self.history, self.draw, self.count = name, list(history), random.Random(seed), 0
-        self.group = Group(CLUSTER, addresses, version=version, retry=HASTY)
+        self.group = Group(NUMBER, addresses, version=version, retry=HASTY)
         self.keys = [f"k{number}" for number in range(keys)]
         self.session: Optional[Session] = None
         self.answers: List[float] = []  # when each came, by the monotonic clock

@@ -7,15 +7,18 @@ import threading
 from pathlib import Path
 from typing import Dict, FrozenSet, Iterator, List, NamedTuple, Optional, Tuple
 
+from nozhgiva_tools.run.group import migrate_words
 from nozhgiva_tools.told import datafile
+from nozhgiva_tools.told.ends import Code, TEXTS
 
-from .members import HANGS, Members, migrate_words, prepare, Prepared, run
+from .members import HANGS, Members, prepare, Prepared, run
 from .shim import ALWAYS, Fault, read_counts, Shim
 from .table import LeftOut, Outcome, Scenario, UNTOUCHED
 
-GOES_ON, DISK, OUTPUT, LINK, LOST, MEMORY, OCCUPIED = 0, 7, 6, 8, 9, 11, 12
+GOES_ON, DISK, OUTPUT, LINK, LOST, MEMORY, OCCUPIED = map(int, (
+    Code.DONE, Code.DISK_FAULT, Code.WRITE_FAULT, Code.LINK_FAULT, Code.SUPER_LOST, Code.NO_MEMORY, Code.OCCUPIED))
 NO_COMPILER = "no C compiler, so that no call can be made to fail"
-MEANINGS = {GOES_ON: "goes on", OUTPUT: "6 write fault", DISK: "7 disk fault", LINK: "8 link fault", LOST: "9 superblock lost", MEMORY: "11 no memory", OCCUPIED: "12 occupied"}
+MEANINGS = {GOES_ON: "goes on", **{code: f"{code} {TEXTS[Code(code)]}" for code in (OUTPUT, DISK, LINK, LOST, MEMORY, OCCUPIED)}}
 PASSES = 100  # so often a call is interrupted
 TURNS, ASKS = "4", 10
 TRIES = 3  # of a run without a fault, which a busy machine may hold up
@@ -178,8 +181,8 @@ class Fresh(Run):
         return Members(self.port + 8 * lane, 1, "", 2)
 
     def disturb(self, members: Members, env: Dict[str, str], number: int) -> Tuple[Optional[int], Outcome]:
-        code = members.run(0, TURNS, "--fresh", "--v2", env=env)
-        again = members.run(0, TURNS, "--fresh", "--v2")
+        code = members.run(0, TURNS, "--fresh", env=env)
+        again = members.run(0, TURNS, "--fresh")
         started = members.run(0, TURNS)
         if again not in (GOES_ON, OCCUPIED) or started != GOES_ON:
             return code, Outcome("", wrong=f"then --fresh ends with {again}, and a start with {started}")
@@ -209,7 +212,7 @@ class Migrate(Run):
 
     def disturb(self, members: Members, env: Dict[str, str], number: int) -> Tuple[Optional[int], Outcome]:
         path = members.file(0)
-        words, before = migrate_words(members.program, 0, 3, path), Content.of(datafile.look(path))
+        words, before = migrate_words(members.program, members.number, 0, 3, path), Content.of(datafile.look(path))
         code, again = run(words, env), run(words)
         report = datafile.look(path)
         if again != GOES_ON or report.value is None or report.value.version != 2:
@@ -265,7 +268,7 @@ class Three(Run):
         bad, *others = draw.sample(range(3), 3)
         account = members.account("c", self.store.of(3).history, number)
         for r in range(3):
-            members.start(r, **({"env": env} if r == bad else {}))
+            members.start(r, env=env if r == bad else None)
         done = account.work(ASKS, PATIENCE)
         code = end(members, bad, env)
         members.start(bad)

@@ -206,7 +206,7 @@ class Beside:
         os.symlink(self.path, self.members.file(self.bad))
         run("sync", self.path)
         for r in range(3):
-            self.members.start(r, **({"env": env} if r == self.bad and env else {}))
+            self.members.start(r, env=env if r == self.bad else None)
 
 
 class Rows:

@@ -175,9 +175,7 @@ def run_limited(words: Sequence[str], kind: int, most: int) -> Tuple[int, str]:
 
 
 def member_words(members: Members) -> List[str]:
-    words: List[str] = members.words(0)
-    words[words.index(members.file(0)) + 1] = "20"
-    return words
+    return members.words(0, turns=20)
 
 
 def least_that_runs(words: Sequence[str], kind: int, low: int, high: int) -> int:

@@ -8,14 +8,14 @@ import signal
 import subprocess
 import time
 from pathlib import Path
-from typing import Dict, List, NamedTuple, Optional, Sequence, Tuple
+from typing import Dict, NamedTuple, Optional, Sequence, Tuple
 
-from nozhgiva_tools.run.group import Group
+from nozhgiva_tools.run.nets import Net
 from nozhgiva_tools.told import datafile
 from tests.hunt import members as hunted
 from tests.hunt.history import Operation
 
-from .account import Account, CLUSTER
+from .account import Account
 
 ENDS = 30.0  # seconds after which a process that should have ended hangs
 HOST = "127.0.0.1"
@@ -36,19 +36,16 @@ class Members(hunted.Members):
     """A group of one or more members on one machine, with ports of its own."""
 
     def __init__(self, port: int, size: int, scheme: str = "", version: int = 1) -> None:
-        Group.__init__(self, scheme, (HOST,) * size, ([],) * (size + 1), port)
-        self.size, self.version = size, version
+        super().__init__(Net(size, range(port, port + size)), scheme, version)
 
     def process(self, r: int) -> "subprocess.Popen[bytes]":
         """The process of a member that was started."""
-        process = self.members[r]
-        assert process is not None
-        return process
+        return self.members[r]
 
     def make(self) -> None:
         """Makes all files, by members that end at once."""
         for r in range(self.size):
-            self.run(r, "1", "--fresh", *["--v2"] * (self.version == 2))
+            self.run(r, "1", "--fresh")
 
     def lay(self, prepared: Prepared) -> None:
         """Puts prepared files there."""
@@ -57,9 +54,7 @@ class Members(hunted.Members):
 
     def run(self, r: int, turns: str, *more: str, env: Optional[Dict[str, str]] = None) -> int:
         """Runs a member for so many turns; its exit code."""
-        words = self.words(r, *more)
-        words[words.index(self.file(r)) + 1] = turns
-        return run(words, env)
+        return run(self.words(r, *more, turns=turns), env)
 
     def has_ended(self, r: int) -> bool:
         return self.process(r).poll() is not None
@@ -83,12 +78,12 @@ class Members(hunted.Members):
             process.terminate()
             process.send_signal(signal.SIGCONT)
         process.wait(ENDS)
-        self.members[r] = None
+        del self.members[r]
         return code
 
     def who_ended(self) -> str:
         """Which members ended by themselves."""
-        return "; ".join(f"member {r} ended with {member.returncode}" for r, member in enumerate(self.members) if member is not None and member.poll() is not None)
+        return "; ".join(f"member {r} ended with {member.returncode}" for r, member in sorted(self.members.items()) if member.poll() is not None)
 
     def account(self, name: str = "c", history: Sequence[Operation] = (), seed: int = 0, keys: int = 6) -> Account:
         return Account(name, self.addresses, self.version, history, keys, seed)
@@ -129,7 +124,3 @@ def prepare(folder: Path, port: int, size: int, version: int, puts: int = 60) ->
         for r in range(size):
             shutil.copyfile(members.file(r), folder / str(r))
     return Prepared(str(folder), version, size, tuple(account.history))
-
-
-def migrate_words(program: str, r: int, size: int, path: str) -> List[str]:
-    return [program, "migrate", str(CLUSTER), str(r), str(size), path]

@@ -16,30 +16,31 @@ from pathlib import Path
 from typing import Callable, Dict, Iterator, List, NamedTuple, Sequence
 
 from nozhgiva import links
-from nozhgiva_tools.run.group import Puts
+from nozhgiva_tools.run.group import NUMBER, Puts
 from nozhgiva_tools.told import datafile, formats
+from nozhgiva_tools.told.store import Kind, Operation
 
 from . import flood
-from .account import Account, CLUSTER
+from .account import Account
 from .members import HOST, Members, Prepared
 from .table import LeftOut, Outcome, Scenario
 
 FAR, NEWCOMER = "127.0.0.9", "127.0.0.8"
 """Where strangers and newcomers come from: no member is on these machines."""
-OTHER, VERSION, OTHER_VERSION = CLUSTER + 1, 1, 2
+OTHER, VERSION, OTHER_VERSION = NUMBER + 1, 1, 2
 CROWD = 200  # streams to each member
 SILENCE = 5.0  # seconds within which each answer comes beside strangers
 NEW, ENDED, LOST = 5.0, 1.0, 6.0  # a newcomer's seconds beside a crowd, once it has ended, and where the primary is lost
 FLOOD, BLOCKS = 20_000.0, 5_000.0  # datagrams a second
 MEASURED = 3  # times at most that this is measured: a busy machine takes from the one more than from the other
 HIGH, SHARE = 60_000.0, 0.8  # datagrams a second of another group, and which part they leave of the puts that those of another version do
-WHOLE = b"\x02\x01" + (1024).to_bytes(2, "big") + b"k" + b"v" * 1024  # a put of the longest value
-GET = b"\x03\x01k"
+WHOLE = Operation(Kind.PUT, "k", "v" * 1024).spelled()  # a put of the longest value
+GET = Operation(Kind.GET, "k").spelled()
 IDLE, SOON = 70, 2.0  # clients on members' machines that ask no more, to each member, and a newcomer's seconds beside them
 PATIENCE = 60.0
 
 
-def request(body: bytes = GET, cluster: int = CLUSTER, version: int = VERSION, client: int = 77, number: int = 1) -> bytes:
+def request(body: bytes = GET, cluster: int = NUMBER, version: int = VERSION, client: int = 77, number: int = 1) -> bytes:
     return formats.spelled("request", body, cluster=cluster, version=version, client=client, request=number)
 
 
@@ -63,14 +64,14 @@ def sizes(draw: random.Random) -> List[bytes]:
     found = []
     for size in [*range(0, 300, 3), 1_500, 9_000, 20_479, 20_480, 20_481, 40_000, 65_507]:
         for told in (size, 0, 128, 20_480, 2**32 - 1):
-            found.append((formats.header("request", bytes(max(0, size - 128)), cluster=CLUSTER, client=7, request=1, size=told) + bytes(max(0, size - 128)))[:size])
+            found.append((formats.header("request", bytes(max(0, size - 128)), cluster=NUMBER, client=7, request=1, size=told) + bytes(max(0, size - 128)))[:size])
     return found
 
 
 def spoiled(draw: random.Random) -> List[bytes]:
     """Messages of the group, each with one byte that is another."""
     found = []
-    for one in messages(draw, CLUSTER, VERSION) * 20:
+    for one in messages(draw, NUMBER, VERSION) * 20:
         at = draw.randrange(len(one))
         found.append(one[:at] + bytes([one[at] ^ draw.randrange(1, 256)]) + one[at + 1:])
     return found
@@ -106,7 +107,7 @@ class Heard(threading.Thread):
 
 def old_ones(members: Members, account: Account) -> List[bytes]:
     """What was said to members while they were asked, a view changed, and one came back."""
-    heard = Heard([members.port + r for r in range(3)])
+    heard = Heard(members.ports)
     heard.start()
     account.work(60, PATIENCE)
     leader = members.leader()
@@ -126,7 +127,7 @@ def for_blocks(members: Members) -> List[bytes]:
     found = []
     for address in datafile.look(members.file(0)).checkpoint.used:
         block = datafile.block_at(data, address)
-        found.append(formats.spelled("get_block", cluster=CLUSTER, replica=1, parent=block[:16], aux=address))
+        found.append(formats.spelled("get_block", cluster=NUMBER, replica=1, parent=block[:16], aux=address))
     return found
 
 
@@ -144,7 +145,7 @@ DATAGRAMS = (
     Datagrams("of all sizes", FLOOD, lambda members, account, draw: sizes(draw), False),
     Datagrams("messages with one wrong byte", FLOOD, lambda members, account, draw: spoiled(draw), False),
     Datagrams("another group's messages", FLOOD, lambda members, account, draw: messages(draw, OTHER, VERSION)),
-    Datagrams("another version's messages", FLOOD, lambda members, account, draw: messages(draw, CLUSTER, OTHER_VERSION), False),
+    Datagrams("another version's messages", FLOOD, lambda members, account, draw: messages(draw, NUMBER, OTHER_VERSION), False),
     Datagrams("old messages again", FLOOD / 4, lambda members, account, draw: old_ones(members, account), False),
     Datagrams("requests for blocks, 20 MB/s of answers", BLOCKS, lambda members, account, draw: for_blocks(members)),
 )
@@ -195,8 +196,8 @@ def try_share(place: Place, _: int, number: int) -> Outcome:
         puts = Puts(members)
         puts.await_answers(50)
         leader = members.leader()
-        kinds = {"another version's": request(WHOLE, CLUSTER, OTHER_VERSION), "another group's": request(WHOLE, OTHER, VERSION)}
-        alone, _ = puts.phase(place.seconds)
+        kinds = {"another version's": request(WHOLE, NUMBER, OTHER_VERSION), "another group's": request(WHOLE, OTHER, VERSION)}
+        alone = puts.phase(place.seconds)[0]
         shares: List[float] = []
         while len(shares) < MEASURED and max(shares, default=0.0) < SHARE:
             counts, sent = dict.fromkeys(kinds, 0), dict.fromkeys(kinds, 0)
@@ -283,7 +284,7 @@ class Crowd(threading.Thread):
         stream.bind((FAR, 0))
         stream.settimeout(1)
         try:
-            stream.connect((HOST, self.members.port + r))
+            stream.connect((HOST, self.members.ports[r]))
             stream.setblocking(False)
             stream.send(self.behaviour.first(self.draw))
         except OSError:
@@ -411,7 +412,7 @@ class Idle:
     """Clients on the machines of members, so many to each member: each had one answer, and asks no more."""
 
     def __init__(self, members: Members, draw: random.Random) -> None:
-        self.streams = [self.answered(members.port + r, asked(draw)) for r in range(members.size) for _ in range(IDLE)]
+        self.streams = [self.answered(port, asked(draw)) for port in members.ports for _ in range(IDLE)]
 
     @staticmethod
     def answered(port: int, message: bytes) -> socket.socket:

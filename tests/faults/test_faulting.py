@@ -60,8 +60,8 @@ class Ends(unittest.TestCase):
 
     def members(self, text: str) -> Members:
         members = Members.__new__(Members)
-        members.members = [subprocess.Popen([sys.executable, "-c", text], stdin=subprocess.DEVNULL)]
-        self.addCleanup(lambda: members.members[0] and members.kill(0))
+        members.members = {0: subprocess.Popen([sys.executable, "-c", text], stdin=subprocess.DEVNULL)}
+        self.addCleanup(members.kill, 0)
         return members
 
     def env(self, disturbed: int, has_to: int) -> Dict[str, str]:

@@ -12,8 +12,8 @@ from typing import List, Tuple
 from nozhgiva_tools.operate import standard
 from nozhgiva_tools.operate.policy import PATIENCE
 from nozhgiva_tools.run import built as program
-from nozhgiva_tools.run.kept import Keepers
 from nozhgiva_tools.run.playing import Client, Group, Replay
+from nozhgiva_tools.run.standing import Keepers
 
 EACH = 10.0  # seconds from fault to fault
 SIZE = 3

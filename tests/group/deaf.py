@@ -8,7 +8,8 @@ import sys
 import time
 
 from nozhgiva_tools.operate import standard
-from nozhgiva_tools.run.real import best_net, Group
+from nozhgiva_tools.run.keepers import Kept
+from nozhgiva_tools.run.nets import best_net
 
 from .load import Load
 
@@ -22,7 +23,7 @@ def parse_words() -> argparse.Namespace:
     return parser.parse_args()
 
 
-def run(group: Group, load: Load, seconds: float) -> int:
+def run(group: Kept, load: Load, seconds: float) -> int:
     group.start_all()
     group.await_leader(120)
     load.start()
@@ -51,7 +52,7 @@ def main() -> int:
     if not net.cuts:
         print("deaf: no namespaces: run it as root", file=sys.stderr)
         return 2
-    group = Group(SIZE, net, options=("--patience", str(words.patience)))
+    group = Kept(net, options=("--patience", str(words.patience)))
     load = Load(group, clients=2, rate=20.0, keys=20, size=24, puts=0.5, seed=1)
     try:
         return run(group, load, words.cut)
@@ -59,7 +60,7 @@ def main() -> int:
         return 130
     finally:
         load.stopping = True
-        group.end()
+        group.close()
 
 
 if __name__ == "__main__":

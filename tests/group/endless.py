@@ -10,16 +10,17 @@ import sys
 import time
 
 from nozhgiva_tools.places import words_of_module
-from nozhgiva_tools.run.group import fail, Group, no_words, Puts
+from nozhgiva_tools.run.group import Group, Puts
+from nozhgiva_tools.run.scripts import end, fail, no_words
 
 FIGURE, PHASE, OTHER_GROUP = 2.0, 10, 6
 
 
-def name(data):
+def name(data: bytes) -> bytes:
     return hashlib.sha256(data).digest()[:16]
 
 
-def commit():
+def commit() -> bytes:
     """A commit of replica 0 in view 0 of another group (docs/FORMATS.md, Header and Messages)."""
     header = bytearray(128)
     header[16:32] = name(b"")
@@ -30,7 +31,7 @@ def commit():
     return bytes(header)
 
 
-def send(port, seconds):
+def send(port: int, seconds: float) -> None:
     """Sends on one stream at a time as much as it takes."""
     piece, end = commit() * 512, time.monotonic() + seconds
     while time.monotonic() < end:
@@ -43,14 +44,14 @@ def send(port, seconds):
             time.sleep(0.1)
 
 
-def main():
-    with Group("tcp:") as group:
+def main() -> None:
+    with Group(scheme="tcp:") as group:
         group.start_all()
         puts = Puts(group)
         puts.await_answers(20)
         count, gap = puts.phase(PHASE)
         print(f"alone: {count} puts answered in {PHASE} s, at most {gap:.2f} s between two", flush=True)
-        senders = [subprocess.Popen([*words_of_module("tests.group.endless"), "send", str(group.port + r), str(PHASE + 1)]) for r in range(3)]
+        senders = [subprocess.Popen([*words_of_module(sys.modules["__main__"]), "send", str(group.ports[r]), str(PHASE + 1)]) for r in range(3)]
         time.sleep(1)
         count, gap = puts.phase(PHASE - 1)
         print(f"beside an endless stream to each member: {count} puts answered in {PHASE - 1} s, at most {gap:.2f} s between two")
@@ -66,4 +67,4 @@ if __name__ == "__main__":
         send(int(sys.argv[2]), int(sys.argv[3]))
     else:
         no_words()
-        main()
+        end(main)

@@ -18,10 +18,11 @@ import time
 from typing import Dict, List, NamedTuple, Tuple
 
 from nozhgiva_tools.operate import standard
+from nozhgiva_tools.places import OPERATE
 from nozhgiva_tools.run import built as program
-from nozhgiva_tools.run.real import CLUSTER, Group, HERE, Net
-
-from .commanded import Commands
+from nozhgiva_tools.run.group import NUMBER
+from nozhgiva_tools.run.keepers import Kept
+from nozhgiva_tools.run.nets import Net
 
 MOST = 4  # kills of one group
 LONGEST = 6.0  # seconds after which a walk is killed at the latest, where it is killed by time
@@ -43,6 +44,51 @@ def parse_words() -> argparse.Namespace:
     if words.kills < 1:
         parser.error("--kills is 1 at least")
     return words
+
+
+# Keepers are in sessions of their own, as those of an init system are.
+START = """#!/bin/sh
+setsid {here}/keep --program {program} --log {folder}/$1.log {cluster} $1 {folder}/$1 {addresses} > /dev/null 2>> {folder}/$1.said < /dev/null &
+"""
+STOP = """#!/bin/sh
+flock -n {folder}/$1.keep true && exit
+kill "$(sed -n 's/^keeper \\([0-9]*\\),.*/\\1/p' {folder}/$1.keep)"
+flock -w 60 {folder}/$1.keep true
+"""
+MOVE = """#!/bin/sh
+exec {program} migrate {cluster} $1 {size} {folder}/$1
+"""
+
+
+class Commands:
+    """Writes scripts that start a group's keepers, stop them and move their files; each takes a member's number. `before`: what each begins with, `move`: another text of the
+    last."""
+
+    def __init__(self, group: Kept, before: str = "", move: str = MOVE) -> None:
+        self.group = group
+        self.start, self.stop, self.move = (self.write(name, text, before) for name, text in (("start", START), ("stop", STOP), ("move", move)))
+
+    def write(self, name: str, text: str, before: str) -> str:
+        group, path = self.group, os.path.join(self.group.folder, name)
+        first, rest = text.format(here=OPERATE, program=group.program, folder=group.folder, cluster=NUMBER, size=group.size, addresses=" ".join(group.addresses)).split("\n", 1)
+        with open(path, "w", encoding="utf-8") as file:
+            file.write(f"{first}\n{before}{rest}")
+        os.chmod(path, 0o755)
+        return path
+
+    def start_all(self) -> None:
+        for member in range(self.group.size):
+            subprocess.run([self.start, str(member)], check=True)
+
+    def stop_all(self) -> None:
+        for member in range(self.group.size):
+            subprocess.run([self.stop, str(member)], stderr=subprocess.DEVNULL, check=False)
+
+    def words(self, bound: float = 60.0) -> List[str]:
+        """The words that move the group, without --go."""
+        files = os.path.join(self.group.folder, "{}")
+        return [str(OPERATE / "migrate-group"), str(NUMBER), str(self.group.size), "--files", files, "--sockets", files + ".socket", "--stop", f"{self.stop} {{}}",
+                "--start", f"{self.start} {{}}", "--migrate", f"{self.move} {{}}", "--bound", str(bound)]
 
 
 class Kill(NamedTuple):
@@ -69,14 +115,14 @@ class Trial:
 
     def __init__(self, seed: int, size: int) -> None:
         self.chance = random.Random(seed)
-        self.group = Group(size, Net(size))
+        self.group = Kept(Net(size))
         self.begun = os.path.join(self.group.folder, "begun")
         open(self.begun, "w", encoding="utf-8").close()
         self.commands = Commands(self.group, NOTE.format(folder=self.group.folder))
         self.kills: List[str] = []
 
     def ask(self, lines: str, *more: str) -> List[str]:
-        words = [os.path.join(HERE, "ask"), "--program", self.group.program, "--again", "--for", "120", str(CLUSTER), *self.group.addresses, *more]
+        words = [str(OPERATE / "ask"), "--program", self.group.program, "--again", "--for", "120", str(NUMBER), *self.group.addresses, *more]
         return subprocess.run(words, input=lines, stdout=subprocess.PIPE, stderr=subprocess.DEVNULL, text=True, check=False).stdout.splitlines()
 
     def run(self) -> str:
@@ -128,7 +174,7 @@ class Trial:
 
     def end(self) -> None:
         self.commands.stop_all()
-        self.group.end()
+        self.group.close()
 
 
 def one(seed: int, size: int) -> Tuple[int, str]:

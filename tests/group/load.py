@@ -7,7 +7,7 @@ import threading
 import time
 from typing import Callable, Dict, Iterable, List, NamedTuple, Optional
 
-from nozhgiva_tools.run.real import CLUSTER, Group
+from nozhgiva_tools.run.group import Group
 
 NEVER = float("inf")
 TURNS = "1000"  # of each ask: at most ten seconds where nobody answers
@@ -87,8 +87,7 @@ class Client:
         return answer
 
     def register(self) -> None:
-        words = [self.group.program, "client", str(CLUSTER), str(next(Client.numbers)), TURNS] + self.group.addresses + self.group.version
-        self.child = subprocess.Popen(self.group.net.inside(None) + words, stdin=subprocess.PIPE, stdout=subprocess.PIPE, stderr=subprocess.DEVNULL, text=True)
+        self.child = subprocess.Popen(self.group.asking(next(Client.numbers), TURNS), stdin=subprocess.PIPE, stdout=subprocess.PIPE, stderr=subprocess.DEVNULL, text=True)
         if self.child.stdout.readline() != "session\n":
             self.end()
             time.sleep(0.1)

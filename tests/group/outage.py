@@ -10,37 +10,39 @@ import os
 import subprocess
 import sys
 import time
+from typing import List
 
-from nozhgiva_tools.run.group import fail, Group, Puts, sealed
-from nozhgiva_tools.run.hosts import connect_hosts, cut, HOSTS, join, within
+from nozhgiva_tools.run.group import Group, Puts
+from nozhgiva_tools.run.nets import Sealed
+from nozhgiva_tools.run.scripts import end, fail, sealed
 
 FIGURE, IDLE = 2.0, 30
 
 
-def streams_made():
+def streams_made(net: Sealed) -> List[int]:
     """How many streams each member's kernel has made."""
     counts = []
     for m in range(3):
-        lines = subprocess.run([*within(m), "cat", "/proc/net/snmp"], check=True, capture_output=True, text=True).stdout.splitlines()
+        lines = subprocess.run([*net.inside(m), "cat", "/proc/net/snmp"], check=True, capture_output=True, text=True).stdout.splitlines()
         names, values = [line.split() for line in lines if line.startswith("Tcp:")]
         counts.append(int(values[names.index("ActiveOpens")]))
     return counts
 
 
-def rest(puts):
+def rest(net: Sealed, puts: Puts) -> None:
     """Lets the group idle, and counts the streams that it makes."""
     puts.open.clear()
     time.sleep(2)
-    before = streams_made()
+    before = streams_made(net)
     time.sleep(IDLE)
-    made = [after - count for count, after in zip(before, streams_made())]
+    made = [after - count for count, after in zip(before, streams_made(net))]
     puts.open.set()
     print(f"idle for {IDLE} s: streams made by members 0, 1, 2: {made[0]}, {made[1]}, {made[2]}", flush=True)
     if any(made):
         fail("an idle group makes streams")
 
 
-def parse_words(words):
+def parse_words(words: List[str]) -> List[float]:
     """The outages' seconds, or the end with the help or a line of usage."""
     if words in (["-h"], ["--help"]):
         print(__doc__)
@@ -55,19 +57,20 @@ def parse_words(words):
         sys.exit(2)
 
 
-def main(outages):
-    connect_hosts()
-    late = []
-    with Group(hosts=HOSTS[:3], prefixes=[within(m) for m in range(4)]) as group:
+def main(outages: List[float]) -> None:
+    net = Sealed()
+    net.connect()
+    late: List[float] = []
+    with Group(net) as group:
         group.start_all()
         puts = Puts(group)
         puts.await_answers(50)
         if os.environ.get("SCHEME"):
-            rest(puts)
+            rest(net, puts)
         for seconds in outages:
-            cut()
+            net.part()
             time.sleep(seconds)
-            join()
+            net.join()
             first = puts.after(time.monotonic(), 180)
             print(f"outage of {seconds:g} s: " + ("no answer in 180 s" if first is None else f"first answer {first:.2f} s after it"), flush=True)
             late += [seconds] if first is None or first > FIGURE else []
@@ -80,4 +83,4 @@ def main(outages):
 if __name__ == "__main__":
     seconds_given = parse_words(sys.argv[1:])
     sealed(sys.argv, "--net")
-    main(seconds_given)
+    end(lambda: main(seconds_given))

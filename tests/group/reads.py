@@ -7,17 +7,18 @@ import subprocess
 import sys
 import time
 
-from nozhgiva_tools.run.group import fail, Group, no_words
+from nozhgiva_tools.run.group import Group
+from nozhgiva_tools.run.scripts import end, fail, no_words
 
 LENGTH, IDLE = 2039808, 80
 
 
-def from_disk(member):
+def from_disk(member: "subprocess.Popen[bytes]") -> int:
     with open(f"/proc/{member.pid}/io", encoding="ascii") as io:
         return next(int(line.split()[1]) for line in io if line.startswith("read_bytes:"))
 
 
-def main():
+def main() -> None:
     no_words()
     with Group() as group:
         kind = subprocess.run(["df", "--output=fstype", group.folder], check=True, capture_output=True, text=True).stdout.split()[-1]
@@ -43,4 +44,4 @@ def main():
 
 
 if __name__ == "__main__":
-    main()
+    end(main)

@@ -12,7 +12,8 @@ import sys
 import time
 
 from nozhgiva_tools.operate import rolling, standard
-from nozhgiva_tools.run.real import Group, Net
+from nozhgiva_tools.run.keepers import Kept
+from nozhgiva_tools.run.nets import Net
 
 from .load import Load
 
@@ -35,7 +36,7 @@ class Trial:
 
     def __init__(self, words: argparse.Namespace) -> None:
         self.words, self.held, self.began = words, False, time.monotonic()
-        self.group = Group(SIZE, Net(SIZE), options=("--patience", "0"))
+        self.group = Kept(Net(SIZE), options=("--patience", "0"))
         self.load = Load(self.group, clients=4, rate=words.rate, keys=words.keys, size=words.size, puts=1.0, seed=1, held=lambda: self.held)
 
     def say(self, text: str) -> None:
@@ -101,7 +102,7 @@ class Trial:
 
     def end(self) -> None:
         self.load.stopping = True
-        self.group.end()
+        self.group.close()
 
 
 def main() -> int:

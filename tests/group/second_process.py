@@ -9,26 +9,26 @@ import pathlib
 import subprocess
 import time
 
-from nozhgiva_tools.run.group import fail, Group, no_words, Puts
+from nozhgiva_tools.run.group import Group, Puts
+from nozhgiva_tools.run.scripts import end, fail, no_words
+from nozhgiva_tools.told.ends import Code
 
-DISK_FAULT = 7
 
-
-def sum_of(path):
+def sum_of(path: str) -> str:
     return hashlib.sha256(pathlib.Path(path).read_bytes()).hexdigest()
 
 
-def second(group, r, *more):
+def second(group: Group, r: int, *more: str) -> None:
     """Runs a second process on a member's file, while nothing is asked."""
     before = sum_of(group.file(r))
     ran = subprocess.run(group.words(r, *more), stdin=subprocess.DEVNULL, capture_output=True, text=True, timeout=60)
     same = sum_of(group.file(r)) == before
     print(f"a second process of member {r} {' '.join(more) or 'without --fresh'}: {ran.returncode} {ran.stderr.strip()}, the file is {'the same' if same else 'another'}")
-    if ran.returncode != DISK_FAULT or not same:
+    if ran.returncode != Code.DISK_FAULT or not same:
         fail("a second process has to end with 7 and to leave the file as it is")
 
 
-def main():
+def main() -> None:
     no_words()
     with Group() as group:
         group.start_all()
@@ -53,4 +53,4 @@ def main():
 
 
 if __name__ == "__main__":
-    main()
+    end(main)

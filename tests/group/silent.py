@@ -5,8 +5,10 @@ the time; no two answers may be further apart than 4 seconds, else this ends wit
 
 import socket
 import time
+from typing import List
 
-from nozhgiva_tools.run.group import fail, Group, no_words, Puts
+from nozhgiva_tools.run.group import Group, Puts
+from nozhgiva_tools.run.scripts import end, fail, no_words
 
 CONNECTIONS, FIGURE, PHASE = 200, 4.0, 12
 
@@ -14,16 +16,17 @@ CONNECTIONS, FIGURE, PHASE = 200, 4.0, 12
 class Crowd:
     """Connections on which nothing is ever said, and whose ends nobody looks at."""
 
-    def __init__(self, group):
-        self.group, self.sockets = group, []
+    def __init__(self, group: Group) -> None:
+        self.group = group
+        self.sockets: List[socket.socket] = []
 
-    def visit(self, r):
+    def visit(self, r: int) -> None:
         """Opens them to a member, as soon as it takes any."""
         end = time.monotonic() + 5
         opened = 0
         while opened < CONNECTIONS and time.monotonic() < end:
             try:
-                self.sockets.append(socket.create_connection(("127.0.0.1", self.group.port + r), 1))
+                self.sockets.append(socket.create_connection(("127.0.0.1", self.group.ports[r]), 1))
                 opened += 1
             except OSError:
                 time.sleep(0.002)
@@ -31,15 +34,15 @@ class Crowd:
             fail(f"member {r} takes only {opened} connections")
 
 
-def told(what, puts):
+def told(what: str, puts: Puts) -> bool:
     count, gap = puts.phase(PHASE)
     print(f"{what}: {count} puts answered in {PHASE} s, at most {gap:.2f} s between two", flush=True)
     return gap <= FIGURE
 
 
-def main():
+def main() -> None:
     no_words()
-    with Group("tcp:") as group:
+    with Group(scheme="tcp:") as group:
         group.start_all()
         puts, crowd = Puts(group), Crowd(group)
         puts.await_answers(20)
@@ -64,4 +67,4 @@ def main():
 
 
 if __name__ == "__main__":
-    main()
+    end(main)

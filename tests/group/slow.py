@@ -18,7 +18,9 @@ from typing import Dict, List, Optional, Tuple
 
 import nozhgiva
 from nozhgiva_tools.operate import judging, rolling, standard, surveying
-from nozhgiva_tools.run.real import CLUSTER, Group, Net
+from nozhgiva_tools.run.group import NUMBER
+from nozhgiva_tools.run.keepers import Kept
+from nozhgiva_tools.run.nets import Net
 
 LARGEST = 20_480  # bytes of a datagram
 DELAYS = "0.1,0.2,0.3,0.4,0.5,0.6"
@@ -77,13 +79,11 @@ class Try:
 
     def __init__(self, words: argparse.Namespace, delay: float, port: int) -> None:
         self.words, self.delay = words, delay
-        net = Net(words.size)
-        net.hosts = [f"127.0.0.1:{port + member}" for member in range(words.size)]
-        self.group = Group(words.size, net)
+        self.group = Kept(Net(words.size, range(port, port + words.size)))
         self.hosts = list(self.group.addresses)
         self.proxy = Proxy(self.hosts, port + 10)
         sources = [surveying.source(member, None, self.group.file(0)[:-1] + "{}.socket", None, 1.0) for member in range(words.size)]
-        self.survey = surveying.Survey(CLUSTER, self.hosts, sources, 1.0)
+        self.survey = surveying.Survey(NUMBER, self.hosts, sources, 1.0)
 
     def start(self, member: int) -> None:
         self.group.addresses = self.proxy.addresses(self.hosts, member)
@@ -92,7 +92,7 @@ class Try:
     def put(self, count: int, seconds: float) -> Optional[float]:
         """Seconds until so many puts were answered, each a session of its own at first; None where they weren't."""
         began = time.monotonic()
-        asked = nozhgiva.Group(CLUSTER, self.hosts, timeout=seconds, retry=nozhgiva.Retry(first=0.1, factor=1.0, most=0.1, jitter=0.1))
+        asked = nozhgiva.Group(NUMBER, self.hosts, timeout=seconds, retry=nozhgiva.Retry(first=0.1, factor=1.0, most=0.1, jitter=0.1))
         try:
             session = asked.register()
             for number in range(count):
@@ -148,7 +148,7 @@ def main() -> int:
         except KeyboardInterrupt:
             return 130
         finally:
-            one.group.end()
+            one.group.close()
     return 0 if right else 1
 
 

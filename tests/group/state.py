@@ -20,7 +20,8 @@ from typing import List, NamedTuple
 
 from nozhgiva_tools.operate import standard
 from nozhgiva_tools.run import built as program
-from nozhgiva_tools.run.real import Group, Net
+from nozhgiva_tools.run.keepers import Kept
+from nozhgiva_tools.run.nets import Net
 from nozhgiva_tools.told import datafile
 
 from .load import Load
@@ -59,7 +60,7 @@ class Trial:
 
     def __init__(self, words: argparse.Namespace) -> None:
         self.words, self.began = words, time.monotonic()
-        self.group = Group(SIZE, Net(SIZE), "tcp:" if words.tcp else "", ("--patience", "0"), words.version)
+        self.group = Kept(Net(SIZE), "tcp:" if words.tcp else "", ("--patience", "0"), words.version)
         self.load = Load(self.group, CLIENTS, words.rate, KEYS, words.size, 1.0, 1)
 
     def say(self, text: str) -> None:
@@ -131,7 +132,7 @@ class Trial:
 
     def end(self) -> None:
         self.load.stopping = True
-        self.group.end()
+        self.group.close()
 
 
 def main() -> int:

@@ -11,7 +11,6 @@ group went on, are counted: what status asks for is enough, and not always neede
 import argparse
 import collections
 import json
-import os
 import random
 import signal
 import subprocess
@@ -22,7 +21,10 @@ from typing import Callable, Counter, Dict, List, Optional, Tuple
 
 import nozhgiva
 from nozhgiva_tools.operate import judging, standard, surveying
-from nozhgiva_tools.run.real import CLUSTER, Group, HERE, Net
+from nozhgiva_tools.places import OPERATE
+from nozhgiva_tools.run.group import NUMBER
+from nozhgiva_tools.run.keepers import Kept
+from nozhgiva_tools.run.nets import Net
 from nozhgiva_tools.told import datafile, whole
 
 GONE_ON = 2  # answers to puts that were asked after the stop, of which the first may have been under way
@@ -45,13 +47,13 @@ def parse_words() -> argparse.Namespace:
 class Asker:
     """A client that puts again and again. `answers` has when each put that was answered was asked first, and when it was answered."""
 
-    def __init__(self, group: Group) -> None:
+    def __init__(self, group: Kept) -> None:
         self.group, self.stopping, self.pause = group, False, 0.05
         self.answers: List[Tuple[float, float]] = []
         threading.Thread(target=self.work, daemon=True).start()
 
     def work(self) -> None:
-        asked = nozhgiva.Group(CLUSTER, self.group.addresses, timeout=0.4, retry=nozhgiva.Retry(first=0.1, factor=1.0, most=0.1, jitter=0.1))
+        asked = nozhgiva.Group(NUMBER, self.group.addresses, timeout=0.4, retry=nozhgiva.Retry(first=0.1, factor=1.0, most=0.1, jitter=0.1))
         session, number = None, 0
         while not self.stopping:
             began = time.monotonic()
@@ -94,11 +96,11 @@ class Lateness:
 class Tries:
     """Tries with one group."""
 
-    def __init__(self, words: argparse.Namespace, group: Group) -> None:
+    def __init__(self, words: argparse.Namespace, group: Kept) -> None:
         self.words, self.group, self.draw = words, group, random.Random(words.seed)
         self.asker, self.lateness = Asker(group), Lateness()
         sockets = group.file(0)[:-1] + "{}.socket"
-        self.survey = surveying.Survey(CLUSTER, group.addresses, [surveying.source(member, None, sockets, None, 0.6) for member in range(words.size)], 0.6)
+        self.survey = surveying.Survey(NUMBER, group.addresses, [surveying.source(member, None, sockets, None, 0.6) for member in range(words.size)], 0.6)
         self.late: List[str] = []
         self.paused: List[int] = []
         self.counts: Counter[Tuple[str, str]] = collections.Counter()
@@ -179,12 +181,12 @@ class Tries:
     # One try.
 
     def status(self) -> Dict:
-        words = [os.path.join(HERE, "status"), str(CLUSTER), *self.group.addresses, "--sockets", self.group.file(0)[:-1] + "{}.socket", "--json", "--wait", "0.6"]
+        words = [str(OPERATE / "status"), str(NUMBER), *self.group.addresses, "--sockets", self.group.file(0)[:-1] + "{}.socket", "--json", "--wait", "0.6"]
         return json.loads(subprocess.run(words, stdout=subprocess.PIPE, text=True, check=False).stdout)
 
     def choose(self, told: Dict) -> Optional[Dict]:
         """A member that runs; where some may be stopped and others not, either with like chance."""
-        running = [member for member in told["members"] if member["may_be_stopped"] is not None and member["member"] in self.group.keepers and member["member"] not in self.paused]
+        running = [member for member in told["members"] if member["may_be_stopped"] is not None and member["member"] in self.group.members and member["member"] not in self.paused]
         wanted = self.draw.random() < 0.7
         return self.draw.choice([member for member in running if member["may_be_stopped"] == wanted] or running or [None])
 
@@ -195,7 +197,7 @@ class Tries:
         if chosen is not None:
             said = "yes" if chosen["may_be_stopped"] else "no: " + ",".join(sorted({reason["name"] for reason in chosen["why_not"]}))
             self.group.stop(chosen["member"])
-            left = len(self.group.keepers) - len(self.paused)
+            left = len(self.group.members) - len(self.paused)
             if said == FEW and left >= whole.VIEW_CHANGE[self.words.size]:
                 said += ", and others are being started"
             elif said == FEW and left >= judging.REPLICATION[self.words.size]:
@@ -231,7 +233,7 @@ class Tries:
             self.group.signal(member, signal.SIGCONT)
         self.paused = []
         for member in range(self.words.size):
-            if member not in self.group.keepers:
+            if member not in self.group.members:
                 self.group.start(member)
         self.asker.pause = 0.0
         goal, end = self.asker.done() + 70, time.monotonic() + self.words.settle
@@ -246,7 +248,7 @@ class Tries:
         end = time.monotonic() + seconds
         while time.monotonic() < end:
             members = self.survey.look()
-            told = judging.as_json(CLUSTER, members, judging.judge(members, True))
+            told = judging.as_json(NUMBER, members, judging.judge(members, True))
             if told["code"] == 0 and all(member["may_be_stopped"] or {reason["name"] for reason in member["why_not"]} == {"few"} for member in told["members"]):
                 return True
             time.sleep(0.2)
@@ -262,11 +264,9 @@ class Tries:
         return 1 if self.wrong else 0
 
 
-def begin(words: argparse.Namespace) -> Group:
-    net = Net(words.size)
-    if words.port is not None:
-        net.hosts = [f"127.0.0.1:{words.port + member}" for member in range(words.size)]
-    group = Group(words.size, net, options=("--renew", "0", "--pause", "0.2"))
+def begin(words: argparse.Namespace) -> Kept:
+    given = None if words.port is None else range(words.port, words.port + words.size)
+    group = Kept(Net(words.size, given), options=("--renew", "0", "--pause", "0.2"))
     group.start_all()
     group.await_leader(120)
     return group
@@ -294,7 +294,7 @@ def main() -> int:
         if tries is not None:
             tries.asker.stopping = True
         if group is not None:
-            group.end()
+            group.close()
 
 
 if __name__ == "__main__":

@@ -22,9 +22,12 @@ from typing import Dict, List, Optional, Tuple
 
 import nozhgiva
 from nozhgiva_tools.operate import standard
-from nozhgiva_tools.run.real import best_net, CLUSTER, Group, HERE, Net
+from nozhgiva_tools.places import OPERATE
+from nozhgiva_tools.run.group import NUMBER
+from nozhgiva_tools.run.keepers import Kept
+from nozhgiva_tools.run.nets import best_net, Namespaces, Net
 
-from .happening import Faults
+from .faults import Faults
 from .load import Load
 
 SIZE = 3
@@ -46,7 +49,7 @@ def parse_words() -> argparse.Namespace:
 
 def ports_of(net: Net, size: int) -> Dict[str, List[str]]:
     """Where the keepers tell, and where the page is."""
-    if net.cuts:
+    if isinstance(net, Namespaces):
         hosts = [host.rsplit(":", 1)[0] for host in net.hosts]
         return {"health": [f"{host}:{HEALTH}" for host in hosts], "metrics": [f"{host}:{METRICS}" for host in hosts], "page": [f"10.77.0.99:{PAGE}"]}
     held = [socket.create_server(("127.0.0.1", 0)) for _ in range(2 * size + 1)]
@@ -58,7 +61,7 @@ def ports_of(net: Net, size: int) -> Dict[str, List[str]]:
 
 def move_to(net: Net) -> None:
     """This thread lives where the clients do from now on."""
-    if net.cuts:
+    if isinstance(net, Namespaces):
         with open(f"/run/netns/{net.name(None)}") as place:
             if ctypes.CDLL("libc.so.6", use_errno=True).setns(place.fileno(), CLONE_NEWNET) != 0:
                 raise OSError(ctypes.get_errno(), "setns")
@@ -97,7 +100,7 @@ def of_metrics(texts: List[str], seconds: float) -> Told:
 class Watcher:
     """Looks in all three ways again and again, in a thread where the clients live."""
 
-    def __init__(self, group: Group, ports: Dict[str, List[str]]) -> None:
+    def __init__(self, group: Kept, ports: Dict[str, List[str]]) -> None:
         self.group, self.ports = group, ports
         self.seen: Dict[str, List[Told]] = {"status": [], "metrics": [], "page": []}
         self.failed: "Counter[str]" = Counter()
@@ -125,7 +128,7 @@ class Watcher:
                 self.failed[f"{way}: {why}"] += 1
 
     def status(self) -> Told:
-        words = [os.path.join(HERE, "status"), str(CLUSTER), *self.group.addresses, "--keepers", ",".join(self.ports["health"]), "--json", "--wait", "0.6"]
+        words = [str(OPERATE / "status"), str(NUMBER), *self.group.addresses, "--keepers", ",".join(self.ports["health"]), "--json", "--wait", "0.6"]
         made = subprocess.run(words, stdout=subprocess.PIPE, stderr=subprocess.PIPE, text=True)
         told = json.loads(made.stdout)
         if told["code"] != made.returncode:
@@ -145,14 +148,14 @@ class Watcher:
 class Asker:
     """One client that asks again soon where no answer comes, so that its answers show when the group answers: reads ten times a second."""
 
-    def __init__(self, group: Group) -> None:
+    def __init__(self, group: Kept) -> None:
         self.group, self.answers, self.stopping = group, [], False
         self.thread = threading.Thread(target=self.work, daemon=True)
         self.thread.start()
 
     def work(self) -> None:
         move_to(self.group.net)
-        asked = nozhgiva.Group(CLUSTER, self.group.addresses, timeout=0.4, retry=nozhgiva.Retry(first=0.1, factor=1.0, most=0.1, jitter=0.1))
+        asked = nozhgiva.Group(NUMBER, self.group.addresses, timeout=0.4, retry=nozhgiva.Retry(first=0.1, factor=1.0, most=0.1, jitter=0.1))
         session = None
         while not self.stopping:
             try:
@@ -169,7 +172,7 @@ class Asker:
 class Strangers:
     """Two hundred connections at each port, with half a request or nothing, made anew as they are closed."""
 
-    def __init__(self, group: Group, ports: Dict[str, List[str]]) -> None:
+    def __init__(self, group: Kept, ports: Dict[str, List[str]]) -> None:
         self.group, self.places = group, [address.rsplit(":", 1) for address in ports["health"] + ports["metrics"] + ports["page"]]
         self.stopping = False
         self.thread = threading.Thread(target=self.work, daemon=True)
@@ -233,10 +236,10 @@ class Judge:
         return any(since <= at <= until for at in self.answers)
 
 
-def begin(words: argparse.Namespace) -> Tuple[Group, Dict[str, List[str]]]:
+def begin(words: argparse.Namespace) -> Tuple[Kept, Dict[str, List[str]]]:
     """The group runs, with its ports."""
     net = Net(SIZE) if words.loopback else best_net(SIZE)
-    ports, group = ports_of(net, SIZE), Group(SIZE, net, words.scheme)
+    ports, group = ports_of(net, SIZE), Kept(net, words.scheme)
     for member in range(SIZE):
         group.options = ["--health", ports["health"][member], "--metrics", ports["metrics"][member]]
         group.start(member)
@@ -244,12 +247,12 @@ def begin(words: argparse.Namespace) -> Tuple[Group, Dict[str, List[str]]]:
     return group, ports
 
 
-def begin_page(group: Group, ports: Dict[str, List[str]]) -> subprocess.Popen:
-    words = [os.path.join(HERE, "status"), str(CLUSTER), *group.addresses, "--keepers", ",".join(ports["health"]), "--page", ports["page"][0]]
+def begin_page(group: Kept, ports: Dict[str, List[str]]) -> subprocess.Popen:
+    words = [str(OPERATE / "status"), str(NUMBER), *group.addresses, "--keepers", ",".join(ports["health"]), "--page", ports["page"][0]]
     return subprocess.Popen(group.net.inside(None) + words, stdout=subprocess.DEVNULL)
 
 
-def watch(words: argparse.Namespace, group: Group, ports: Dict[str, List[str]]) -> int:
+def watch(words: argparse.Namespace, group: Kept, ports: Dict[str, List[str]]) -> int:
     """The trial of what is told."""
     page, watcher, strangers = begin_page(group, ports), Watcher(group, ports), Strangers(group, ports)
     asker, load = Asker(group), Load(group, clients=4, rate=30.0, keys=40, size=24, puts=0.5, seed=words.seed)
@@ -292,17 +295,17 @@ while True:
     time.sleep(1)"""
 
 
-def begin_scrapes(group: Group, ports: Dict[str, List[str]]) -> subprocess.Popen:
+def begin_scrapes(group: Kept, ports: Dict[str, List[str]]) -> subprocess.Popen:
     """Each keeper is scraped once a second, by a process of its own."""
     return subprocess.Popen(group.net.inside(None) + [sys.executable, "-c", SCRAPER, *ports["metrics"]])
 
 
-def cost(words: argparse.Namespace, group: Group, ports: Dict[str, List[str]]) -> int:
+def cost(words: argparse.Namespace, group: Kept, ports: Dict[str, List[str]]) -> int:
     """What scrapes take, and the puts a second with and without."""
     move_to(group.net)
 
     def used(member: int) -> float:
-        with open(f"/proc/{group.keepers[member].pid}/stat") as file:
+        with open(f"/proc/{group.members[member].pid}/stat") as file:
             fields = file.read().rsplit(")", 1)[1].split()
         return (int(fields[11]) + int(fields[12])) / os.sysconf("SC_CLK_TCK")
 
@@ -346,7 +349,7 @@ def main() -> int:
         return 130
     finally:
         if group is not None:
-            group.end()
+            group.close()
 
 
 if __name__ == "__main__":

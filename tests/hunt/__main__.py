@@ -23,10 +23,11 @@ import time
 from typing import List, Optional
 
 from nozhgiva_tools.places import TOP, words_of_module
-from nozhgiva_tools.run import hosts
-from nozhgiva_tools.run.group import fail, program, sealed
+from nozhgiva_tools.run.built import or_end as program
+from nozhgiva_tools.run.nets import Sealed
+from nozhgiva_tools.run.scripts import fail, sealed
 
-from . import history, planted
+from . import history, planted, worker as worker_in_python
 from .members import Members, Stuck, Trouble
 from .order import judge, Verdict
 from .workers import Board, FAST, KEYS, SLOW, Worker
@@ -59,7 +60,7 @@ class Round:
         self.draw, self.seed, self.words, self.go = random.Random(seed), seed, words, go
         self.seconds = LONG if words.minutes else SHORT
         self.board = Board()
-        self.members = Members(self.draw.choice(("", "tcp:")), apart)
+        self.members = Members(Sealed() if apart else None, self.draw.choice(("", "tcp:")))
         self.modes = ["--careful"] if self.draw.random() < 0.5 else []
         self.trouble = Trouble(self.members, self.draw)
         self.workers: List[Worker] = []
@@ -72,8 +73,8 @@ class Round:
 
     def worker(self, number: int, name: str) -> Worker:
         """A client: every second one is in Go, where there is Go."""
-        words = [self.go] if self.go and number % 2 else words_of_module("tests.hunt.worker")
-        return Worker(name, [*self.members.prefixes[3], *words, "5", *self.members.addresses], self.board, random.Random(f"{self.seed} {number}"))
+        words = [self.go] if self.go and number % 2 else words_of_module(worker_in_python)
+        return Worker(name, [*self.members.net.inside(None), *words, str(self.members.number), *self.members.addresses], self.board, random.Random(f"{self.seed} {number}"))
 
     def change_pace(self) -> None:
         self.board.pause = self.draw.choice((FAST, SLOW))
@@ -241,10 +242,10 @@ def words_of() -> argparse.Namespace:
 
 
 def hunt(words: argparse.Namespace) -> int:
-    lacking = None if os.environ.get("SEALED") else hosts.can_be_had()
+    lacking = None if os.environ.get("SEALED") else Sealed.why_none()
     if lacking is None:
         sealed(sys.argv, "--net")
-        hosts.connect_hosts()
+        Sealed().connect()
     else:
         print(f"left out: members that are cut off ({lacking})", flush=True)
     wrong = planted.wrong_verdicts()

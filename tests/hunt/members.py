@@ -11,10 +11,10 @@ import time
 from functools import partial
 from typing import Callable, Counter, List, Optional, Tuple
 
-from nozhgiva_tools.run import hosts
-from nozhgiva_tools.run.group import Group
+from nozhgiva_tools.run.group import CHECKPOINT, Group, migrate_words, SIZE
+from nozhgiva_tools.run.nets import Net, Sealed
+from nozhgiva_tools.told.lines import Beat, last_applied, parse, Prepare
 
-SIZE = 3
 TAIL = 1 << 16
 FAR = 2 << 20
 PATIENCE = 180.0
@@ -25,14 +25,10 @@ class Stuck(Exception):
 
 
 class Members(Group):
-    """Three members with their files. `apart` says whether each has a host of its own (hosts.py)."""
+    """Members with their files; on a sealed net each has a host of its own."""
 
-    def __init__(self, scheme: str, apart: bool) -> None:
-        if apart:
-            super().__init__(scheme, hosts.HOSTS[:SIZE], [hosts.within(m) for m in range(SIZE + 1)])
-        else:
-            super().__init__(scheme)
-        self.apart = apart
+    def __init__(self, net: Optional[Net] = None, scheme: str = "", version: int = 1) -> None:
+        super().__init__(net, scheme, version=version)
         self.ended: List[str] = []
 
     def tail(self, r: int, size: int = TAIL) -> List[bytes]:
@@ -43,33 +39,26 @@ class Members(Group):
 
     def applied(self, r: int) -> int:
         """The last operation that a member has told as applied, as far as its last lines tell."""
-        return max((int(line.split()[3]) for line in self.tail(r, FAR) if line.startswith(b"commit ")), default=0)
+        return last_applied(self.tail(r, FAR))
 
     def leader(self) -> int:
         """The member that sent the last heartbeat or prepare of the newest view."""
         newest = (-1, 0)
         for r in range(SIZE):
-            for line in self.tail(r):
-                words = line.split()
-                if len(words) > 6 and words[0] == b"send" and words[4] in (b"commit", b"prepare"):
-                    newest = max(newest, (int(words[6]), r))
+            for line in map(parse, self.tail(r)):
+                if isinstance(line, (Beat, Prepare)):
+                    newest = max(newest, (line.view, r))
         return newest[1]
 
     def runs(self, r: int) -> bool:
         """Whether a member runs. One that ended by itself is told in `ended`, and started again."""
-        process = self.members[r]
+        process = self.members.get(r)
         if process is None:
             return False
         if process.poll() is not None:
-            with open(f"{self.folder}/{r}.err", encoding="ascii", errors="replace") as err:
-                self.ended.append(f"member {r} ended by itself with {process.returncode}: {err.read().strip()}")
+            self.ended.append(f"member {r} ended by itself with {process.returncode}: {'; '.join(self.errors(r))}")
             self.start(r)
         return True
-
-    def signal(self, r: int, number: int) -> None:
-        process = self.members[r]
-        if process is not None:
-            process.send_signal(number)
 
     def move(self, r: int, draw: random.Random) -> None:
         """Ends a member, makes its file one of version 2, and starts it again. The migration may be killed in its midst at first."""
@@ -77,13 +66,13 @@ class Members(Group):
         if process is not None:
             process.send_signal(signal.SIGTERM)
             process.wait()
-        words = [self.program, "migrate", "5", str(r), str(SIZE), self.file(r)]
+        words = migrate_words(self.program, self.number, r, self.size, self.file(r))
         first = subprocess.Popen(words)
         if draw.random() < 0.5:
             time.sleep(draw.uniform(0, 0.01))
             first.kill()
         first.wait()
-        if subprocess.run(words, timeout=PATIENCE).returncode:
+        if subprocess.run(words, timeout=PATIENCE, check=False).returncode:
             raise Stuck(f"the migration of member {r} fails")
         self.start(r)
 
@@ -106,7 +95,7 @@ class Members(Group):
         end = time.monotonic() + PATIENCE
         while True:
             done = [self.applied(r) for r in range(SIZE)]
-            if max(done) - min(done) <= 32:
+            if max(done) - min(done) <= CHECKPOINT:
                 return
             if time.monotonic() > end:
                 raise Stuck(f"a member stays behind: they have applied {done}")
@@ -125,7 +114,7 @@ class Trouble:
         self.mends: List[Tuple[float, Callable[[], None]]] = []
         self.cuts: Counter[Tuple[int, int]] = collections.Counter()
         self.kinds = [self.kill, self.kill, self.kill, self.pause, self.pause, self.kill_all]
-        if members.apart:
+        if isinstance(members.net, Sealed):
             self.kinds += [self.cut_off, self.cut_off, self.cut_off_from_members, self.cut_one_way]
 
     def go(self, seconds: float, pace: Callable[[], None]) -> None:
@@ -162,7 +151,7 @@ class Trouble:
         return lambda: self.back(r)
 
     def back(self, r: int) -> None:
-        if self.members.members[r] is None:
+        if r not in self.members.members:
             self.members.start(r)
 
     def back_all(self) -> None:
@@ -184,17 +173,23 @@ class Trouble:
         process.send_signal(signal.SIGSTOP)
         return partial(process.send_signal, signal.SIGCONT)
 
+    @property
+    def net(self) -> Sealed:
+        """Ways are cut on a sealed net alone."""
+        assert isinstance(self.members.net, Sealed)
+        return self.members.net
+
     def cut(self, *ways: Tuple[int, int]) -> Callable[[], None]:
         for way in ways:
             self.cuts[way] += 1
-            hosts.cut_way(*way)
+            self.net.cut(*way)
         return lambda: self.join(*ways)
 
     def join(self, *ways: Tuple[int, int]) -> None:
         for way in ways:
             self.cuts[way] -= 1
             if not self.cuts[way]:
-                hosts.mend_way(*way)
+                self.net.mend_way(*way)
 
     def cut_off(self, r: int) -> Callable[[], None]:
         """From the other members and from all clients."""

@@ -4,6 +4,9 @@ called and returned, and each answer is what a map gives.
 The search is that of Wing and Gong, with the memory of Lowe: it goes through what may come next, and never looks twice at the same set of
 operations that are done with the same value behind them. Keys are apart, since a history is linearizable where it is so for each key.
 
+What put, get and delete mean is said here once more, apart from nozhgiva_tools/told/store.py, with which tools are made: the answers that are judged are not to be
+right by a mistake that both share.
+
 An operation of which nothing is known may stand anywhere after its call, or nowhere. It is only ever put directly before an operation whose answer
 needs it. Nothing is lost by that, as long as no two puts have one value: where an order has it anywhere else, what follows it either writes again,
 or answers as it would without it; so it can be left out, and what remains is an order still.

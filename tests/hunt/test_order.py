@@ -35,7 +35,7 @@ class Orders(unittest.TestCase):
         self.assertGreater(sum(not one.fits for one in planted.table()), 10)
         self.assertEqual(planted.wrong_verdicts(), [])
 
-    def test_a_stale_read_is_put_where_it_is_one(self):
+    def test_a_stale_read_is_put_where_it_is_one(self) -> None:
         lines = ["a 0 1 put k 1 ok", "a 2 3 put k 2 ok", "b 4 5 get k value 2", "b 6 7 get k value 2"]
         operations = history.read(lines)
         self.assertTrue(judge(operations).fits)

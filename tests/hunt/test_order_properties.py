@@ -22,7 +22,7 @@ def small(choose: draw.DrawFn) -> List[Operation]:
         returned: Optional[int] = None if choose(draw.integers(0, 9)) < 3 else called + choose(draw.integers(0, 4))
         kind = choose(draw.sampled_from(history.KINDS))
         answer, value = history.UNTOLD, str(number) if kind == "put" else None
-        if returned is not None and choose(draw.integers(0, 9)):
+        if returned is not None and choose(draw.integers(0, 9)) > 0:
             answer = {"put": "ok", "get": choose(draw.sampled_from(("value", "value", "absent"))), "delete": choose(draw.sampled_from(("ok", "absent")))}[kind]
             value = str(choose(draw.integers(0, 5))) if answer == "value" else value
         operations.append(Operation("c", called, returned, kind, "k", value, answer))

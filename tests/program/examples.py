@@ -12,6 +12,7 @@ import subprocess
 import sys
 from typing import List
 
+from nozhgiva_tools.command import run
 from nozhgiva_tools.operate import standard
 from nozhgiva_tools.places import EXAMPLES, words_of_module
 from nozhgiva_tools.run import program
@@ -31,7 +32,7 @@ def parse_words() -> argparse.Namespace:
 
 def is_as_made(path: str, show: bool) -> bool:
     """Whether an example is what the program makes of it; where it isn't, that is told."""
-    ran = subprocess.run(words_of_module("nozhgiva_tools.command.run", "--whole", path), stdout=subprocess.PIPE, text=True, check=False)
+    ran = subprocess.run(words_of_module(run, "--whole", path), stdout=subprocess.PIPE, text=True, check=False)
     with open(path, encoding="ascii") as file:
         wanted = file.read()
     if ran.returncode == 0 and ran.stdout == wanted:

@@ -8,9 +8,11 @@ import pathlib
 import subprocess
 import tempfile
 import time
+from typing import List, Tuple
 
 from nozhgiva_tools.places import TOP
-from nozhgiva_tools.run.group import fail, Group, no_words
+from nozhgiva_tools.run.group import Group
+from nozhgiva_tools.run.scripts import end as end_script, fail, no_words
 
 PUTS, KEYS, CHECKPOINT = 100, 50, 96
 LAST = PUTS + 1
@@ -18,11 +20,11 @@ COPY = 10240
 HEADER_SECTOR, PREPARE = (80 + LAST % 64) * 512, (144 + 4 * (LAST % 64)) * 512
 
 
-def block(address):
+def block(address: int) -> int:
     return (400 + 8 * address) * 512
 
 
-def damage_rows(file, mode):
+def damage_rows(file: bytes, mode: str) -> List[Tuple[str, List[int], str, int]]:
     """What is damaged, at which bytes; what has to be told of it, and how many damaged places."""
     head = int.from_bytes(file[80:88], "big")
     both = f"lost {LAST}; wanted none; unknown none" if LAST <= head else f"lost none; wanted none; unknown {LAST}"
@@ -41,17 +43,17 @@ def damage_rows(file, mode):
     ]
 
 
-def inspect(path, *how):
+def inspect(path: str, *how: str) -> Tuple[int, str]:
     ran = subprocess.run([f"{TOP}/operate/inspect", path, *how], capture_output=True, text=True)
     return ran.returncode, ran.stdout
 
 
-def expect(what, found, status, *words):
+def expect(what: str, found: Tuple[int, str], status: int, *words: str) -> None:
     if found[0] != status or any(word not in found[1] for word in words):
         fail(f"{what}: status {found[0]} where {status} is right, and {words} in:\n{found[1]}")
 
 
-def try_file(folder, what, data, words, damaged):
+def try_file(folder: str, what: str, data: bytes, words: str, damaged: int) -> None:
     path = f"{folder}/file"
     pathlib.Path(path).write_bytes(data)
     expect(what, inspect(path), 0, words, f"damaged places: {damaged}")
@@ -59,22 +61,22 @@ def try_file(folder, what, data, words, damaged):
     print(f"{what}: told")
 
 
-def try_lost(folder, what, data):
+def try_lost(folder: str, what: str, data: bytes) -> None:
     path = f"{folder}/file"
     pathlib.Path(path).write_bytes(data)
-    for how in ([], ["health"]):
-        expect(what, inspect(path, *how), 1, "no member")
+    expect(what, inspect(path), 1, "no member")
+    expect(what, inspect(path, "health"), 1, "no member")
     print(f"{what}: told")
 
 
-def flipped(file, places):
+def flipped(file: bytes, places: List[int]) -> bytes:
     data = bytearray(file)
     for at in places:
         data[at] ^= 255
     return bytes(data)
 
 
-def try_whole(folder, file):
+def try_whole(folder: str, file: bytes) -> None:
     try_file(folder, "a file after 100 puts", file, f"here {CHECKPOINT + 1}-{LAST}; lost none; wanted none; unknown none", 0)
     expect("its checkpoint", inspect(f"{folder}/file"), 0, f"checkpoint {CHECKPOINT}: ", "faulty none; 1 sessions, 50 keys")
     last = {i % KEYS: i for i in range(CHECKPOINT - 1)}
@@ -85,7 +87,7 @@ def try_whole(folder, file):
     print("the keys of its checkpoint: told")
 
 
-def of_version_2(file):
+def of_version_2(file: bytes) -> bytes:
     """The file with each prepare at its place of version 2, the old ones damaged, and the version in all copies of the superblock."""
     data = bytearray(file)
     for slot in range(64):
@@ -98,7 +100,7 @@ def of_version_2(file):
     return bytes(data)
 
 
-def try_version_2(folder, file):
+def try_version_2(folder: str, file: bytes) -> None:
     path, twin = f"{folder}/file", f"{folder}/twin"
     pathlib.Path(path).write_bytes(file)
     pathlib.Path(twin).write_bytes(of_version_2(file))
@@ -107,8 +109,8 @@ def try_version_2(folder, file):
     print("the file as one of version 2: told")
 
 
-def try_group(mode, *more):
-    with Group("") as group, tempfile.TemporaryDirectory() as folder:
+def try_group(mode: str, *more: str) -> None:
+    with Group(scheme="") as group, tempfile.TemporaryDirectory() as folder:
         group.start_all(*more)
         end = time.monotonic() + 30
         while inspect(group.file(2), "health")[0] != 0 and time.monotonic() < end:
@@ -127,11 +129,11 @@ def try_group(mode, *more):
         try_lost(folder, "a file of zeros", bytes(len(file)))
 
 
-def main():
+def main() -> None:
     no_words()
     try_group("strict")
     try_group("careful", "--careful")
 
 
 if __name__ == "__main__":
-    main()
+    end_script(main)

@@ -5,13 +5,16 @@ what it writes with memory; or it goes as if nothing had been refused (requests 
 `replay`, and a new member that serves two
 turns. Needs cc, for a library of a few lines that counts requests and refuses one (LD_PRELOAD)."""
 
+from concurrent.futures import ThreadPoolExecutor
 import os
 import subprocess
 import sys
 import tempfile
-from concurrent.futures import ThreadPoolExecutor
+from typing import List, Sequence, Tuple
 
-from nozhgiva_tools.run.group import no_words, program
+from nozhgiva_tools.run.built import or_end as program
+from nozhgiva_tools.run.scripts import no_words
+from nozhgiva_tools.told.ends import Code, TEXTS
 
 REFUSE = r"""
 #define _GNU_SOURCE
@@ -44,7 +47,12 @@ void *realloc(void *old, size_t size) {
 """
 
 
-def puts(count):
+def said(code: Code) -> Tuple[int, bytes]:
+    """How a run ends with this code, and what it says then."""
+    return int(code), f"{TEXTS[code]}\n".encode()
+
+
+def puts(count: int) -> List[str]:
     lines = ["cluster 2"]
     for op in range(count + 1):
         lines += [f"request 0 7 {op} {'put a b' if op else 'register'}", f"deliver {2 * op}", f"deliver {2 * op + 1}"]
@@ -58,14 +66,14 @@ BLOCKS = puts(32) + ["damage 1 912", "stop 1", "start 1", "tick 1", "deliver 66"
 
 
 class Runs:
-    def __init__(self, program, folder):
+    def __init__(self, program: str, folder: str) -> None:
         self.program, self.folder = program, folder
         self.library = f"{folder}/refuse.so"
         with open(f"{folder}/refuse.c", "w") as file:
             file.write(REFUSE)
         subprocess.run(["cc", "-shared", "-fPIC", "-O1", "-o", self.library, f"{folder}/refuse.c", "-ldl"], check=True)
 
-    def run(self, words, text, at):
+    def run(self, words: List[str], text: str, at: int) -> Tuple[int, bytes, bytes]:
         words = [word.replace("FILE", f"{self.folder}/member-{at}") for word in words]
         env = dict(os.environ, LD_PRELOAD=self.library, REFUSE=str(at))
         if not at:
@@ -76,7 +84,7 @@ class Runs:
                 os.remove(word)
         return ran.returncode, ran.stdout, ran.stderr
 
-    def refuse_each(self, name, words, lines, others=()):
+    def refuse_each(self, name: str, words: List[str], lines: List[str], others: Sequence[Tuple[int, bytes]] = ()) -> int:
         text = "".join(line + "\n" for line in lines)
         whole = self.run(words, text, 0)
         with open(f"{self.folder}/count") as file:
@@ -86,14 +94,14 @@ class Runs:
             for number, ran in enumerate(pool.map(lambda n: self.run(words, text, n), range(1, count + 1)), 1):
                 if ran == whole:
                     passed += 1
-                elif not whole[1].startswith(ran[1]) or (ran[0], ran[2]) not in ((11, b"no memory\n"), (11, b""), *others):
+                elif not whole[1].startswith(ran[1]) or (ran[0], ran[2]) not in (said(Code.NO_MEMORY), (Code.NO_MEMORY, b""), *others):
                     failed += 1
                     print(f"{name}: request {number}: status {ran[0]}, {ran[2]!r}, {ran[1][-60:]!r}")
         print(f"{name}: {count} requests refused in turn, {passed} of them without effect; the whole run ends with {whole[0]}")
         return failed
 
 
-def main():
+def main() -> None:
     no_words()
     with tempfile.TemporaryDirectory() as folder:
         runs = Runs(program(), folder)
@@ -102,7 +110,7 @@ def main():
         failed += runs.refuse_each("a block repair", ["replay"], BLOCKS)
         member = ["node", "5", "0", "FILE", "2", "127.0.0.1:0", "127.0.0.1:1", "--fresh"]
         # Where the C library finds no memory to look an address up, the link fails.
-        failed += runs.refuse_each("a new member", member, [], [(8, b"link fault\n")])
+        failed += runs.refuse_each("a new member", member, [], [said(Code.LINK_FAULT)])
     sys.exit(1 if failed else 0)
 
 

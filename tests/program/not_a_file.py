@@ -12,16 +12,18 @@ import shutil
 import socket
 import subprocess
 import tempfile
+from typing import Callable, Dict, List, Tuple
 
-from nozhgiva_tools.run.group import fail, program
+from nozhgiva_tools.run.built import or_end as program
+from nozhgiva_tools.run.scripts import end, fail
+from nozhgiva_tools.told.ends import Code
 
-DISK_FAULT = 7
 LENGTH = 4 << 20
 ADDRESSES = ["127.0.0.1:28111", "127.0.0.1:28112", "127.0.0.1:28113"]
 WRITES = "write,pwrite64,writev,pwritev,ftruncate,fallocate"
 
 
-def runs(path):
+def runs(path: str) -> Dict[str, List[str]]:
     """The words of each command that takes a member's file."""
     member = ["node", "5", "0", path, "1", *ADDRESSES]
     return {"node": member, "node --fresh": [*member, "--fresh"], "migrate": ["migrate", "5", "0", "3", path]}
@@ -30,11 +32,11 @@ def runs(path):
 class Rows:
     """What was tried, a line each, and how many went wrong."""
 
-    def __init__(self, folder):
+    def __init__(self, folder: str) -> None:
         self.folder, self.wrong = folder, 0
         self.traces = shutil.which("strace") is not None
 
-    def changes(self, words):
+    def changes(self, words: List[str]) -> Tuple[int, List[str]]:
         """The exit code, and the calls that would change a file, of which the end's own line on standard error is none."""
         traced = ["strace", "-f", "-qq", "-o", f"{self.folder}/trace", "-e", f"trace={WRITES}"] if self.traces else []
         ran = subprocess.run([*traced, program(), *words], stdin=subprocess.DEVNULL, capture_output=True, timeout=60, check=False)
@@ -43,21 +45,21 @@ class Rows:
         with open(f"{self.folder}/trace", encoding="utf-8", errors="replace") as trace:
             return ran.returncode, [line for line in trace if "(" in line and "(2, " not in line]
 
-    def add(self, what, path, same=lambda: True):
+    def add(self, what: str, path: str, same: Callable[[], bool] = lambda: True) -> None:
         """Tries each command on what stands there, and on a link to it."""
         link = f"{self.folder}/link"
         os.symlink(path, link)
         for name, place in (("", path), (" by a link", link)):
             for command, words in runs(place).items():
                 code, calls = self.changes(words)
-                well = code == DISK_FAULT and not calls and same()
+                well = code == Code.DISK_FAULT and not calls and same()
                 self.wrong += not well
-                said = "" if well else f" in place of {DISK_FAULT}, {len(calls)} calls that write, {'as it was' if same() else 'changed'}"
+                said = "" if well else f" in place of {Code.DISK_FAULT:d}, {len(calls)} calls that write, {'as it was' if same() else 'changed'}"
                 print(f"{'' if well else 'WRONG: '}{command} on {what}{name}: {code}{said}")
         os.unlink(link)
 
 
-def try_block_device(rows):
+def try_block_device(rows: Rows) -> None:
     """A block device over a file of random bytes, which has to keep them."""
     backing, before = f"{rows.folder}/backing", os.urandom(LENGTH)
     pathlib.Path(backing).write_bytes(before)
@@ -72,7 +74,7 @@ def try_block_device(rows):
         subprocess.run(["losetup", "--detach", device], check=False)
 
 
-def main():
+def main() -> None:
     argparse.ArgumentParser(description=__doc__, formatter_class=argparse.RawDescriptionHelpFormatter).parse_args()
     with tempfile.TemporaryDirectory() as folder:
         rows = Rows(folder)
@@ -93,4 +95,4 @@ def main():
 
 
 if __name__ == "__main__":
-    main()
+    end(main)

@@ -4,73 +4,32 @@
 Each line rests on what the lines before it came to: how many messages there are, and which requests were answered. So the lines go to
 `replay` one by one, and the next is drawn once the program waits for it (Linux: /proc)."""
 
-import array
-import fcntl
 import hashlib
-import os
 import subprocess
 import sys
-import termios
+from typing import Dict, List
 
-from nozhgiva_tools.run.group import answer_help, program
-
-
-class Replay:
-    """The command `replay`, line by line."""
-
-    def __init__(self, program):
-        self.child = subprocess.Popen([program, "replay"], stdin=subprocess.PIPE, stdout=subprocess.PIPE, bufsize=0)
-        os.set_blocking(self.child.stdout.fileno(), False)
-        self.call = f"/proc/{self.child.pid}/syscall"
-
-    def waits(self):
-        """Whether all that it was given is read, and it waits in a read of its input."""
-        left = array.array("i", [0])
-        fcntl.ioctl(self.child.stdin.fileno(), termios.FIONREAD, left)
-        if left[0]:
-            return False
-        with open(self.call) as call:
-            words = call.read().split()
-        return words[:2] == ["0", "0x0"]
-
-    def taken(self):
-        try:
-            return os.read(self.child.stdout.fileno(), 1 << 20) or b""
-        except BlockingIOError:
-            return b""
-
-    def play(self, line):
-        self.child.stdin.write(line.encode() + b"\n")
-        text = b""
-        while not self.waits():
-            text += self.taken()
-            if self.child.poll() is not None:
-                sys.exit(f"replay ended with {self.child.returncode} at: {line}")
-        while more := self.taken():
-            text += more
-        return text
-
-    def end(self):
-        self.child.stdin.close()
-        if self.child.wait():
-            sys.exit(f"replay ended with {self.child.returncode}")
+from nozhgiva_tools.run.built import or_end as program
+from nozhgiva_tools.run.replays import Ended, Replay
+from nozhgiva_tools.run.scripts import answer_help
+from nozhgiva_tools.told.lines import applied_of, message_of, reply_of
 
 
 class Soak:
     """Draws lines, and sums up what they come to."""
 
-    def __init__(self, seed):
+    def __init__(self, seed: int) -> None:
         self.x = seed
         self.n = 2 + self.draw() % 5
-        self.answered = {}
+        self.answered: Dict[int, int] = {}
         self.messages = self.commits = self.view = self.done = self.kept_out = 0
         self.sum = hashlib.sha256()
 
-    def draw(self):
+    def draw(self) -> int:
         self.x = (self.x * 6364136223846793005 + 1442695040888963407) % 2**64
         return self.x >> 33
 
-    def request(self):
+    def request(self) -> str:
         replica, client = self.draw() % self.n, 1 + self.draw() % 4
         if client not in self.answered:
             return f"request {replica} {client} 0 register"
@@ -81,7 +40,7 @@ class Soak:
             operation += str(self.draw() % 1000)
         return f"request {replica} {client} {number} {operation}"
 
-    def line(self):
+    def line(self) -> str:
         kind = self.draw() % 64
         if kind < 10:
             return self.request()
@@ -94,27 +53,27 @@ class Soak:
         replica, sector = self.draw() % self.n, self.draw() % 1424
         return f"{['damage', 'stale', 'unread'][kind - 61]} {replica} {sector}"
 
-    def hear(self, text):
-        self.sum.update(text)
-        for line in text.decode().splitlines():
+    def hear(self, outputs: List[str]) -> None:
+        self.sum.update("".join(f"{line}\n" for line in outputs).encode())
+        for line in outputs:
             words = line.split()
-            self.messages += words[0] == "send"
-            self.commits += words[0] == "commit"
+            self.messages += message_of(words) is not None
+            self.commits += applied_of(words) is not None
             self.done += line == "done"
             self.kept_out += line == "kept out"
             # Whoever enters a view says so to all others, and whoever is recovered tells its view.
             if words[0] in ("send", "start") and "view" in words:
                 self.view = max(self.view, int(words[words.index("view") + 1]))
-            if words[0] == "reply" and words[6] == "op":
-                client, number = int(words[3]), int(words[5])
-                self.answered[client] = max(number, self.answered.get(client, 0))
+            reply = reply_of(words)
+            if reply is not None and reply.words[0] == "op":
+                self.answered[reply.client] = max(reply.request, self.answered.get(reply.client, 0))
 
-    def summary(self, count):
+    def summary(self, count: int) -> str:
         return (f"events {count}\nmessages {self.messages}\ncommits {self.commits}\nview {self.view}\ndone {self.done}\n"
                 f"kept out {self.kept_out}\nsum {self.sum.hexdigest()[:32]}\n")
 
 
-def main():
+def main() -> None:
     answer_help()
     if len(sys.argv) not in (3, 4) or not (sys.argv[1] + sys.argv[2]).isdigit() or not int(sys.argv[2]) or sys.argv[-1].startswith("-"):
         print(__doc__, file=sys.stderr)
@@ -122,12 +81,16 @@ def main():
     seed, count = int(sys.argv[1]), int(sys.argv[2])
     replay, soak = Replay(program()), Soak(seed)
     lines = [f"cluster {soak.n}"]
-    replay.play(lines[0])
-    for _ in range(count):
-        line = soak.line()
-        lines.append(line)
-        soak.hear(replay.play(line))
-    replay.end()
+    try:
+        replay.play(lines[0])
+        for _ in range(count):
+            lines.append(soak.line())
+            soak.hear(replay.play(lines[-1]))
+    except Ended as ended:
+        sys.exit(f"replay ended with {ended.status} at: {lines[-1]}")
+    status, said = replay.end()
+    if status:
+        sys.exit(f"replay ended with {status}: {said}")
     if len(sys.argv) > 3:
         with open(sys.argv[3], "w") as file:
             file.write("".join(line + "\n" for line in lines))

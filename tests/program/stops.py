@@ -17,7 +17,8 @@ import subprocess
 import sys
 from concurrent.futures import ThreadPoolExecutor
 
-from nozhgiva_tools.run.group import no_words, program as built
+from nozhgiva_tools.run.built import or_end as built
+from nozhgiva_tools.run.scripts import no_words
 
 # 33 entries of 7 calls, a checkpoint of 25, and a save of the superblock of 84.
 CALLS = 33 * 7 + 25 + 84

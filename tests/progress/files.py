@@ -6,6 +6,7 @@ Where that doesn't tell, the worse is taken: a quorum that is called whole is wh
 from typing import Dict, List, Optional
 
 from nozhgiva_tools.told import whole
+from nozhgiva_tools.told.lines import applied_of, message_of, owner_of
 
 from .group import Group, Sent
 from .pasts import Faults
@@ -56,12 +57,13 @@ def pass_entries(group: Group, opened: Dict[int, Opened]) -> None:
 def hear(opened: Dict[int, Opened], outputs: List[str]) -> None:
     for output in outputs:
         words = output.split(" ")
+        owner, message, applied = owner_of(words), message_of(words), applied_of(words)
         if words[0] == "start":
-            opened[int(words[1])].commit = int(words[words.index("commit") + 1])
-        elif words[0] == "commit":
-            opened[int(words[1])].applied.append(int(words[3]))
-        elif words[0] == "send" and int(words[2]) in opened:
-            hear_message(opened[int(words[2])], Sent(int(words[1]), int(words[2]), int(words[3]), words[4:]))
+            opened[owner].commit = int(words[words.index("commit") + 1])
+        elif applied is not None:
+            opened[owner].applied.append(applied.op)
+        elif message is not None and owner in opened:
+            hear_message(opened[owner], Sent(*message, words[4:]))
 
 
 def hear_message(one: Opened, message: Sent) -> None:

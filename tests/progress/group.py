@@ -3,7 +3,8 @@
 import random
 from typing import Callable, Dict, Iterable, List, NamedTuple, Optional, Set, Tuple
 
-from nozhgiva_tools.run.playing import member_of, Replay
+from nozhgiva_tools.run.playing import Replay
+from nozhgiva_tools.told.lines import applied_of, message_of, reply_of
 
 WAVES = 60  # of deliveries within a round, at most: what a delivery sends without delay arrives in the next wave
 
@@ -58,8 +59,9 @@ class Group:
 
     def hear(self, output: str) -> None:
         words = output.split(" ")
-        if words[0] == "send":
-            message = Sent(int(words[1]), int(words[2]), int(words[3]), words[4:])
+        found, applied = message_of(words), applied_of(words)
+        if found is not None:
+            message = Sent(*found, words[4:])
             self.sent.append(message)
             self.new.append(message)
             self.trace_head(message.sender, message)
@@ -67,9 +69,9 @@ class Group:
             self.running.discard(int(words[1]))
         elif words[0] == "start":
             self.running.add(int(words[1]))
-        elif words[0] == "commit":
-            traces = self.traces[member_of(output)]
-            traces.applied = max(traces.applied, int(words[3]))
+        elif applied is not None:
+            traces = self.traces[int(words[1])]
+            traces.applied = max(traces.applied, applied.op)
         elif words[0] == "choose":
             self.traces[int(words[1])].head = max(self.traces[int(words[1])].head, int(words[words.index("head") + 1]))
 
@@ -154,9 +156,9 @@ class Clients:
         """How many of them were answered."""
         answered = 0
         for output in outputs:
-            words = output.split(" ")
-            if words[0] == "reply" and words[6] == "op" and int(words[3]) in self.open:
-                del self.open[int(words[3])]
+            reply = reply_of(output.split(" "))
+            if reply is not None and reply.words[0] == "op" and reply.client in self.open:
+                del self.open[reply.client]
                 answered += 1
         return answered
 
@@ -167,6 +169,7 @@ def leader_of(rounds: Iterable[List[str]]) -> Optional[int]:
     for outputs in rounds:
         for output in outputs:
             words = output.split(" ")
-            if words[0] == "send" and words[4] == "commit":
-                told[int(words[2])] = told.get(int(words[2]), 0) + 1
+            message = message_of(words)
+            if message is not None and words[4] == "commit":
+                told[message.sender] = told.get(message.sender, 0) + 1
     return max(told, key=told.__getitem__) if told else None

@@ -7,7 +7,7 @@ import unittest
 from pathlib import Path
 from typing import Dict, IO, List, Optional
 
-from nozhgiva_tools.places import TOP
+from nozhgiva_tools.places import TOOLS, TOP
 from nozhgiva_tools.run import built
 
 NOZHGIVA = str(TOP / "nozhgiva")
@@ -35,7 +35,7 @@ def write_script(path: Path, text: str) -> Path:
 def copy_parts(folder: str) -> Path:
     """A tree that has the command and its parts, and a clone's sources as far as they are asked for."""
     top = Path(folder) / "tree"
-    shutil.copytree(TOP / "tools", top / "tools", ignore=shutil.ignore_patterns("__pycache__"))
+    shutil.copytree(TOOLS, top / "tools", ignore=shutil.ignore_patterns("__pycache__"))
     (top / "tests").mkdir()
     for name in ("nozhgiva", "VERSION", "tests/checks.txt", "tests/packages.txt"):
         shutil.copy(TOP / name, top / name)

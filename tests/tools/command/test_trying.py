@@ -10,7 +10,7 @@ from pathlib import Path
 from typing import Dict, List, Optional
 
 from nozhgiva_tools.command import checking
-from nozhgiva_tools.places import TOP
+from nozhgiva_tools.places import TESTS, TOP
 
 from .common import call
 
@@ -29,8 +29,8 @@ NOTHING = (
 )
 # What takes no words.
 WORDLESS = (
-    "tests/program/readme", "tests.program.closed_streams", "tests/program/crash", "tests.group.endless", "tests.program.full_disk", "tests.program.inspect_check",
-    "tests/program/migrate", "tests.program.no_memory", "tests.program.not_a_file", "tests.group.reads", "tests.group.second_process", "tests.group.silent", "tests.program.stops",
+    "tests.program.closed_streams", "tests.group.endless", "tests.program.full_disk", "tests.program.inspect_check",
+    "tests.program.no_memory", "tests.program.not_a_file", "tests.group.reads", "tests.group.second_process", "tests.group.silent", "tests.program.stops",
 )
 FOLDERS = ("bench", "operate", "packaging", "clients/go", "clients/vectors", "tests/program")
 
@@ -38,7 +38,7 @@ FOLDERS = ("bench", "operate", "packaging", "clients/go", "clients/vectors", "te
 def scripts() -> List[str]:
     """All that can be run of what tries, measures or operates: a new script or module is among them."""
     found = [f"{folder}/{one.name}" for folder in FOLDERS for one in (TOP / folder).iterdir() if one.is_file() and os.access(one, os.X_OK)]
-    modules = [path for path in (TOP / "tests").glob("**/*.py") if path.name == "__main__.py" or path.parent.name in ("program", "group")]
+    modules = [path for path in TESTS.glob("**/*.py") if path.name == "__main__.py" or path.parent.name in ("program", "group")]
     return sorted(found + [module_of(path) for path in modules if 'if __name__ == "__main__":' in path.read_text(encoding="utf-8")])
 
 

@@ -1,9 +1,11 @@
-"""A headless Chromium, steered over a pipe by its debugging protocol, with the standard library alone."""
+"""A headless Chromium, steered over a pipe by its debugging protocol, with the standard library alone; and how well what it shows is read."""
 
 import base64
 import contextlib
 import json
+import math
 import os
+import re
 import select
 import shutil
 import subprocess
@@ -19,6 +21,8 @@ TEXTS = {"Enter": "\r", "Space": " "}
 
 Told = Dict[str, Any]  # of JSON, whose form the browser's protocol has for each message
 Path = Union[str, "os.PathLike[str]"]
+Colour = List[float]
+"""Red, green and blue, from 0 to 1."""
 
 
 def find_browser() -> Optional[str]:
@@ -133,3 +137,19 @@ class Browser:
         data = self.call("Page.captureScreenshot", format="png")["data"]
         with open(path, "wb") as file:
             file.write(base64.b64decode(data))
+
+
+def parts_of(colour: str) -> Colour:
+    """Those of `#rrggbb` or `rgb(r, g, b)`."""
+    if colour.startswith("#"):
+        return [int(colour[at:at + 2], 16) / 255 for at in (1, 3, 5)]
+    return [int(number) / 255 for number in re.findall(r"\d+", colour)[:3]]
+
+
+def contrast(one: Colour, other: Colour) -> float:
+    """The ratio of two colours' brightness: how well one is read on the other, as the accessibility guidelines (WCAG 2) define it."""
+    def brightness(colour: Colour) -> float:
+        parts = [part / 12.92 if part <= 0.03928 else math.pow((part + 0.055) / 1.055, 2.4) for part in colour]
+        return 0.2126 * parts[0] + 0.7152 * parts[1] + 0.0722 * parts[2]
+    dark, light = sorted((brightness(one), brightness(other)))
+    return (light + 0.05) / (dark + 0.05)

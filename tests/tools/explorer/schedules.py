@@ -5,6 +5,7 @@ from pathlib import Path
 from typing import Callable, Dict, List, NamedTuple, Optional, Set, Tuple
 
 from nozhgiva_tools.run.playing import Replay
+from nozhgiva_tools.told.lines import owner_of
 
 KINDS = {"request": 5, "deliver": 30, "tick": 6, "stop": 0.4, "start": 2}
 
@@ -96,7 +97,7 @@ def write_members(folder: Path, size: int, steps: List[Played]) -> List[str]:
     for step in steps:
         for output in step.outputs:
             words = output.split()
-            member = int(words[2] if words[0] == "send" else words[1])
+            member = owner_of(words)
             if words[0] == "start":
                 numbers[member] = 0
             if words[0] == "send":

@@ -13,7 +13,7 @@ from nozhgiva_tools.pages.explorer import picture
 from nozhgiva_tools.pages.explorer.reading import read_run
 from nozhgiva_tools.places import EXAMPLES, words_of_module
 
-from .contrasts import contrast, parts_of
+from .browser import contrast, parts_of
 
 SVG = "{http://www.w3.org/2000/svg}"
 LETTER = 7.23  # the width of a letter of 12 pixels in the fonts named

@@ -12,7 +12,7 @@ from nozhgiva_tools.pages.explorer.members import merge_members, read_outputs
 from nozhgiva_tools.pages.explorer.reading import read_run, ShownRun
 from nozhgiva_tools.pages.explorer.rules import read_rules
 from nozhgiva_tools.places import EXAMPLES
-from nozhgiva_tools.told.memberlines import owner_of
+from nozhgiva_tools.told.lines import owner_of
 
 NODE = shutil.which("node")
 EXPLAINED = Path(__file__).with_name("explained.mjs")

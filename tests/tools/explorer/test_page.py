@@ -8,11 +8,11 @@ import unittest
 from pathlib import Path
 from typing import List, Tuple, Union
 
+from nozhgiva_tools.pages import explore
 from nozhgiva_tools.pages.explorer.rules import read_rules
 from nozhgiva_tools.places import EXAMPLES, TOOLS, words_of_module
 
-from .browser import Browser, find_browser
-from .contrasts import Colour, contrast, parts_of
+from .browser import Browser, Colour, contrast, find_browser, parts_of
 
 LIMIT = 2_000_000
 WORKED = ("view-change.txt", "damaged-copy.txt", "put-get.txt", "stop-between-writes.txt", "laggard.txt")
@@ -63,7 +63,7 @@ def read_text(path: Path) -> List[Tuple[str, List[str]]]:
 def make_page(folder: str, *words: Union[str, Path]) -> Path:
     page = Path(folder) / "run.html"
     with open(page, "wb") as file:
-        made = subprocess.run(words_of_module("nozhgiva_tools.pages.explore", *map(str, words)), stdout=file, stderr=subprocess.PIPE, check=False)
+        made = subprocess.run(words_of_module(explore, *map(str, words)), stdout=file, stderr=subprocess.PIPE, check=False)
     if made.returncode:
         raise AssertionError(made.stderr.decode())
     return page

@@ -11,11 +11,11 @@ import unittest
 from pathlib import Path
 from typing import Dict, Optional
 
-from nozhgiva_tools.places import TOP
+from nozhgiva_tools.places import BENCH
 
 from .test_making import FIGURES, has_ended
 
-SCRIPT = str(TOP / "bench" / "figures")
+SCRIPT = str(BENCH / "figures")
 # As valgrind --tool=callgrind: 7 calls of the compression at the start, and 3 for each line of the input or event after the first.
 VALGRIND = """#!/bin/sh
 for word; do

@@ -6,18 +6,18 @@ import subprocess
 import unittest
 from typing import Dict, Iterator, List, Set, Tuple
 
-from nozhgiva_tools.places import TOP
+from nozhgiva_tools.places import EXAMPLES, PACKAGING, TOOLS, TOP
 
 CHANGES_PATHS = re.compile(r"\bsys\.path(?:\.insert|\.append|\.extend|\[[^\]]*\] *\+?=| *\+?=)")
 ALONE = {"tools/__main__.py"}
 NAMES = {"tools": "nozhgiva_tools", "tests": "tests", "bench": "bench"}
 # What each folder's Python may import of the others.
 BELOW = {"tools": set(), "bench": {"tools"}, "tests": {"tools", "bench"}}  # type: Dict[str, Set[str]]
-# What each part of the package may import of the others; the table of the checks' runner is in `command`.
-PARTS: Dict[str, Set[str]] = {
-    "told": set(), "operate": {"told"}, "run": {"told", "operate", "command"}, "command": {"run", "operate"}, "pages": {"run", "told", "command"},
-    "house": {"command", "told", "run", "pages"},
-}
+# The parts of the package, from the lowest: each may import those before it, and `places`, and no part imports one behind it. `command` names modules of
+# all parts in its table of subcommands, and imports the one that is called.
+PARTS = ("told", "operate", "run", "command", "pages", "house")
+CALLED = re.compile(r"words_of_module\(\"([\w.]+)\"")
+NAMED = re.compile(r"\bTOP(?: /|,) \"(tests|tools|bench|packaging|operate|examples)\b")
 NO_TEST = re.compile(r"(^|/)(tests?|mutations|bench|house)(/|$)|_test\.|test_|(^|/)check")
 
 
@@ -54,12 +54,30 @@ class Tree(unittest.TestCase):
             part = path.split("/")[2] if path.startswith("tools/nozhgiva_tools/") else ""
             if part in PARTS:
                 called = (imports(text, "nozhgiva_tools") & set(PARTS)) - {part}
-                self.assertLessEqual(called, PARTS[part], path)
+                self.assertLessEqual(called, set(PARTS[:PARTS.index(part)]), path)
+
+    def test_what_another_folder_has_is_imported_or_named_once(self) -> None:
+        """A module of another folder is imported and handed to `words_of_module`; where folders are stands in places.py."""
+        for path, text in python():
+            own = path[:-len(".py")].replace("tools/nozhgiva_tools/", "nozhgiva_tools/").replace("/", ".")
+            called = {name for name in CALLED.findall(text) if not own.startswith(name.rpartition(".")[0] + ".")}
+            named = set(NAMED.findall(text)) - {path.split("/")[0]} if path != "tools/nozhgiva_tools/places.py" else set()
+            self.assertEqual((called, named), (set(), set()), path)
+
+    def test_the_order_has_all_parts(self) -> None:
+        found = {path.split("/")[2] for path, _ in python() if path.startswith("tools/nozhgiva_tools/") and path.count("/") > 2}
+        self.assertEqual(found, set(PARTS))
 
     def test_what_may_be_run_says_by_what(self) -> None:
         listed = subprocess.run(["git", "ls-files", "-s"], cwd=TOP, stdout=subprocess.PIPE, text=True, check=True).stdout.splitlines()
         programs = {path for mode, path in ((line.split()[0], line.split("\t")[1]) for line in listed) if mode == "100755"}
         self.assertEqual({path for path in programs if not (TOP / path).read_bytes().startswith(b"#!")}, set())
+
+    def test_each_example_has_a_line_on_its_page(self) -> None:
+        page = (EXAMPLES / "README.md").read_text(encoding="utf-8")
+        names = [path.name for path in EXAMPLES.iterdir() if path.name not in ("README.md", "__pycache__")]
+        self.assertGreater(len(names), 20)
+        self.assertEqual([name for name in names if not any(f"`{name}{end}" in page for end in "` /")], [])
 
     def test_each_top_folder_says_what_it_holds(self) -> None:
         folders = {path.split("/")[0] for path in files() if "/" in path} - {".ci", "docs", "clients"}
@@ -68,7 +86,7 @@ class Tree(unittest.TestCase):
 
 class Installed(unittest.TestCase):
     def patterns(self) -> List[str]:
-        lines = (TOP / "packaging" / "files.txt").read_text(encoding="utf-8").splitlines()
+        lines = (PACKAGING / "files.txt").read_text(encoding="utf-8").splitlines()
         return [line for line in lines if line and not line.startswith("#")]
 
     def test_each_line_names_files_and_no_test(self) -> None:
@@ -85,8 +103,8 @@ class Installed(unittest.TestCase):
             for found in re.finditer(r"(?m)^ *from (nozhgiva_tools[\w.]*|\.[\w.]*) import ([\w, ]+)$", (TOP / path).read_text(encoding="utf-8")):
                 base = found[1] if found[1].startswith("nozhgiva") else (package + found[1] if found[1] != "." else package)
                 for name in (word.split(" as ")[0].strip() for word in found[2].split(",")):
-                    self.assertTrue(base in modules and ((TOP / "tools" / (base.replace(".", "/") + ".py")).is_file() or f"{base}.{name}" in modules
-                                                         or (TOP / "tools" / base.replace(".", "/") / "__init__.py").read_text(encoding="utf-8").find(name) >= 0),
+                    self.assertTrue(base in modules and ((TOOLS / (base.replace(".", "/") + ".py")).is_file() or f"{base}.{name}" in modules
+                                                         or (TOOLS / base.replace(".", "/") / "__init__.py").read_text(encoding="utf-8").find(name) >= 0),
                                     f"{path}: {base}.{name}")
 
 

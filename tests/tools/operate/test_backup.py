@@ -14,7 +14,8 @@ from typing import Dict, IO, Iterable, List, Set, Tuple
 from nozhgiva_tools.operate import backups
 from nozhgiva_tools.places import OPERATE
 from nozhgiva_tools.run import built as program
-from nozhgiva_tools.run.ports import free_addresses
+from nozhgiva_tools.run.group import Group
+from nozhgiva_tools.run.nets import Net
 from nozhgiva_tools.told.datafile import Header
 from nozhgiva_tools.told.table import Session, Table
 
@@ -33,7 +34,7 @@ def keys_of(text: str) -> Dict[str, str]:
 
 
 def after(lines: Iterable[str]) -> Dict[str, str]:
-    """What a map of keys holds after these lines of a client."""
+    """What a map of keys holds after these lines of a client. Apart from `told.store` on purpose: backups are made by that, and it is judged here."""
     keys: Dict[str, str] = {}
     for words in (line.split(" ") for line in lines):
         if words[0] == "put":
@@ -43,17 +44,19 @@ def after(lines: Iterable[str]) -> Dict[str, str]:
     return keys
 
 
-class Members:
-    """A new group on loopback, each member with its file in a folder."""
+class Members(Group):
+    """A new group on loopback."""
 
-    def __init__(self, folder: str, cluster: int, count: int, *more: str) -> None:
-        self.cluster, self.more, self.addresses = cluster, more, free_addresses(count)
-        self.files = [os.path.join(folder, f"{cluster}.{member}") for member in range(count)]
-        self.children = [subprocess.Popen([program.PATH, "node", str(cluster), str(member), file, "100000000", *self.addresses, "--fresh", *more],
-                                          stdin=subprocess.DEVNULL, stdout=subprocess.DEVNULL) for member, file in enumerate(self.files)]
+    keeps_lines = False
 
-    def words(self) -> List[str]:
-        return [str(self.cluster), *self.addresses, *self.more]
+    def __init__(self, number: int, count: int, version: int) -> None:
+        super().__init__(Net(count), "", version=version, number=number)
+        self.files = [self.file(member) for member in range(count)]
+        self.start_all()
+
+    def of_group(self) -> List[str]:
+        """The words that name it to a script."""
+        return [str(self.number), *self.addresses, *self.of_version()]
 
     def begin(self, lines: List[str]) -> Tuple["subprocess.Popen[str]", IO[str]]:
         """A client, the first of its group, that asks these lines, and the file of its answers."""
@@ -61,21 +64,15 @@ class Members:
         with tempfile.TemporaryFile("w+") as given:
             given.write("".join(f"{line}\n" for line in lines))
             given.seek(0)
-            client = subprocess.Popen([program.PATH, "client", str(self.cluster), "7", "1000000", *self.addresses, *self.more], stdin=given, stdout=answers, text=True)
+            client = subprocess.Popen(self.asking(7), stdin=given, stdout=answers, text=True)
         return client, answers
 
-    def ask(self, lines: List[str]) -> List[str]:
-        client, file = self.begin(lines)
-        with file:
-            if client.wait():
-                raise AssertionError(f"the client ended with {client.returncode}")
-            file.seek(0)
-            return file.read().splitlines()[1:]
+    def answers(self, lines: List[str]) -> List[str]:
+        return self.ask(7, lines)[1:]
 
     def end(self) -> None:
-        for child in self.children:
-            child.kill()
-            child.wait()
+        for member in list(self.members):
+            self.kill(member)
 
 
 class Folder(unittest.TestCase):
@@ -94,9 +91,9 @@ class Folder(unittest.TestCase):
 
 @unittest.skipUnless(program.is_there(), program.MISSING)
 class Groups(Folder):
-    def members(self, cluster: int, count: int, *more: str) -> Members:
-        members = Members(self.folder, cluster, count, *more)
-        self.addCleanup(members.end)
+    def members(self, number: int, count: int, version: int = 1) -> Members:
+        members = Members(number, count, version)
+        self.addCleanup(members.close)
         return members
 
     def await_commit(self, file: str, op: int) -> None:
@@ -129,13 +126,13 @@ class Groups(Folder):
         has a member save a commit number above its checkpoint's."""
         lines = [f"del k{i % 7}" if i % 5 == 4 else f"put k{i % 29} v{i}" for i in range(130)] + [f"put long {'x' * 1024}"]
         old = self.members(5, 3)
-        self.assertNotIn("unknown", old.ask(lines))
+        self.assertNotIn("unknown", old.answers(lines))
         code, text, said = run("backup", old.files[0])
         op = int(text.splitlines()[3].split(" ")[1])
         self.assertEqual((code, keys_of(text)), (0, after(lines[:op - 1])), said)
         self.assertGreaterEqual(op, 128)
         self.assertIn(f"operations {op + 1} to {len(lines) + 1} stand above the commit number", said)
-        old.children[0].kill()
+        old.kill(0)
         self.await_commit(old.files[1], 129)
         code, text, said = run("backup", old.files[1])
         op = int(text.splitlines()[3].split(" ")[1])
@@ -148,19 +145,19 @@ class Groups(Folder):
         for file in old.files:
             os.unlink(file)
         new = self.members(6, 3)
-        code, text, said = run("restore", kept, *new.words())
+        code, text, said = run("restore", kept, *new.of_group())
         self.assertEqual((code, "may not be committed" in said), (0, True), said)
-        self.assertEqual(run("restore", kept, *new.words(), "--uncommitted")[0], 1)  # k.. has another value
-        code, text, said = run("restore", kept, *new.words(), "--uncommitted", "--over")
+        self.assertEqual(run("restore", kept, *new.of_group(), "--uncommitted")[0], 1)  # k.. has another value
+        code, text, said = run("restore", kept, *new.of_group(), "--uncommitted", "--over")
         self.assertEqual(code, 0, said)
         wanted = after(lines)
         names = sorted({line.split(" ")[1] for line in lines})
-        answers = new.ask([f"get {name}" for name in names])
+        answers = new.answers([f"get {name}" for name in names])
         self.assertEqual(answers, [f"value {wanted[name]}" if name in wanted else "absent" for name in names])
 
     def test_a_file_that_is_written_to_meanwhile(self) -> None:
         lines = [f"put k{i % 128} {'v' * (i % 700)}{i}" for i in range(60000)]
-        group = self.members(5, 1, "--v2")
+        group = self.members(5, 1, 2)
         client, answers = group.begin(lines)
         seen: Set[int] = set()
         while client.poll() is None and len(seen) < 5:
@@ -187,13 +184,13 @@ class Groups(Folder):
             self.assertRaises(backups.Unreadable, backups.read_file, file)
 
     def test_a_value_that_the_new_group_does_not_take(self) -> None:
-        old, new = self.members(5, 1, "--v2"), self.members(6, 2)
-        old.ask(["put short s", f"put long {'x' * 1025}"] + ["get short"] * 30)
+        old, new = self.members(5, 1, 2), self.members(6, 2)
+        old.answers(["put short s", f"put long {'x' * 1025}"] + ["get short"] * 30)
         kept = self.path("backup")
         self.assertEqual(run("backup", old.files[0], "--to", kept)[0], 0)
-        code, _, said = run("restore", kept, *new.words())
+        code, _, said = run("restore", kept, *new.of_group())
         self.assertEqual((code, said), (1, "restore: refused: a group of version 1 takes values of at most 1,024 bytes, and long has a longer one: make the new group of version 2, and say --v2\n"))
-        self.assertEqual(new.ask(["get short"]), ["absent"])
+        self.assertEqual(new.answers(["get short"]), ["absent"])
 
 
 class Texts(Folder):

@@ -15,7 +15,9 @@ from nozhgiva_tools.operate.founding import Ear, Heard, judge
 from nozhgiva_tools.operate.probing import HEADER
 from nozhgiva_tools.places import OPERATE
 from nozhgiva_tools.run import built as program
-from nozhgiva_tools.run.real import CLUSTER, Group, Net
+from nozhgiva_tools.run.group import NUMBER
+from nozhgiva_tools.run.keepers import Kept
+from nozhgiva_tools.run.nets import Net
 from nozhgiva_tools.told import datafile
 
 HERE = str(OPERATE)
@@ -24,7 +26,7 @@ HERE = str(OPERATE)
 PLACES = ["h:1", "h:2", "h:3"]
 
 
-def message(command: int, replica: int, op: int = 0, commit: int = 0, cluster: int = CLUSTER) -> bytes:
+def message(command: int, replica: int, op: int = 0, commit: int = 0, cluster: int = NUMBER) -> bytes:
     """As docs/FORMATS.md spells one without a body."""
     rest = HEADER.pack(b"", datafile.name(b""), b"", b"", cluster, 0, 0, 3, op, commit, HEADER.size, command, replica, 1, 0, 0, b"")[16:]
     return datafile.name(rest) + rest
@@ -42,7 +44,7 @@ class Judging(unittest.TestCase):
         ]
         for heard, why in rows:
             with self.subTest(str(heard)):
-                self.assertRegex(judge(CLUSTER, 1, PLACES, heard, ""), why)
+                self.assertRegex(judge(NUMBER, 1, PLACES, heard, ""), why)
 
     def test_what_members_send(self) -> None:
         rows: List[Tuple[List[bytes], Dict[int, Optional[int]], Optional[int]]] = [
@@ -62,8 +64,8 @@ class Judging(unittest.TestCase):
     def test_an_address_that_cant_be_heard(self) -> None:
         with socket.socket(socket.AF_INET, socket.SOCK_DGRAM) as one:
             one.bind(("127.0.0.1", 0))
-            self.assertRegex(Ear(CLUSTER, 3, f"127.0.0.1:{one.getsockname()[1]}").why, "is taken by another process")
-        self.assertRegex(Ear(CLUSTER, 3, "tcp:203.0.113.9:4000").why, "isn't of this machine")
+            self.assertRegex(Ear(NUMBER, 3, f"127.0.0.1:{one.getsockname()[1]}").why, "is taken by another process")
+        self.assertRegex(Ear(NUMBER, 3, "tcp:203.0.113.9:4000").why, "isn't of this machine")
 
 
 class Listening:
@@ -71,7 +73,7 @@ class Listening:
 
     def __enter__(self) -> "Listening":
         self.port = Net(9).hosts[8].rpartition(":")[2]
-        self.ear = Ear(CLUSTER, 3, f"tcp:127.0.0.1:{self.port}")
+        self.ear = Ear(NUMBER, 3, f"tcp:127.0.0.1:{self.port}")
         return self
 
     def hear(self, data: List[bytes]) -> None:
@@ -115,20 +117,20 @@ class Sectors(unittest.TestCase):
 
 @unittest.skipUnless(program.is_there(), program.MISSING)
 class Real(unittest.TestCase):
-    def make(self, group: Group, member: int, path: str, *more: str) -> Tuple[int, str]:
-        words = [os.path.join(HERE, "make-member"), "--program", group.program, str(CLUSTER), str(member), path] + group.addresses + list(more)
+    def make(self, group: Kept, member: int, path: str, *more: str) -> Tuple[int, str]:
+        words = [os.path.join(HERE, "make-member"), "--program", group.program, str(NUMBER), str(member), path] + group.addresses + list(more)
         made = subprocess.run(words, stdout=subprocess.DEVNULL, stderr=subprocess.PIPE, text=True)
         return made.returncode, made.stderr
 
-    def put(self, group: Group) -> None:
-        words = [os.path.join(HERE, "ask"), "--program", group.program, "--again", "--for", "120", str(CLUSTER)] + group.addresses
+    def put(self, group: Kept) -> None:
+        words = [os.path.join(HERE, "ask"), "--program", group.program, "--again", "--for", "120", str(NUMBER)] + group.addresses
         self.assertEqual(subprocess.run(words, input="put color green\n", capture_output=True, text=True).stdout, "ok\n")
 
     def test_a_member_that_was_killed_before_a_put_isnt_remade(self) -> None:
         for scheme in ("", "tcp:"):
             with self.subTest(scheme):
-                group = Group(3, Net(3), scheme, options=("--patience", "60"))
-                self.addCleanup(group.end)
+                group = Kept(Net(3), scheme, options=("--patience", "60"))
+                self.addCleanup(group.close)
                 group.start_all()
                 group.await_leader(120)
                 again = group.file(1) + ".again"
@@ -144,7 +146,7 @@ class Real(unittest.TestCase):
     def test_a_host_that_nobody_knows(self) -> None:
         with tempfile.TemporaryDirectory() as folder:
             path = os.path.join(folder, "0")
-            words = [os.path.join(HERE, "make-member"), "--program", program.PATH, str(CLUSTER), "0", path, Net(1).hosts[0], "host.invalid:4000"]
+            words = [os.path.join(HERE, "make-member"), "--program", program.PATH, str(NUMBER), "0", path, Net(1).hosts[0], "host.invalid:4000"]
             made = subprocess.run(words, capture_output=True, text=True)
             self.assert_refused((made.returncode, made.stderr), "refused: no host is known for host.invalid:4000", path)
 
@@ -155,8 +157,8 @@ class Real(unittest.TestCase):
     def test_members_of_a_new_group(self) -> None:
         """All before one is started, and the last one beside others whose log is empty."""
         with tempfile.TemporaryDirectory() as folder:
-            group = Group(3, Net(3), options=("--patience", "60"))
-            self.addCleanup(group.end)
+            group = Kept(Net(3), options=("--patience", "60"))
+            self.addCleanup(group.close)
             for member in range(3):
                 path = os.path.join(folder, str(member))
                 self.assertEqual(self.make(group, member, path)[0], 0)
@@ -169,5 +171,5 @@ class Real(unittest.TestCase):
 
     def test_nothing_is_waited_for_where_all_addresses_refuse(self) -> None:
         begun = time.monotonic()
-        self.assertEqual(founding.refusal(CLUSTER, 0, Net(8).hosts[5:], patience=30.0), "")
+        self.assertEqual(founding.refusal(NUMBER, 0, Net(8).hosts[5:], patience=30.0), "")
         self.assertLess(time.monotonic() - begun, 10)

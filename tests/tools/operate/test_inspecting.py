@@ -9,7 +9,10 @@ from typing import Dict, List, Tuple
 
 from nozhgiva_tools.places import OPERATE, words_of_module
 from nozhgiva_tools.run import built as program
+from nozhgiva_tools.run.group import Group
+from nozhgiva_tools.run.nets import Net
 from nozhgiva_tools.told import datafile
+from tests.program import inspect_check
 
 HERE = str(OPERATE)
 PUTS = 69  # and a register: the checkpoint is at 64, the head at 70
@@ -26,25 +29,24 @@ def prepare(op: int) -> int:
 @unittest.skipUnless(program.is_there(), program.MISSING)
 class Inspecting(unittest.TestCase):
     def test_whole_and_damaged_files(self) -> None:
-        made = subprocess.run(words_of_module("tests.program.inspect_check"), capture_output=True, text=True)
+        made = subprocess.run(words_of_module(inspect_check), capture_output=True, text=True)
         self.assertEqual(made.returncode, 0, made.stdout + made.stderr)
 
-    def file_of_one(self, folder: str) -> bytes:
+    def file_of_one(self) -> bytes:
         """The file of a group of one with PUTS puts."""
-        path, address = os.path.join(folder, "0"), "127.0.0.1:47100"
-        member = subprocess.Popen([program.PATH, "node", "5", "0", path, "100000", address, "--fresh", "--v2"], stdout=subprocess.DEVNULL)
-        lines = "".join(f"put k{i % 9} v{i}\n" for i in range(PUTS))
-        asked = subprocess.run([program.PATH, "client", "5", "7", "10000", address, "--v2"], input=lines, capture_output=True, text=True)
-        member.kill()
-        member.wait()
-        self.assertEqual(asked.stdout.count("ok\n"), PUTS)
-        with open(path, "rb") as file:
-            return file.read()
+        with Group(Net(1), "", version=2, program=program.PATH) as group:
+            group.start_all()
+            answers = group.ask(7, [f"put k{i % 9} v{i}" for i in range(PUTS)])
+            group.kill(0)
+            with open(group.file(0), "rb") as file:
+                data = file.read()
+        self.assertEqual(answers.count("ok"), PUTS)
+        return data
 
     def test_what_becomes_of_damage(self) -> None:
         """By docs/RULES.md (The opening, Visiting, ask): what is asked for, what waits until its slot is written, and what nothing stands on."""
         with tempfile.TemporaryDirectory(prefix="vr-inspect-") as folder:
-            whole, path = self.file_of_one(folder), os.path.join(folder, "damaged")
+            whole, path = self.file_of_one(), os.path.join(folder, "damaged")
             data = bytearray(whole)
             for at in (3 * datafile.COPY + 9, prepare(69) + 200, header_sector(70), header_sector(75), header_sector(128), prepare(40) + 200):
                 data[at] ^= 255
@@ -61,7 +63,7 @@ class Inspecting(unittest.TestCase):
 
     def test_what_a_whole_quorum_needs(self) -> None:
         with tempfile.TemporaryDirectory(prefix="vr-inspect-") as folder:
-            whole, path = self.file_of_one(folder), os.path.join(folder, "damaged")
+            whole, path = self.file_of_one(), os.path.join(folder, "damaged")
             root = int.from_bytes(whole[48:56], "big")
             fine = {"checkpoint": 64, "anchored": True, "missing": 0, "lost": [], "unknown": [], "last": 70}
             rows: List[Tuple[str, List[int], Dict[str, object]]] = [

@@ -16,7 +16,6 @@ import urllib.request
 from typing import Dict, List, Set
 
 from nozhgiva_tools.operate import metrics
-from nozhgiva_tools.places import TOP
 from nozhgiva_tools.run.ports import free_addresses
 
 from .test_keep import HERE, Keeping, Kept
@@ -153,7 +152,7 @@ class Rules(unittest.TestCase):
             return [target["expr"] for panel in json.load(file)["panels"] for target in panel["targets"]]
 
     def test_the_names_are_those_that_are_told(self) -> None:
-        with open(TOP / "tools/nozhgiva_tools/operate/metrics.py") as file:
+        with open(metrics.__file__, encoding="utf-8") as file:
             told = set(re.findall(r'(?:one|by_label|Metric)\("(\w+)", "(?:gauge|counter)"', file.read()))
         with open(os.path.join(FILES, "alerts.yml")) as file:
             self.assertLessEqual(names_in(file.read()), told)

@@ -12,9 +12,12 @@ from nozhgiva_tools.operate.migrating import File, HANDOVER, Hands, Walk
 from nozhgiva_tools.operate.rolling import Bounds, Stopped
 from nozhgiva_tools.places import DOCS, OPERATE, words_of_module
 from nozhgiva_tools.run import built as program
-from nozhgiva_tools.run.real import CLUSTER, Group, Net
+from nozhgiva_tools.run.group import NUMBER
+from nozhgiva_tools.run.keepers import Kept
+from nozhgiva_tools.run.nets import Net
 from nozhgiva_tools.told import datafile
-from tests.group.commanded import Commands
+from tests.group import killed
+from tests.group.killed import Commands
 
 HERE = str(OPERATE)
 Answer = TypeVar("Answer")
@@ -205,7 +208,7 @@ class Walking(unittest.TestCase):
 
 class Lock(unittest.TestCase):
     def test_a_walk_waits_for_the_commands_of_one_that_was_killed(self) -> None:
-        words = argparse.Namespace(cluster=CLUSTER, stop=f"stop {os.getpid()}", start="start", migrate="move")
+        words = argparse.Namespace(cluster=NUMBER, stop=f"stop {os.getpid()}", start="start", migrate="move")
         path = script.lock_path(words)
         self.assertNotEqual(path, script.lock_path(argparse.Namespace(**dict(vars(words), stop="stop"))))
         lock = script.take_lock(path)
@@ -235,11 +238,11 @@ file={{folder}}/$1
 
 @unittest.skipUnless(program.is_there(), program.MISSING)
 class Real(unittest.TestCase):
-    def ask(self, group: Group, lines: str, *more: str) -> str:
-        words = [os.path.join(HERE, "ask"), "--program", group.program, "--again", "--for", "120", str(CLUSTER)] + group.addresses + list(more)
+    def ask(self, group: Kept, lines: str, *more: str) -> str:
+        words = [os.path.join(HERE, "ask"), "--program", group.program, "--again", "--for", "120", str(NUMBER)] + group.addresses + list(more)
         return subprocess.run(words, input=lines, capture_output=True, text=True).stdout
 
-    def begin(self, group: Group) -> List[str]:
+    def begin(self, group: Kept) -> List[str]:
         """Starts the members by commands, and gives the words that move them."""
         commands = Commands(group, move=LOSSY)
         commands.start_all()
@@ -247,8 +250,8 @@ class Real(unittest.TestCase):
         return commands.words()
 
     def test_a_group_whose_first_member_loses_an_entry_in_its_move(self) -> None:
-        group = Group(3, Net(3))
-        self.addCleanup(group.end)
+        group = Kept(Net(3))
+        self.addCleanup(group.close)
         words = self.begin(group)
         group.await_leader(120)
         self.assertEqual(self.ask(group, "".join(f"put k{i} v{i}\n" for i in range(8))), "ok\n" * 8)
@@ -269,5 +272,5 @@ class Real(unittest.TestCase):
         self.assertEqual(self.ask(group, "get k1\nget k7\n", "--v2"), "value v1\nvalue v7\n")
 
     def test_walks_that_are_killed_are_run_again(self) -> None:
-        made = subprocess.run(words_of_module("tests.group.killed", "--short"), capture_output=True, text=True, env=dict(os.environ, NOZHGIVA_PROGRAM=program.PATH))
+        made = subprocess.run(words_of_module(killed, "--short"), capture_output=True, text=True, env=dict(os.environ, NOZHGIVA_PROGRAM=program.PATH))
         self.assertEqual(made.returncode, 0, made.stdout + made.stderr)

@@ -12,9 +12,10 @@ from nozhgiva_tools.operate import endings, noting
 from nozhgiva_tools.operate.judging import CORRUPT
 from nozhgiva_tools.operate.noting import Note
 from nozhgiva_tools.places import DOCS
-from nozhgiva_tools.run import built as program
+from nozhgiva_tools.run import built as program, keepers
+from nozhgiva_tools.run.group import NUMBER
+from nozhgiva_tools.run.nets import Net
 from nozhgiva_tools.run.ports import free_addresses
-from nozhgiva_tools.run.real import CLUSTER, Group, Net
 from nozhgiva_tools.told import datafile
 
 from .files import fresh
@@ -223,17 +224,17 @@ class Forgotten(unittest.TestCase):
     forgotten what it acknowledged, and only the member that comes back could know."""
 
     def setUp(self) -> None:
-        self.group = Group(3, Net(3))
-        self.addCleanup(self.group.end)
+        self.group = keepers.Kept(Net(3))
+        self.addCleanup(self.group.close)
 
     def put(self, client: int, value: str, count: int) -> None:
         lines = "".join(f"put k{number} {value}\n" for number in range(count))
-        words = [program.PATH, "client", str(CLUSTER), str(client), "100000", *self.group.addresses]
+        words = [program.PATH, "client", str(NUMBER), str(client), "100000", *self.group.addresses]
         made = subprocess.run(words, input=lines, capture_output=True, text=True)
         self.assertEqual(made.stdout.count("ok\n"), count, made.stdout)
 
     def status(self) -> Tuple[int, str]:
-        words = [os.path.join(HERE, "status"), str(CLUSTER), *self.group.addresses, "--sockets", os.path.join(self.group.folder, "{}.socket")]
+        words = [os.path.join(HERE, "status"), str(NUMBER), *self.group.addresses, "--sockets", os.path.join(self.group.folder, "{}.socket")]
         made = subprocess.run(words, capture_output=True, text=True)
         return made.returncode, made.stdout
 
@@ -258,7 +259,7 @@ class Forgotten(unittest.TestCase):
         group.stop(second)
         shutil.copy(group.file(second) + ".old", group.file(second))
         group.start(second)
-        self.assertEqual(group.keepers.pop(second).wait(30), endings.OLDER)
+        self.assertEqual(group.members.pop(second).wait(30), endings.OLDER)
         os.unlink(group.file(second) + ".keep")
         group.start(second)
         group.start(third)

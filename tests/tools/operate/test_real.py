@@ -11,7 +11,9 @@ from typing import Callable
 from nozhgiva_tools.operate import asking, vitals as health
 from nozhgiva_tools.places import OPERATE
 from nozhgiva_tools.run import built as program
-from nozhgiva_tools.run.real import CLUSTER, Group, Net
+from nozhgiva_tools.run.group import NUMBER
+from nozhgiva_tools.run.keepers import Kept
+from nozhgiva_tools.run.nets import Net
 from nozhgiva_tools.told import datafile
 
 HERE = str(OPERATE)
@@ -19,8 +21,8 @@ HERE = str(OPERATE)
 
 @unittest.skipUnless(program.is_there(), program.MISSING)
 class Real(unittest.TestCase):
-    def ask(self, group: Group, lines: str) -> str:
-        words = [os.path.join(HERE, "ask"), "--program", group.program, "--again", "--for", "120", str(CLUSTER)] + group.addresses
+    def ask(self, group: Kept, lines: str) -> str:
+        words = [os.path.join(HERE, "ask"), "--program", group.program, "--again", "--for", "120", str(NUMBER)] + group.addresses
         return subprocess.run(words, input=lines, capture_output=True, text=True).stdout
 
     def until(self, what: Callable[[], bool], seconds: float = 120.0) -> None:
@@ -31,8 +33,8 @@ class Real(unittest.TestCase):
 
     def test_two_members_whose_files_cant_tell_of_a_slot(self) -> None:
         """Each alone denies nothing of it; once its slots are written anew the group goes on without the member that led."""
-        group = Group(3, Net(3), options=("--patience", "60", "--renew", "0.02"))
-        self.addCleanup(group.end)
+        group = Kept(Net(3), options=("--patience", "60", "--renew", "0.02"))
+        self.addCleanup(group.close)
         group.start_all()
         group.await_leader(120)
         self.assertEqual(self.ask(group, "put color green\n"), "ok\n")
@@ -54,7 +56,7 @@ class Real(unittest.TestCase):
     def test_a_group_of_one(self) -> None:
         with tempfile.TemporaryDirectory(prefix="vr-one-") as folder:
             path, address = os.path.join(folder, "0"), Net(1).hosts[0]
-            words = ["--program", program.PATH, str(CLUSTER), "0", path, address]
+            words = ["--program", program.PATH, str(NUMBER), "0", path, address]
             for code, more in ((0, ["--v2"]), (1, ["--v2"])):
                 self.assertEqual(subprocess.run([os.path.join(HERE, "make-member")] + words + more, capture_output=True).returncode, code)
             child = subprocess.Popen([os.path.join(HERE, "keep")] + words, stderr=subprocess.DEVNULL)
@@ -69,8 +71,8 @@ class Real(unittest.TestCase):
             self.assertEqual(child.wait(30), 0)
 
     def test_a_kill_and_a_roll(self) -> None:
-        group = Group(3, Net(3), options=("--patience", "60"))
-        self.addCleanup(group.end)
+        group = Kept(Net(3), options=("--patience", "60"))
+        self.addCleanup(group.close)
         group.start_all()
         group.await_leader(120)
         self.assertEqual(self.ask(group, "put color green\nget color\n"), "ok\nvalue green\n")

@@ -9,8 +9,9 @@ import unittest
 from nozhgiva_tools.operate.policy import PATIENCE
 from nozhgiva_tools.places import EXAMPLES, OPERATE, words_of_module
 from nozhgiva_tools.run import built as program, standing
-from nozhgiva_tools.run.kept import Keepers
 from nozhgiva_tools.run.playing import Client, Group, Replay
+from nozhgiva_tools.run.standing import Keepers
+from tests import progress
 
 HERE = str(OPERATE)
 SLOW = 0.15  # seconds of a sync
@@ -44,7 +45,7 @@ class Standing(unittest.TestCase):
         folder = str(EXAMPLES / "standstills")
         for name, lacking in dict(self.LASTING, **{"backup-past-the-primarys-commit-number": None, "primary-lacks-a-forgotten-entry": None, "entry-of-a-dead-member": None}).items():
             with self.subTest(name):
-                words = [*words_of_module("tests.progress"), "--never", "--rounds", "30", "--play", os.path.join(folder, name + ".txt")]
+                words = [*words_of_module(progress), "--never", "--rounds", "30", "--play", os.path.join(folder, name + ".txt")]
                 made = subprocess.run(words, capture_output=True, text=True)
                 self.assertEqual(made.returncode, 1 if lacking is None else 0, made.stdout + made.stderr)
                 self.assertIn(" whole: " if lacking is None else f"not whole: {lacking};", made.stdout)

@@ -7,7 +7,7 @@ import tempfile
 import unittest
 from typing import List, Tuple
 
-from nozhgiva_tools.places import OPERATE
+from nozhgiva_tools.places import OPERATE, PACKAGING
 
 HERE = str(OPERATE)
 UNREAD = 141
@@ -57,7 +57,7 @@ class Scripts(unittest.TestCase):
 
 class Unit(unittest.TestCase):
     def test_the_sample_of_the_groups_file_is_read_by_a_shell(self) -> None:
-        with open(os.path.join(HERE, "..", "packaging", "nozhgiva@.service")) as file:
+        with open(PACKAGING / "nozhgiva@.service", encoding="utf-8") as file:
             lines = [line[4:] for line in file if line.startswith(("#   CLUSTER=", "#   ADDRS="))]
         self.assertEqual(len(lines), 2)
         with tempfile.NamedTemporaryFile("w") as sample:
@@ -67,7 +67,7 @@ class Unit(unittest.TestCase):
         self.assertEqual((made.stdout, made.stderr), ("4 5 10.0.0.3:4000\n", ""))
 
     def test_a_reload_opens_the_log_anew_and_no_start_makes_a_member(self) -> None:
-        with open(os.path.join(HERE, "..", "packaging", "nozhgiva@.service")) as file:
+        with open(PACKAGING / "nozhgiva@.service", encoding="utf-8") as file:
             words = [line.strip() for line in file if not line.startswith("#")]
         self.assertIn("ExecReload=kill -HUP $MAINPID", words)
         self.assertFalse(any("--fresh" in line or "make-member" in line for line in words))

@@ -18,7 +18,9 @@ from nozhgiva_tools.operate.telling import stop_lines, table
 from nozhgiva_tools.places import OPERATE
 from nozhgiva_tools.run import built as program
 from nozhgiva_tools.run.ports import free_addresses
-from nozhgiva_tools.run.real import CLUSTER, Group, Net
+from nozhgiva_tools.run.group import NUMBER
+from nozhgiva_tools.run.keepers import Kept
+from nozhgiva_tools.run.nets import Net
 
 HERE = str(OPERATE)
 
@@ -124,11 +126,11 @@ class Judging(unittest.TestCase):
 
 @unittest.skipUnless(program.is_there(), program.MISSING)
 class Real(unittest.TestCase):
-    def status(self, group: Group, *more: str, cluster: int = CLUSTER) -> Tuple[int, GroupTold]:
+    def status(self, group: Kept, *more: str, cluster: int = NUMBER) -> Tuple[int, GroupTold]:
         made = subprocess.run([os.path.join(HERE, "status"), str(cluster)] + group.addresses + ["--json", *more], capture_output=True, text=True)
         return made.returncode, json.loads(made.stdout)
 
-    def until(self, code: int, group: Group, *more: str, what: Callable[[GroupTold], bool] = lambda told: True) -> GroupTold:
+    def until(self, code: int, group: Kept, *more: str, what: Callable[[GroupTold], bool] = lambda told: True) -> GroupTold:
         """Looks until it ends with a code, and tells this."""
         end = time.monotonic() + 60
         while True:
@@ -138,8 +140,8 @@ class Real(unittest.TestCase):
             self.assertLess(time.monotonic(), end, told)
 
     def test_three_members_by_their_keepers_ports(self) -> None:
-        ports, group = free_addresses(3), Group(3, Net(3), options=("--patience", "60"))
-        self.addCleanup(group.end)
+        ports, group = free_addresses(3), Kept(Net(3), options=("--patience", "60"))
+        self.addCleanup(group.close)
         for member in range(3):
             group.options = ["--patience", "60", "--health", ports[member]]
             group.start(member)
@@ -152,12 +154,12 @@ class Real(unittest.TestCase):
         told = self.until(WELL, group, *keepers, what=lambda told: all(member["may_be_stopped"] for member in told["members"]))
         self.assertEqual((told["whole_quorums"], told["with_state"]), ([[0, 1], [0, 2], [1, 2]], [0, 1, 2]))
         puts = "".join(f"put k{number} v\n" for number in range(40))
-        subprocess.run([group.program, "client", str(CLUSTER), "7", "100000"] + group.addresses, input=puts, text=True, stdout=subprocess.DEVNULL, check=True)
+        subprocess.run([group.program, "client", str(NUMBER), "7", "100000"] + group.addresses, input=puts, text=True, stdout=subprocess.DEVNULL, check=True)
         told = self.until(WELL, group, *keepers, what=lambda told: all(member["root"] for member in told["members"]))
         self.assertEqual(len({member["root"] for member in told["members"]}), 1)
         self.until(0, group, *keepers, "--may-stop", str(leader))
         self.assertEqual(self.until(WELL, group)["leader"], leader)
-        self.assertEqual(self.status(group, "--wait", "0.5", cluster=CLUSTER + 1)[0], UNKNOWN)
+        self.assertEqual(self.status(group, "--wait", "0.5", cluster=NUMBER + 1)[0], UNKNOWN)
         group.signal(follower, signal.SIGSTOP)
         self.until(AILS, group, *keepers, what=lambda told: (told["members"][follower]["state"], told["members"][follower]["well"]) == ("hangs", "hangs"))
         self.until(1, group, *keepers, "--may-stop", str(leader), what=lambda told: [reason["name"] for reason in told["members"][leader]["why_not"]] == ["few"])
@@ -169,8 +171,8 @@ class Real(unittest.TestCase):
 
     def test_strangers_at_the_port(self) -> None:
         """Who connects and is silent, reads slowly or sends garbage keeps nobody from an answer, and the answer is the same."""
-        port, group = free_addresses(1)[0], Group(2, Net(2), "tcp:", ("--patience", "60"))
-        self.addCleanup(group.end)
+        port, group = free_addresses(1)[0], Kept(Net(2), "tcp:", ("--patience", "60"))
+        self.addCleanup(group.close)
         group.options += ["--health", port]
         group.start(0)
         end, place = time.monotonic() + 60, ("127.0.0.1", int(port.split(":")[1]))

@@ -7,6 +7,7 @@ import tempfile
 from pathlib import Path
 from typing import List
 
+from nozhgiva_tools.pages import play
 from nozhgiva_tools.pages.player.building import kept_path, Missing
 from nozhgiva_tools.places import words_of_module
 from nozhgiva_tools.run import built
@@ -45,7 +46,7 @@ def made(*words: str) -> Path:
     """What ./nozhgiva play writes, as a file."""
     path = Path(FOLDER.name) / (words[0].strip("-") if words else "play.html")
     with open(path, "wb") as file:
-        subprocess.run(words_of_module("nozhgiva_tools.pages.play", *words), stdout=file, check=True)
+        subprocess.run(words_of_module(play, *words), stdout=file, check=True)
     return path
 
 

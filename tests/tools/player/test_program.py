@@ -12,6 +12,7 @@ from pathlib import Path
 from typing import Any, List, Tuple
 
 from nozhgiva_tools.places import EXAMPLES, words_of_module
+from tests.program import soak_check
 
 from .making import LONG, NODE, NODE_REASON, NODE_WORDS, PROGRAM, WASM
 from .schedules import schedule
@@ -101,7 +102,7 @@ class SameBytes(unittest.TestCase):
 
     def long_schedule(self) -> Path:
         path = self.folder / "long.txt"
-        subprocess.run(words_of_module("tests.program.soak_check", "7", "2000", str(path)), env={**os.environ, "NOZHGIVA_PROGRAM": PROGRAM}, check=True, capture_output=True)
+        subprocess.run(words_of_module(soak_check, "7", "2000", str(path)), env={**os.environ, "NOZHGIVA_PROGRAM": PROGRAM}, check=True, capture_output=True)
         return path
 
 

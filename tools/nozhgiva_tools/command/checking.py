@@ -12,10 +12,9 @@ import time
 from pathlib import Path
 from typing import Callable, Dict, FrozenSet, List, NamedTuple, Optional, Sequence, Tuple
 
-from nozhgiva_tools.places import NOZHGIVA, TOP, words_of_module
+from nozhgiva_tools.places import CHECKS, NOZHGIVA, words_of_module
 from nozhgiva_tools.run import program
 
-TABLE = TOP / "tests" / "checks.txt"
 QUICK, TIME, SLOW, NAMED = "quick", "time", "slow", "named"
 MARKS = frozenset((QUICK, TIME, SLOW, NAMED))
 PYTEST = "pytest"
@@ -40,7 +39,7 @@ def words_of(text: str) -> Tuple[str, ...]:
     return () if text == "-" else tuple(text.split(","))
 
 
-def read_table(path: Path = TABLE) -> List[Check]:
+def read_table(path: Path = CHECKS) -> List[Check]:
     checks = []
     for line in path.read_text(encoding="utf-8").splitlines():
         if line and not line.startswith("#"):

@@ -3,6 +3,8 @@
 import os
 from typing import List, NamedTuple, Optional, Tuple
 
+from nozhgiva_tools.told.ends import Code, TEXTS
+
 Codes = Tuple[Tuple[str, str], ...]
 
 BUILDING, PLAYING, RUNNING, OPERATING = "Build and test (in a clone)", "Play a schedule", "Run and ask a group", "Look after a group"
@@ -10,18 +12,28 @@ KEEPING = "Keep the repository in order (in a clone)"
 GROUPS = (BUILDING, PLAYING, RUNNING, OPERATING, KEEPING)
 OF_CLONES = (BUILDING, KEEPING)
 
+
+def ends(code: Code, text: str = "") -> Tuple[str, str]:
+    """An exit code of the program, with what it means, or with its own text."""
+    return str(int(code)), text or TEXTS[code]
+
+
 WORDS = ("2", "the words are wrong, or what it needs is missing")
 CHECKED: Codes = (("0", "all is as it should be"), ("1", "it isn't"), WORDS)
-USAGE = ("2", "the words are none of its forms")
-DONE = ("0", "done: the turns are over, or all lines are answered")
-OUTPUT = ("6", "standard output can't be written")
-MEMORY = ("11", "no memory")
-NO_ANSWER = ("13", "no answer came in the turns of one line; whether it was executed isn't known")
+USAGE = ends(Code.USAGE, "the words are none of its forms")
+DONE = ends(Code.DONE, "done: the turns are over, or all lines are answered")
+OUTPUT = ends(Code.WRITE_FAULT, "standard output can't be written")
+MEMORY = ends(Code.NO_MEMORY)
+INPUT = ends(Code.READ_FAULT, "standard input can't be read")
+OVER = ends(Code.SESSION_LOST, "the session is over")
+LINK = ends(Code.LINK_FAULT, "an address can't be used")
+OCCUPIED = ends(Code.OCCUPIED, "the file holds a member already")
+NO_ANSWER = ends(Code.NO_ANSWER, "no answer came in the turns of one line; whether it was executed isn't known")
 COST: Codes = (("0", "told"), ("2", "the words are wrong"), ("others", "those of COMMAND"))
 FILE_CODES: Codes = (
-    ("7", "the data file: another process has it, or a call on it failed"),
-    ("9", "the file is no member's, or more of its superblock is damaged than may be"),
-    ("10", "the file is that of another member"),
+    ends(Code.DISK_FAULT, "the data file: another process has it, or a call on it failed"),
+    ends(Code.SUPER_LOST, "the file is no member's, or more of its superblock is damaged than may be"),
+    ends(Code.OTHER_MEMBER, "the file is that of another member"),
 )
 
 
@@ -63,7 +75,7 @@ COMMANDS: Tuple[Command, ...] = (
             (("0", "each line was taken"), ("1", "it can't be built"), WORDS, ("3", "a line is refused: it says why")), "nozhgiva_tools.command.run", "[--whole] [EXAMPLE]",
             (("--whole", "print comments and empty lines too, where they stand"), ("EXAMPLE", "a file, or the name of one in examples/; without it the lines come from standard input"))),
     Command("replay", PLAYING, "plays a schedule without comments from standard input, and writes what the replicas put out", "printf 'cluster 2\\ntick 0\\n' | nozhgiva replay",
-            (("0", "each line was taken"), USAGE, ("3", "a line is refused"), ("5", "standard input can't be read"), OUTPUT, MEMORY), usage="< SCHEDULE"),
+            (("0", "each line was taken"), USAGE, ends(Code.REFUSED, "a line is refused"), INPUT, OUTPUT, MEMORY), usage="< SCHEDULE"),
     Command("soak", PLAYING, "makes a schedule from a number, plays it, and writes a summary", "nozhgiva soak 7 2000", (("0", "done"), USAGE, OUTPUT, MEMORY), usage="SEED COUNT",
             words=(("SEED", "the number"), ("COUNT", "how many events"))),
     Command("explore", PLAYING, "makes a page of a run, one file that any browser shows, on standard output", "nozhgiva explore examples/damaged-copy.txt > run.html",
@@ -77,18 +89,18 @@ COMMANDS: Tuple[Command, ...] = (
             needs_program=True),
     Command("node", RUNNING, "runs one member of a group on a data file",
             "nozhgiva node 5 0 /var/lib/nozhgiva/0 18446744073709551615 10.0.0.1:4000 10.0.0.2:4000 10.0.0.3:4000 > /dev/null",
-            (DONE, USAGE, OUTPUT, *FILE_CODES[:1], ("8", "an address can't be used, or receiving failed"), *FILE_CODES[1:], MEMORY, ("12", "the file holds a member already")),
+            (DONE, USAGE, OUTPUT, *FILE_CODES[:1], ends(Code.LINK_FAULT, "an address can't be used, or receiving failed"), *FILE_CODES[1:], MEMORY, OCCUPIED),
             usage="CLUSTER REPLICA FILE TURNS ADDR.. [--fresh [--careful] [--v2]]",
             words=(CLUSTER, ("REPLICA", "the member's number in it, from 0"), ("FILE", "the member's data file"), TURNS, ADDRESSES, ("--fresh", "make the file, once; it holds a new member then"),
                    ("--careful", "a careful file (docs/NODE.md says which to choose)"), ("--v2", "a file of version 2, as all of its group have to be")), tells_program=True),
     Command("client", RUNNING, "asks a group the lines of standard input: put KEY VALUE, get KEY, del KEY",
             "printf 'put a 1\\nget a\\n' | nozhgiva client 5 1 100000 127.0.0.1:4000 127.0.0.1:4001 127.0.0.1:4002",
-            (DONE, USAGE, ("3", "a line is none of the three forms"), ("4", "the session is over"), ("5", "standard input can't be read"), OUTPUT, ("8", "an address can't be used"), MEMORY,
+            (DONE, USAGE, ends(Code.REFUSED, "a line is none of the three forms"), OVER, INPUT, OUTPUT, LINK, MEMORY,
              NO_ANSWER),
             usage="CLUSTER ID TURNS ADDR.. [--v2]", words=(CLUSTER, ("ID", "the client's number, which no other client ever has"), TURNS, ADDRESSES, VERSION_2)),
     Command("trial", RUNNING, "starts a group on this machine, stops its primary, asks, and ends it",
             "nozhgiva trial 5 10000 /tmp/trial. 127.0.0.1:4000 127.0.0.1:4001 127.0.0.1:4002",
-            (DONE, USAGE, ("4", "the session is over"), OUTPUT, ("8", "an address can't be used"), MEMORY, NO_ANSWER, ("14", "a member couldn't be started or ended")),
+            (DONE, USAGE, OVER, OUTPUT, LINK, MEMORY, NO_ANSWER, ends(Code.SPAWN_FAULT, "a member couldn't be started or ended")),
             usage="CLUSTER TURNS FILES ADDR..", words=(CLUSTER, TURNS, ("FILES", "what the members' files begin with; a member's number follows"), ADDRESSES)),
     Command("migrate", RUNNING, "makes a member's data file one of version 2; there is no way back", "nozhgiva migrate 5 0 3 /var/lib/nozhgiva/0",
             (("0", "the file is of version 2"), USAGE, *FILE_CODES, MEMORY), usage="CLUSTER REPLICA N FILE",

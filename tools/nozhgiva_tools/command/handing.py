@@ -1,6 +1,5 @@
 """Runs the program for one of its own words: input, output, exit code and signals are the program's; what a code means is said after it."""
 
-import ctypes
 import os
 import resource
 import signal
@@ -8,21 +7,9 @@ import subprocess
 import sys
 from typing import Callable, List, Optional
 
+from nozhgiva_tools.run.program import end_with_parent, FORWARDED
+
 from . import meanings
-
-DEATH_SIGNAL = 1  # PR_SET_PDEATHSIG of prctl
-FORWARDED = (signal.SIGTERM, signal.SIGINT, signal.SIGHUP, signal.SIGQUIT, signal.SIGUSR1, signal.SIGUSR2)
-
-
-def end_with_parent() -> None:
-    """In the child: it is killed where its parent is, since nothing can be passed on then; and it hears signals again. A data file that it makes holds all
-    keys and values, and is for its owner alone."""
-    os.umask(0o077)
-    try:
-        ctypes.CDLL(None).prctl(DEATH_SIGNAL, signal.SIGKILL)
-    except (OSError, AttributeError):
-        pass
-    signal.pthread_sigmask(signal.SIG_UNBLOCK, FORWARDED)
 
 
 def passes_on(child: "subprocess.Popen[bytes]") -> Callable[[int, object], None]:

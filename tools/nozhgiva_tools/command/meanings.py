@@ -6,7 +6,9 @@ import resource
 import signal
 import socket
 import stat
-from typing import Dict, List, NamedTuple, Optional, Tuple
+from typing import Callable, Dict, List, NamedTuple, Optional, Tuple
+
+from nozhgiva_tools.told.ends import Code
 
 from . import schedule
 
@@ -49,26 +51,26 @@ def of(name: str, words: List[str], status: int, kind: str, seen: Seen) -> Optio
     """The sentence for a status; None where it needs none, or nothing is known."""
     if status < 0:
         return of_signal(-status, kind)
-    if status == 2:
+    if status == Code.USAGE:
         return f"the words are none of its forms: nozhgiva {name} --help"
     file = file_of(name, words)
-    if file is not None and status in (7, 9, 12):
-        return {7: why_no_file, 9: why_lost, 12: why_occupied}[status](file, seen)
-    if status == 8:
+    if file is not None and status in OF_FILES:
+        return OF_FILES[status](file, seen)
+    if status == Code.LINK_FAULT:
         return why_no_link(name, addresses_of(name, words))
-    if status == 3:
+    if status == Code.REFUSED:
         return why_refused(name, seen.input_at)
-    if status in (5, 6):
-        return why_no_stream(status == 6)
+    if status in (Code.READ_FAULT, Code.WRITE_FAULT):
+        return why_no_stream(status == Code.WRITE_FAULT)
     return PLAIN.get(status)
 
 
 PLAIN: Dict[int, str] = {
-    4: "the session is over: ask with another number, and look by a get whether a put is there",
-    10: "the words say another group, number or size than the file: `found` is the file's, `asked` is the words'",
-    11: "no memory was left: see `free`, and `ulimit -v`; a member takes some 3 MB",
-    13: "fewer members than are needed answered in the turns of one line, or they are of the other version (--v2); whether it was executed isn't known",
-    14: "a member couldn't be started or ended: is the program still where it was, and are there processes and memory left (`ulimit -u`)?",
+    Code.SESSION_LOST: "the session is over: ask with another number, and look by a get whether a put is there",
+    Code.OTHER_MEMBER: "the words say another group, number or size than the file: `found` is the file's, `asked` is the words'",
+    Code.NO_MEMORY: "no memory was left: see `free`, and `ulimit -v`; a member takes some 3 MB",
+    Code.NO_ANSWER: "fewer members than are needed answered in the turns of one line, or they are of the other version (--v2); whether it was executed isn't known",
+    Code.SPAWN_FAULT: "a member couldn't be started or ended: is the program still where it was, and are there processes and memory left (`ulimit -u`)?",
 }
 
 
@@ -157,6 +159,9 @@ def why_lost(file: str, seen: Seen) -> str:
 
 def why_occupied(file: str, _: Seen) -> str:
     return f"{file} holds a member already: leave --fresh out"
+
+
+OF_FILES: Dict[int, Callable[[str, Seen], str]] = {Code.DISK_FAULT: why_no_file, Code.SUPER_LOST: why_lost, Code.OCCUPIED: why_occupied}
 
 
 def split_address(address: str) -> Tuple[str, Optional[int]]:

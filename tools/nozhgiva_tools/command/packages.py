@@ -10,11 +10,10 @@ import time
 from pathlib import Path
 from typing import AbstractSet, Callable, Dict, FrozenSet, Iterable, List, NamedTuple, Optional, Sequence, Set
 
-from nozhgiva_tools.places import TOP
+from nozhgiva_tools.places import PACKAGES
 
 from . import checking
 
-LIST = TOP / "tests" / "packages.txt"
 MUST, MAY = "must", "may"
 FETCH, UNPACK = 300.0, 300.0  # seconds at most: for all that is fetched, and for each time that something is unpacked
 SILENCE, LOCK = 20, 30  # seconds: a registry that sends nothing for so long is out of reach; so long another apt is waited for
@@ -33,7 +32,7 @@ class Package(NamedTuple):
     checks: FrozenSet[str]
 
 
-def read_list(path: Path = LIST) -> List[Package]:
+def read_list(path: Path = PACKAGES) -> List[Package]:
     found = []
     for line in path.read_text(encoding="utf-8").splitlines():
         if line and not line.startswith("#"):

@@ -3,12 +3,13 @@
 import re
 from typing import Callable, Dict, List, NamedTuple, Optional, Tuple
 
+from nozhgiva_tools.told import store
+
 MOST_LINES = 1000000
 MOST_KEY = 64
 # By the version of a group's files: the longest line, the longest value, and how many sectors may be named.
 MOST_LINE, MOST_VALUE, SECTORS = {1: 1135, 2: 3111}, {1: 1024, 2: 3000}, {1: 1424, 2: 3984}
 NUMBER = re.compile(r"0|[1-9][0-9]*")
-OPERATIONS: Dict[str, Tuple[str, ...]] = {"register": (), "put": ("KEY", "VALUE"), "get": ("KEY",), "del": ("KEY",)}
 FORMS: Dict[str, Tuple[str, ...]] = {
     "deliver": ("X",), "tick": ("R",), "stop": ("R",), "start": ("R",), "migrate": ("R",), "fuse": ("R", "J", "CODE"), "damage": ("R", "S"), "stale": ("R", "S"),
     "unread": ("R", "S"), "misdirect": ("R", "S", "T"),
@@ -97,11 +98,11 @@ def why_request(words: List[str], group: Group) -> Optional[str]:
     if why:
         return why
     name = words[4] if len(words) > 4 else ""
-    if name not in OPERATIONS:
+    if name not in store.FORMS:
         return "behind `request R C Q` stands register, put KEY VALUE, get KEY or del KEY"
     if (words[3] == "0") != (name == "register"):
         return "number 0 stands with register, and with nothing else"
-    return why_words(words[4:], OPERATIONS[name], group)
+    return why_words(words[4:], store.FORMS[name], group)
 
 
 def why_words(words: List[str], names: Tuple[str, ...], group: Group) -> Optional[str]:

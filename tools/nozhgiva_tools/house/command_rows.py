@@ -7,6 +7,7 @@ import argparse
 from typing import List, Optional, Sequence, Tuple, Union
 
 from nozhgiva_tools.told.formats import header, name, REGISTER, rows_parser, spelled, write_rows
+from nozhgiva_tools.told.store import Kind, Operation, Outcome
 
 given, told = "", ""
 
@@ -64,27 +65,27 @@ def reply(kind: int, op: int, outcome: bytes, client: int = 7, view: int = 0, re
     return spelled("reply", outcome, cluster=5, client=client, request=request, request_name=asked, view=view, kind=kind, op=op, version=version)
 
 
-ABSENT, GET_A = (1, 2, b"\x04"), b"\x03\x01a"
-SESSION, OLD, BUSY, REDIRECT = (1, 1, b"\x01"), (2, 0, b""), (5, 0, b""), (6, 0, b"")
+ABSENT, GET_A = (1, 2, Outcome.ABSENT.spelled()), Operation(Kind.GET, "a").spelled()
+SESSION, OLD, BUSY, REDIRECT = (1, 1, Outcome.SESSION.spelled()), (2, 0, b""), (5, 0, b""), (6, 0, b"")
 
 
 def put(key: str, value: str) -> bytes:
-    return b"\x02" + bytes([len(key)]) + len(value).to_bytes(2, "big") + f"{key}{value}".encode()
+    return Operation(Kind.PUT, key, value).spelled()
 
 
 def get(key: str) -> bytes:
-    return b"\x03" + bytes([len(key)]) + key.encode()
+    return Operation(Kind.GET, key).spelled()
 
 
 def delete(key: str) -> bytes:
-    return b"\x04" + bytes([len(key)]) + key.encode()
+    return Operation(Kind.DELETE, key).spelled()
 
 
 def value(it: str) -> bytes:
-    return b"\x05" + len(it).to_bytes(2, "big") + it.encode()
+    return Outcome.VALUE.spelled(it)
 
 
-OK = b"\x02"
+OK = Outcome.OK.spelled()
 
 
 def answers(client: int, outcomes: Sequence[Tuple[bytes, bytes]], version: int = 1) -> None:
@@ -155,7 +156,7 @@ def turns(what: str) -> None:
     row(what)
     finds("quiet")
     arrives(register(cluster=6), 9)
-    arrives(register(request=1, operation=b"\x03\x01a"), 9)
+    arrives(register(request=1, operation=GET_A), 9)
     arrives(bytes(128), 9)
     for number in (5, 104, 3, 103):
         finds(f"clock {number}")

@@ -6,8 +6,9 @@ import argparse
 from typing import Dict, List, Sequence, Tuple
 
 from nozhgiva_tools.told.formats import Field, header, name, number, REGISTER, rows_parser, SEVENS, spelled, write_rows
+from nozhgiva_tools.told.store import Kind, Operation, Outcome
 
-VALUE = b"\x05\x00\x01a"
+VALUE = Outcome.VALUE.spelled("a")
 
 
 Fields = Dict[str, Field]
@@ -66,8 +67,8 @@ def refused(what: str, data: bytes, fault: str = "BodyShape") -> None:
 
 
 # Requests and replies.
-sends("a request", spelled("request", b"\x02\x01\x00\x01ab", cluster=5, client=7, request=1), "request")
-refused("a get under number 0", spelled("request", b"\x03\x01a"))
+sends("a request", spelled("request", Operation(Kind.PUT, "a", "b").spelled(), cluster=5, client=7, request=1), "request")
+refused("a get under number 0", spelled("request", Operation(Kind.GET, "a").spelled()))
 
 
 def reply(kind: int, body: bytes = b"", **fields: Field) -> bytes:
@@ -77,7 +78,8 @@ def reply(kind: int, body: bytes = b"", **fields: Field) -> bytes:
 row("a reply with a value", reply(1, VALUE, op=9), "reply 2 client 7 request 0 op 9 value a")
 for kind, text in [(2, "old"), (3, "gap"), (4, "evicted"), (5, "busy"), (6, "redirect 3")]:
     row("a reply without an outcome", reply(kind), f"reply 2 client 7 request 0 {text}")
-for body, text in [(b"\x01", "session"), (b"\x02", "ok"), (b"\x03", "full"), (b"\x04", "absent"), (b"\x05\x00\x01b", "value b")]:
+for outcome, text in [(Outcome.SESSION, "session"), (Outcome.OK, "ok"), (Outcome.FULL, "full"), (Outcome.ABSENT, "absent"), (Outcome.VALUE, "value b")]:
+    body = outcome.spelled("b")
     row("a reply with an outcome", reply(1, body, cluster=0, replica=0, request=1, op=2), f"reply 0 client 7 request 1 op 2 {text}")
 
 # Entries.

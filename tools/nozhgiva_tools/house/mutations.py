@@ -1,7 +1,8 @@
 """Tries the mutation tests that the gate leaves out: the prover must refuse each.
 
 A mutation test, or wrong body, is an edit of a crate's code, or of a definition, that breaks one promise. The gate tries those of
-a few crates, which stand in crates/CRATE/must-fail; the others stand in mutations/CRATE, in the same form, and are tried here.
+a few crates, which stand in crates/CRATE/must-fail, a file each; the others stand in mutations/CRATE.edits, in the same form, each
+behind a line `== NAME`, and are tried here.
 It wants a clone in which `rt ci` has passed, since it checks over the libraries that the gate left in crates/*/out, and changes
 nothing there but a library that is missing, which it proves anew. Each crate is checked first as it is, then with each edit, over
 what that check proved: some minutes a crate, and 20 to 45 seconds an edit.
@@ -67,6 +68,13 @@ class Toolchain(Protocol):
         """A try of an edit: what came of it, and what to say."""
 
 
+class Edit(NamedTuple):
+    """A mutation test: its name, and the lines that say why, where, and what becomes of what."""
+
+    name: str
+    text: str
+
+
 class Tried(NamedTuple):
     """What came of an edit: refused, let through, bad or left; after how many seconds, and what the prover said."""
 
@@ -87,23 +95,32 @@ def make_parser() -> argparse.ArgumentParser:
     return form
 
 
-def edits_of(crate: str, with_gate: bool) -> list[Path]:
+def sections(text: str) -> list[Edit]:
+    """The edits of a file, each behind a line `== NAME`."""
+    pieces = re.split(r"(?m)^== (\w+)\n", text)
+    return [Edit(name, rest) for name, rest in zip(pieces[1::2], pieces[2::2])]
+
+
+def edits_of(crate: str, with_gate: bool) -> list[Edit]:
     """The edits of a crate, by name."""
-    folders = [TOP / "mutations" / crate] + [TOP / "crates" / crate / "must-fail"] * with_gate
-    return sorted((it for folder in folders for it in folder.glob("*.edit")), key=lambda it: it.name)
+    path = TOP / "mutations" / f"{crate}.edits"
+    found = sections(path.read_text(encoding="utf-8")) if path.is_file() else []
+    if with_gate:
+        found += [Edit(it.stem, it.read_text(encoding="utf-8")) for it in (TOP / "crates" / crate / "must-fail").glob("*.edit")]
+    return sorted(found)
 
 
-def chosen(given: list[str], with_gate: bool) -> dict[str, list[Path]]:
+def chosen(given: list[str], with_gate: bool) -> dict[str, list[Edit]]:
     """The edits to be tried, by crate; a crate or word that names none ends the script."""
     every = sorted(it.name for it in (TOP / "crates").iterdir() if edits_of(it.name, with_gate))
-    found: dict[str, list[Path]] = {}
+    found: dict[str, list[Edit]] = {}
     for word in given or every:
         crate, _, only = word.partition(":")
-        edits = [it for it in edits_of(crate, with_gate) if only in it.stem]
+        edits = [it for it in edits_of(crate, with_gate) if only in it.name]
         if not edits:
             print(f"./nozhgiva mutations: no edit for {word!r}; crates with edits: {' '.join(every)}", file=sys.stderr)
             sys.exit(2)
-        found[crate] = sorted({*found.get(crate, []), *edits}, key=lambda it: it.name)
+        found[crate] = sorted({*found.get(crate, []), *edits})
     return found
 
 
@@ -128,7 +145,7 @@ def toolchain() -> Toolchain:
     return cast(Toolchain, rt)
 
 
-def build_missing(crates: dict[str, Crate], wanted: dict[str, list[Path]]) -> None:
+def build_missing(crates: dict[str, Crate], wanted: dict[str, list[Edit]]) -> None:
     """Proves the libraries below the wanted crates that no gate left."""
     below = {it.name for name in wanted for it in crates[name].below()}
     for it in crates.values():
@@ -138,22 +155,25 @@ def build_missing(crates: dict[str, Crate], wanted: dict[str, list[Path]]) -> No
                 sys.exit(f"./nozhgiva mutations: {it.name} isn't proved here")
 
 
-def try_edit(rt: Toolchain, crate: Crate, edit: Path, kept: str) -> Tried:
+def try_edit(rt: Toolchain, crate: Crate, edit: Edit, kept: str) -> Tried:
     began = time.monotonic()
-    told, text = rt.must_fail(crate, str(edit), ["--jobs", "1"], kept)
+    with tempfile.TemporaryDirectory(prefix="wrong-body-") as folder:
+        path = Path(folder, f"{edit.name}.edit")
+        path.write_text(edit.text, encoding="utf-8")
+        told, text = rt.must_fail(crate, str(path), ["--jobs", "1"], kept)
     ending = "refused" if told in REFUSED else "let through" if "NOT REFUSED" in text else "bad"
-    return Tried(edit.stem, ending, time.monotonic() - began, re.sub(r"^must-fail \S+ ", "", text)[:300])
+    return Tried(edit.name, ending, time.monotonic() - began, re.sub(r"^must-fail \S+ ", "", text)[:300])
 
 
-def try_crate(rt: Toolchain, crate: Crate, edits: list[Path], ends: float) -> list[Tried]:
+def try_crate(rt: Toolchain, crate: Crate, edits: list[Edit], ends: float) -> list[Tried]:
     """Tries a crate's edits over one check of it, and prints what came of each."""
     began = time.monotonic()
     with tempfile.TemporaryDirectory(prefix="wrong-bodies-") as kept:
         seed = rt.checked(crate, {}, ["--jobs", "1"], kept)
         if seed.returncode:
-            tried = [Tried(it.stem, "bad", 0, "the crate as it is isn't proved here") for it in edits]
+            tried = [Tried(it.name, "bad", 0, "the crate as it is isn't proved here") for it in edits]
         else:
-            tried = [try_edit(rt, crate, it, kept) if time.monotonic() < ends else Tried(it.stem, "left", 0, "no time was left") for it in edits]
+            tried = [try_edit(rt, crate, it, kept) if time.monotonic() < ends else Tried(it.name, "left", 0, "no time was left") for it in edits]
             if rt.checked(crate, {}, ["--jobs", "1"], kept).returncode:
                 tried = [it._replace(ending="bad", said="the crate as it is isn't proved any more over what was kept") for it in tried]
     with PRINTING:
@@ -168,7 +188,7 @@ def main() -> int:
     wanted = chosen(said.crates, said.gate)
     if said.list:
         for crate, edits in wanted.items():
-            print(crate, *(it.stem for it in edits))
+            print(crate, *(it.name for it in edits))
         print(sum(map(len, wanted.values())))
         return 0
     rt = toolchain()

@@ -71,7 +71,7 @@ def main() -> int:
         signal.signal(number, end_by_signal)
     found = {name: finding.find(name, text) for name, text in every.items()}
     commands = [one for some, _ in found.values() for one in some]
-    listed = listing.read(TOP / "tools/nozhgiva_tools/house/commanding/commands.txt", frozenset(one.name for one in checking.read_table()))
+    listed = listing.read(listing.TABLE, frozenset(one.name for one in checking.read_table()))
     of_sentences = [finding.in_sentence(one.page, every.get(one.page, ""), one.text) for one in listed.ways[listing.ALSO]]
     commands += [one for one in of_sentences if one]
     if words.list:

@@ -2,18 +2,20 @@
 
 from typing import Dict
 
-DISK_FAULT, LINK_FAULT, LOST = 7, 8, 9
+from nozhgiva_tools.told.ends import Code, TEXTS
+
+DISK_FAULT, LINK_FAULT, LOST = Code.DISK_FAULT, Code.LINK_FAULT, Code.SUPER_LOST
 OLDER = 21  # a keeper's: the file is older than the one that it saw last
 PASSING = 5  # so often a member that ends with 7 before its file is open is started again
-AGAIN = {0: "its turns are done", 8: "link fault", 11: "no memory"}
+AGAIN: Dict[int, str] = {Code.DONE: "its turns are done", **{code: TEXTS[code] for code in (Code.LINK_FAULT, Code.NO_MEMORY)}}
 LOOK: Dict[int, str] = {
-    2: "its words are none of a member's: look at the number of the group, the member's number, and the addresses",
-    6: "its output couldn't be written though keep read it: look at what the log says before this, and at this machine's memory and limits",
-    7: "the data file couldn't be opened, made, written or synced: look, in this order, whether another process has it (lslocks, fuser), at its path, rights and "
-       "room, and only then at the disk",
-    9: "no two good copies of the superblock agree: look whether FILE is the right one; if it is, this member is lost, and the group goes on with those that are left",
-    10: "the data file is another member's: the line before says whose it is and whose the words say; mend the words",
-    12: "the data file holds a member already, and the words say --fresh: leave that out",
+    Code.USAGE: "its words are none of a member's: look at the number of the group, the member's number, and the addresses",
+    Code.WRITE_FAULT: "its output couldn't be written though keep read it: look at what the log says before this, and at this machine's memory and limits",
+    Code.DISK_FAULT: "the data file couldn't be opened, made, written or synced: look, in this order, whether another process has it (lslocks, fuser), at its path, rights and "
+                     "room, and only then at the disk",
+    Code.SUPER_LOST: "no two good copies of the superblock agree: look whether FILE is the right one; if it is, this member is lost, and the group goes on with those that are left",
+    Code.OTHER_MEMBER: "the data file is another member's: the line before says whose it is and whose the words say; mend the words",
+    Code.OCCUPIED: "the data file holds a member already, and the words say --fresh: leave that out",
 }
 UNHEARD_OF = "no member ends so: look whether the program is the right one"
 

@@ -3,10 +3,11 @@
 Times are seconds of the keeper's clock."""
 
 from collections import deque
-from typing import Deque, Dict, Optional, Set, Tuple
+from typing import Deque, Dict, Optional, Tuple
 
 from nozhgiva_tools.told import datafile
 from nozhgiva_tools.told.lines import Applied, Request
+from nozhgiva_tools.told.store import of_words, Store
 from nozhgiva_tools.told.table import Session
 
 REMEMBERED = 160  # operations whose lines are kept: a checkpoint and the window behind it
@@ -25,13 +26,13 @@ class Tally:
 
     def forget(self) -> None:
         self.op: Optional[int] = None  # up to which all is counted
-        self.names: Set[str] = set()
+        self.names = Store()
         self.clients: Dict[int, Session] = {}  # by their numbers
         self.most = datafile.SESSIONS[1]
 
     @property
     def keys(self) -> Optional[int]:
-        return None if self.op is None else len(self.names)
+        return None if self.op is None else len(self.names.keys)
 
     @property
     def sessions(self) -> Optional[int]:
@@ -50,7 +51,7 @@ class Tally:
             return
         self.forget()
         self.op, self.most = report.checkpoint.op, datafile.SESSIONS[report.value.version]
-        self.names = {key for key, _ in report.checkpoint.pairs()}
+        self.names = Store(dict(report.checkpoint.pairs()))
         self.clients = {client: Session(*last) for client, last in report.checkpoint.clients().items()}
         self.used = {client: at for client, at in self.used.items() if client in self.clients}
         for now, line in sorted(self.lines, key=lambda heard: heard[1].op):
@@ -73,10 +74,7 @@ class Tally:
             self.register(now, op, request.client)
         elif session is not None and request.number == session.request + 1:
             self.clients[request.client], self.used[request.client] = Session(request.number, op), now
-            if request.what == "put" and request.key is not None and len(self.names) < datafile.KEYS:
-                self.names.add(request.key)
-            elif request.what == "del" and request.key is not None:
-                self.names.discard(request.key)
+            self.names.execute(of_words([request.what] if request.key is None else [request.what, request.key]))
 
     def register(self, now: float, op: int, client: int) -> None:
         """A new session; where as many are held as may be, the one that was used longest ago goes."""

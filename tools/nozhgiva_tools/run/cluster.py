@@ -14,16 +14,25 @@ code of COMMAND where there is one."""
 import argparse
 import itertools
 import os
+import random
+import re
+import shutil
 import signal
 import subprocess
 import sys
-from typing import NoReturn, Optional
+import time
+from typing import Any, List, NoReturn, Optional, Sequence
 
-from . import program
-from .members import Failed, first_port, Form, free_port, Group, LAST_WORD, SIZE
+from . import ports, program
+from .group import Failed, Group, LAST_WORD, send, SIZE, TURNS
+from .nets import Net
 
 ENDING = (signal.SIGINT, signal.SIGTERM, signal.SIGHUP)
 NAME = os.environ.get("NOZHGIVA", "./nozhgiva")
+FEWEST, MOST = 10 ** 6, 10 ** 9  # numbers of groups that are drawn
+GIVEN_TIME = 120.0  # seconds that a client has
+COMES = 10.0  # seconds in which a member puts out a line
+FILES = re.compile(r"[012](\.keep)?")
 
 
 class Told(Exception):
@@ -32,6 +41,75 @@ class Told(Exception):
     def __init__(self, number: int) -> None:
         super().__init__(number)
         self.number = number
+
+
+class Cluster(Group):
+    """A group of its own number, since a member takes what any other of the same number and addresses sends for its group's; it ends with this process."""
+
+    def __init__(self, found: str, first: int, scheme: str, version: int, keeps_lines: bool) -> None:
+        number = random.SystemRandom().randrange(FEWEST, MOST)
+        super().__init__(Net(SIZE, range(first, first + SIZE)), scheme, version=version, number=number, program=found)
+        self.keeps_lines = keeps_lines
+
+    def spawn(self, member: int, words: Sequence[str], **how: Any) -> "subprocess.Popen[bytes]":
+        """A Ctrl-C at the terminal isn't for a member, and it ends with this process."""
+        return super().spawn(member, words, start_new_session=True, preexec_fn=program.end_with_parent, **how)
+
+    def ask(self, client: int, lines: Sequence[str], most: float = GIVEN_TIME) -> List[str]:
+        return super().ask(client, lines, most)
+
+    def starts_again(self, command: str, member: int) -> str:
+        """A line of a shell that starts an ended member again."""
+        return " ".join([command, *self.words(member, turns=TURNS)[1:], "> /dev/null"])
+
+    def close(self) -> None:
+        """Ends the members, those too that others started on these files, and removes the folder; Failed where one is left."""
+        for member in list(self.members):
+            self.stop(member)
+        self.end_others()
+        # From here on nobody finds the files any more; who found them before still has them open, by their new name.
+        gone = f"{self.folder}.gone"
+        os.rename(self.folder, gone)
+        self.folder = gone
+        self.end_others()
+        shutil.rmtree(gone, ignore_errors=True)
+        left = ports.of_ports(self.ports)
+        if left:
+            raise Failed(f"a port of this group is still held: {'; '.join(left)}")
+
+    def end_others(self) -> None:
+        """Ends who has a member's file open."""
+        for number in (signal.SIGTERM, signal.SIGKILL):
+            until = time.monotonic() + LAST_WORD
+            found = ports.of_files(self.folder, FILES)
+            for one in found:
+                send(one.pid, number)
+            while found and time.monotonic() < until:
+                time.sleep(0.05)
+                found = ports.of_files(self.folder, FILES)
+            if not found:
+                return
+
+
+def free_port() -> int:
+    found = ports.free_run(SIZE)
+    if found is None:
+        raise Failed("no three ports in a row are free")
+    return found
+
+
+def first_port(asked: Optional[int]) -> int:
+    """The port that was asked for, else 4000, else one that is free; it says who holds what isn't."""
+    first = asked or 4000
+    wanted = list(range(first, first + SIZE))
+    if ports.are_free(wanted):
+        return first
+    held = "; ".join(ports.of_ports(wanted)) or "by a process of another user, or lately closed"
+    if asked:
+        raise Failed(f"ports {first} to {wanted[-1]} aren't all free: {held}")
+    found = free_port()
+    print(f"cluster: ports {first} to {wanted[-1]} aren't all free, so it takes {found} to {found + SIZE - 1}: {held}", file=sys.stderr)
+    return found
 
 
 def port_of(text: str) -> int:
@@ -69,29 +147,29 @@ def say(text: str = "") -> None:
     print(text, flush=True)
 
 
-def hears(group: Group, client: int, lines: "list[str]", wanted: "list[str]") -> None:
+def hears(group: Cluster, client: int, lines: "list[str]", wanted: "list[str]") -> None:
     heard = group.ask(client, lines)
     say(f"client {client}: {', '.join(heard)}")
     if heard != wanted:
-        raise Failed(f"client {client} was to hear: {', '.join(wanted)}")
+        raise Failed(f"client {client} was to hear: {', '.join(wanted)}{group.last_words()}")
 
 
-def show(group: Group) -> int:
+def show(group: Cluster) -> int:
     """Asks the group, stops a member and starts it again, and shows what all printed."""
     group.start_all()
     hears(group, 7, ["put color green", "get color"], ["session", "ok", "value green"])
     say("member 0 is stopped")
-    group.end(0)
+    group.stop(0)
     hears(group, 8, ["get color", "put size 3", "get size"], ["session", "value green", "ok", "value 3"])
     say("member 0 is started again")
     group.start(0)
-    group.await_line(0, "commit 0 op 7 ")
+    group.await_line(0, "commit 0 op 7 ", COMES)
     hears(group, 9, ["del color", "get color", "get size"], ["session", "ok", "absent", "value 3"])
-    group.await_line(0, "commit 0 op 11 ")
+    group.await_line(0, "commit 0 op 11 ", COMES)
     for member in range(SIZE):
         if group.members[member].poll() is not None:
-            raise Failed(f"member {member} has ended")
-        group.end(member)
+            raise Failed(f"member {member} has ended{group.last_words()}")
+        group.stop(member)
         told = group.told(member)
         say(f"\nmember {member} printed, with {sum(line.startswith('send') for line in told)} messages sent:")
         for line, _ in itertools.groupby(line for line in told if not line.startswith("send")):
@@ -99,15 +177,15 @@ def show(group: Group) -> int:
     return 0
 
 
-def tell_ended(group: Group, member: int, status: int) -> None:
+def tell_ended(group: Cluster, member: int, status: int) -> None:
     """Says of a member that it has ended, and how it is started again."""
     del group.members[member]
-    word = group.last_word(member)
+    word = (group.errors(member) or [""])[-1]
     say(f"member {member} has ended with status {status if status >= 0 else 128 - status}{f': {word}' if word else ''}; this starts it again:")
     say(f"  {group.starts_again(NAME, member)}")
 
 
-def watch(group: Group, command: "Optional[subprocess.Popen[bytes]]" = None) -> int:
+def watch(group: Cluster, command: "Optional[subprocess.Popen[bytes]]" = None) -> int:
     """Waits for what ends: members, of which each end is told, and the command, whose status is given."""
     while True:
         pid, status = os.wait()
@@ -120,23 +198,23 @@ def watch(group: Group, command: "Optional[subprocess.Popen[bytes]]" = None) -> 
                 child.returncode = code
                 tell_ended(group, member, code)
         if not group.members and command is None:
-            raise Failed("no member is left")
+            raise Failed(f"no member is left{group.last_words()}")
 
 
-def begin(group: Group) -> None:
+def begin(group: Cluster) -> None:
     group.start_all()
     group.ask(1, ["get color"])
 
 
-def serve(group: Group) -> int:
+def serve(group: Cluster) -> int:
     """Runs the group until it is told to end."""
     begin(group)
     numbers = " ".join(str(child.pid) for child in group.members.values())
-    asks = " ".join([NAME, "ask", str(group.number), *group.addresses, *group.version])
+    asks = " ".join([NAME, "ask", str(group.number), *group.addresses, *group.of_version()])
     say(f"three members run until Ctrl-C, as processes {numbers}, with their files in {group.folder}. Ask them, from another terminal:")
     say(f"  printf 'put color green\\nget color\\n' | {asks}")
     say(f"End one of them (kill {group.members[0].pid}), and ask on: two are enough.")
-    if group.form.has_lines:
+    if group.keeps_lines:
         say(f"A page of what they put out: {NAME} explore --members {group.folder}/[012].text > members.html")
     return watch(group)
 
@@ -155,7 +233,7 @@ def begin_command() -> None:
     signal.pthread_sigmask(signal.SIG_UNBLOCK, ENDING)
 
 
-def run_beside(group: Group, words: "list[str]") -> int:
+def run_beside(group: Cluster, words: "list[str]") -> int:
     """Runs the group while a command runs. A Ctrl-C at the terminal is for the command."""
     begin(group)
     signal.signal(signal.SIGINT, signal.SIG_IGN)
@@ -191,13 +269,13 @@ def find_program() -> str:
         sys.exit(2)
 
 
-def run_group(group: Group, words: argparse.Namespace) -> int:
+def run_group(group: Cluster, words: argparse.Namespace) -> int:
     if words.show:
         return show(group)
     return run_beside(group, words.command) if words.command else serve(group)
 
 
-def run_and_close(group: Group, words: argparse.Namespace) -> int:
+def run_and_close(group: Cluster, words: argparse.Namespace) -> int:
     """Runs the group, and ends it whatever happens."""
     folder, status = group.folder, 1
     try:
@@ -207,7 +285,7 @@ def run_and_close(group: Group, words: argparse.Namespace) -> int:
         if not words.command:
             say()  # behind the ^C of a terminal
     except Failed as error:
-        print(f"failed: {error}{group.said()}", file=sys.stderr)
+        print(f"failed: {error}", file=sys.stderr)
     finally:
         for number in ENDING:
             signal.signal(number, signal.SIG_IGN)
@@ -224,7 +302,7 @@ def main() -> int:
     try:
         found = find_program()
         port = free_port() if words.show and not words.port else first_port(words.port)
-        return run_and_close(Group(found, Form(words.v2, words.tcp, port, words.lines or words.show)), words)
+        return run_and_close(Cluster(found, port, "tcp:" if words.tcp else "", 2 if words.v2 else 1, words.lines or words.show), words)
     except Failed as error:
         print(f"cluster: {error}", file=sys.stderr)
         return 1

@@ -5,7 +5,10 @@ What each replica puts out is handed on as the lines of a member, with the time 
 import heapq
 import itertools
 import subprocess
-from typing import Callable, Dict, Iterable, List, NamedTuple, Optional, Set, Tuple
+from functools import partial
+from typing import Callable, Dict, Iterable, List, Optional, Set, Tuple
+
+from nozhgiva_tools.told.lines import applied_of, message_of, owner_of, reply_of, Sent, value
 
 TICK = 0.1  # seconds from tick to tick
 MARK = "damage 0 1423"  # a sector that belongs to no block of any state: the line changes nothing that is looked at, and answers
@@ -14,6 +17,7 @@ AT_ONCE = 40  # lines, of which none has more than 1,135 bytes, so that they fit
 AGAIN = 0.5  # seconds; so long a client waits for an answer before it asks again
 SAVE = 4  # syncs of a save of the superblock
 STORE = 2  # syncs of an entry that is stored
+CHECKPOINT = 32  # operations from one checkpoint to the next
 
 
 class Replay:
@@ -21,6 +25,8 @@ class Replay:
 
     def __init__(self, program: str) -> None:
         self.child = subprocess.Popen([program, "replay"], stdin=subprocess.PIPE, stdout=subprocess.PIPE, stderr=subprocess.PIPE)
+        assert self.child.stdin is not None and self.child.stdout is not None and self.child.stderr is not None
+        self.given, self.put_out, self.errors = self.child.stdin, self.child.stdout, self.child.stderr
 
     def play(self, line: str) -> List[str]:
         """The outputs of one line; ValueError where it is refused."""
@@ -32,41 +38,24 @@ class Replay:
 
     def play_some(self, lines: List[str]) -> List[str]:
         """The outputs of at most AT_ONCE lines."""
-        self.child.stdin.write("".join(f"{line}\n" for line in lines + [MARK]).encode())
-        self.child.stdin.flush()
-        outputs, answers = [], sum(line.split(" ", 1)[0] in FAULTS for line in lines)
-        for text in iter(self.child.stdout.readline, b""):
+        self.given.write("".join(f"{line}\n" for line in lines + [MARK]).encode())
+        self.given.flush()
+        outputs: List[str] = []
+        answers = sum(line.split(" ", 1)[0] in FAULTS for line in lines)
+        for text in iter(self.put_out.readline, b""):
             output = text.decode().rstrip("\n")
             if output in ("done", "kept out"):
                 if answers == 0:
                     return outputs
                 answers -= 1
             outputs.append(output)
-        raise ValueError(f"{' / '.join(lines)}: {self.child.stderr.read().decode().strip()}")
+        raise ValueError(f"{' / '.join(lines)}: {self.errors.read().decode().strip()}")
 
     def end(self) -> None:
-        self.child.stdin.close()
-        self.child.stdout.close()
-        self.child.stderr.close()
+        self.given.close()
+        self.put_out.close()
+        self.errors.close()
         self.child.wait()
-
-
-class Message(NamedTuple):
-    number: int
-    sender: int
-    receiver: int
-
-
-def message_of(output: str) -> Optional[Message]:
-    """The message that `send M A B ..` tells of."""
-    words = output.split(" ", 4)
-    return Message(int(words[1]), int(words[2]), int(words[3])) if words[0] == "send" else None
-
-
-def member_of(output: str) -> int:
-    """Whose line it is."""
-    words = output.split(" ", 3)
-    return int(words[2 if words[0] == "send" else 1])
 
 
 def schedule_of(text: str) -> Tuple[List[str], Dict[str, str]]:
@@ -107,12 +96,12 @@ class Client:
 
     def hear(self, now: float, output: str) -> bool:
         """Whether this output answers what it asks."""
-        words = output.split(" ")
-        if words[0] != "reply" or int(words[3]) != self.number or int(words[5]) != self.request:
+        reply = reply_of(output.split(" "))
+        if reply is None or reply.client != self.number or reply.request != self.request:
             return False
-        if words[6] == "redirect":
-            self.leader = int(words[7]) % self.members
-        if words[6] != "op":
+        if reply.words[0] == "redirect":
+            self.leader = int(reply.words[1]) % self.members
+        if reply.words[0] != "op":
             return False
         self.longest = max(self.longest, now - self.since)
         self.first = now if self.first is None else self.first
@@ -140,7 +129,7 @@ class Group:
         self.cuts: Set[Tuple[int, int]] = set()
         self.clients: List[Client] = []
         self.held = False  # whether the clients ask nothing new
-        self.events: List[tuple] = []
+        self.events: List[Tuple[float, int, Optional[int], Callable[[float], object]]] = []  # when, which one of them, whose, and what
         self.order = itertools.count()
 
     # A schedule as it was recorded.
@@ -159,11 +148,12 @@ class Group:
             if words[0] == "cluster":
                 self.begin(int(words[1]))
                 continue
-            member = int(words[1]) if words[0] in ("tick", "stop", "start") else None
             if words[0] == "tick":
-                self.free[member] += TICK
-            if words[0] in ("stop", "start"):
-                (self.running.discard if words[0] == "stop" else self.running.add)(member)
+                self.free[int(words[1])] += TICK
+            elif words[0] == "stop":
+                self.running.discard(int(words[1]))
+            elif words[0] == "start":
+                self.running.add(int(words[1]))
             for output in self.replay.play(line):
                 self.tell(output)
         self.now = max(self.free.values())
@@ -173,14 +163,14 @@ class Group:
         """An output of a schedule's line; a member whose fuse fired is stopped."""
         if output in ("done", "kept out"):
             return
-        member = member_of(output)
+        member = owner_of(output.split(" ", 3))
         if output.startswith("halt "):
             self.running.discard(member)
         self.hears(self.free[member], member, output)
 
     # Running on.
 
-    def plan(self, at: float, what: Callable[[float], None], member: Optional[int] = None) -> None:
+    def plan(self, at: float, what: Callable[[float], object], member: Optional[int] = None) -> None:
         """What is done at a time; where it is a member's, as soon as that member is free."""
         heapq.heappush(self.events, (at, next(self.order), member, what))
 
@@ -222,28 +212,28 @@ class Group:
 
     def put_out(self, now: float, member: int, output: str) -> None:
         self.hears(now, member, output)
-        message = message_of(output)
+        message = message_of(output.split(" ", 4))
         if message is None:
             for client in self.clients:
                 if client.hear(now, output):
-                    self.plan(now + client.pause, lambda at, client=client: self.ask(at, client))
+                    self.plan(now + client.pause, partial(self.ask, client))
         elif (message.sender, message.receiver) not in self.cuts:
-            self.plan(now + self.way, lambda at: self.deliver(at, message), message.receiver)
+            self.plan(now + self.way, partial(self.deliver, message), message.receiver)
 
-    def deliver(self, now: float, message: Message) -> None:
+    def deliver(self, message: Sent, now: float) -> None:
         if message.receiver in self.running and (message.sender, message.receiver) not in self.cuts:
             self.do(now, message.receiver, f"deliver {message.number}")
 
     def add(self, client: Client) -> None:
         client.since = self.now
         self.clients.append(client)
-        self.ask(self.now, client)
+        self.ask(client, self.now)
 
-    def ask(self, now: float, client: Client) -> None:
+    def ask(self, client: Client, now: float) -> None:
         """Asks the member that a client takes to lead; where no answer has come after AGAIN seconds, the next one."""
         request, member = client.request, client.leader
         if self.held:
-            self.plan(now + TICK, lambda at: self.ask(at, client))
+            self.plan(now + TICK, partial(self.ask, client))
             return
         self.plan(now + self.way, lambda at: self.request(at, client, request, member), member)
         self.plan(now + AGAIN, lambda at: self.ask_again(at, client, request, member))
@@ -260,7 +250,7 @@ class Group:
             return
         if client.leader == member:
             client.leader = (member + 1) % self.size
-        self.ask(now, client)
+        self.ask(client, now)
 
     def stop(self, member: int) -> None:
         self.running.discard(member)
@@ -280,13 +270,14 @@ class Group:
         count = SAVE if any(output.startswith(("choose ", "start ")) for output in outputs) else 0
         for output in outputs:
             words = output.split(" ")
-            if words[0] == "commit" and int(words[3]) % 32 == 0:
+            applied, is_sent = applied_of(words), message_of(words) is not None
+            if applied is not None and applied.op % CHECKPOINT == 0:
                 count += 1 + SAVE
-            elif words[0] == "send" and words[4] == "start_view_change" and int(words[6]) > self.views[member]:
-                self.views[member] = int(words[6])
+            elif is_sent and words[4] == "start_view_change" and value(words, "view") > self.views[member]:
+                self.views[member] = value(words, "view")
                 count += SAVE
-            elif words[0] == "send" and words[4] in ("prepare", "prepare_ok"):
-                count += self.store(member, int(words[8]), int(words[10]))
+            elif is_sent and words[4] in ("prepare", "prepare_ok"):
+                count += self.store(member, value(words, "op"), value(words, "made"))
         return count
 
     def store(self, member: int, op: int, made: int) -> int:

@@ -8,7 +8,9 @@
 Without any it says what to do, and ends with status 2."""
 
 import argparse
+import ctypes
 import os
+import signal
 import sys
 from typing import NamedTuple, Optional
 
@@ -17,6 +19,8 @@ from nozhgiva_tools.places import TOP
 GIVEN, PROVED, COMPILED, INSTALLED = "given", "proved", "compiled", "installed"
 BUILT = ((PROVED, os.path.join("crates", "vr_app", "out", "vr_app")), (COMPILED, os.path.join("out", "vr_app")))
 SOURCES = (".rt", ".antt")
+DEATH_SIGNAL = 1  # PR_SET_PDEATHSIG of prctl
+FORWARDED = (signal.SIGTERM, signal.SIGINT, signal.SIGHUP, signal.SIGQUIT, signal.SIGUSR1, signal.SIGUSR2)  # to a child that runs the program
 
 
 class Missing(Exception):
@@ -98,6 +102,17 @@ def or_end() -> str:
     if found.says:
         print(found.says, file=sys.stderr)
     return found.path
+
+
+def end_with_parent() -> None:
+    """In a child that is to run it: it is killed where its parent is, since nothing can be passed on then; and it hears signals again. A data file that it makes
+    holds all keys and values, and is for its owner alone."""
+    os.umask(0o077)
+    try:
+        ctypes.CDLL(None).prctl(DEATH_SIGNAL, signal.SIGKILL)
+    except (OSError, AttributeError):
+        pass
+    signal.pthread_sigmask(signal.SIG_UNBLOCK, FORWARDED)
 
 
 def make_parser() -> argparse.ArgumentParser:

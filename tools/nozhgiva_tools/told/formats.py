@@ -5,7 +5,7 @@ import hashlib
 import sys
 from typing import Optional, Union
 
-from nozhgiva_tools.places import TOP
+from nozhgiva_tools.places import ROWS
 
 COMMANDS = ("reserved root entry request reply prepare prepare_ok commit start_view_change do_view_change start_view get_view "
             "get_prepare give_prepare get_block give_block block get_sync sync_view").split()
@@ -55,7 +55,7 @@ def write_rows(parser: argparse.ArgumentParser, rows: str, given: str, told: str
     """Writes what a folder of rows is run on and what it must write; with --check they are compared with what stands there."""
     words = parser.parse_args()
     for file, text in (("stdin", given), ("stdout", told)):
-        path = TOP / "tests" / "rows" / rows / file
+        path = ROWS / rows / file
         if not words.check:
             path.write_text(text, encoding="utf-8")
         elif path.read_text(encoding="utf-8") != text:

@@ -1,6 +1,7 @@
-"""The lines that a member writes (docs/SCHEDULE.md, "Lines of the output"), as far as an operator's scripts look at them."""
+"""The lines that a member writes (docs/SCHEDULE.md, "Lines of the output"): the one reader of them. `parse` gives what an operator's scripts look at, the other
+functions what trials and pages ask of a line; `memberlines` reads whole files of lines."""
 
-from typing import Callable, Dict, get_args, Iterable, List, Literal, NamedTuple, Optional, Tuple, Union
+from typing import Callable, Dict, get_args, Iterable, List, Literal, NamedTuple, Optional, Sequence, Tuple, Union
 
 LONGEST = 4096  # bytes; the longest line that a member writes has some 1,300
 
@@ -107,6 +108,33 @@ class Unknown(NamedTuple):
 Line = Union[Beat, Prepare, Message, Given, Question, Applied, Reply, Start, Choice, Halt, Unknown]
 """One line: what it is, and the numbers that the policy looks at."""
 
+
+class Execution(NamedTuple):
+    """What `commit R op K view W client C request Q OP` says: that a member applied an operation."""
+
+    op: int
+    view: int  # in which its entry was made
+    client: int
+    request: int
+    words: Tuple[str, ...]  # the operation: `register`, or `put`, `get`, `del` with the key, and of a put the value
+
+
+class Sent(NamedTuple):
+    """What `send M A B ..` says: message M goes from A to B."""
+
+    number: int
+    sender: int
+    receiver: int
+
+
+class Answered(NamedTuple):
+    """What `reply R client C request Q ..` says, with the words behind it: `op K` and an outcome, `redirect V`, or a word alone."""
+
+    client: int
+    request: int
+    words: Tuple[str, ...]
+
+
 Words = List[str]  # of a line
 UNKNOWN = Unknown()
 # The words of lines, and the kinds that they stand for.
@@ -127,7 +155,33 @@ def parse(text: bytes) -> Line:
         return UNKNOWN
 
 
-def value(words: Words, name: str) -> int:
+def owner_of(words: Sequence[str]) -> int:
+    """Whose line it is, by its words: the member that put it out."""
+    return int(words[2 if words[0] == "send" else 1])
+
+
+def message_of(words: Sequence[str]) -> Optional[Sent]:
+    """The message that a line tells of, by its words; None for a line of another kind."""
+    return Sent(int(words[1]), int(words[2]), int(words[3])) if words[0] == "send" else None
+
+
+def applied_of(words: Sequence[str]) -> Optional[Execution]:
+    """The operation that a whole line tells as applied, by its words; None for a line of another kind."""
+    return Execution(int(words[3]), int(words[5]), int(words[7]), int(words[9]), tuple(words[10:])) if words[0] == "commit" else None
+
+
+def reply_of(words: Sequence[str]) -> Optional[Answered]:
+    """The reply that a line tells of, by its words; None for a line of another kind."""
+    return Answered(int(words[3]), int(words[5]), tuple(words[6:])) if words[0] == "reply" else None
+
+
+def last_applied(texts: Iterable[bytes]) -> int:
+    """The last operation that lines tell as applied; 0 where there is none."""
+    lines = (parse(text.rstrip(b"\n")) for text in texts if text.startswith(b"commit "))
+    return max((line.op for line in lines if isinstance(line, Applied)), default=0)
+
+
+def value(words: Sequence[str], name: str) -> int:
     """The number behind a word; ValueError where there is none."""
     return int(words[words.index(name) + 1])
 

@@ -5,6 +5,9 @@ import re
 from datetime import datetime, timezone
 from typing import Dict, List, NamedTuple, Optional, Tuple
 
+from .lines import owner_of
+from .store import FORMS as OPERATIONS
+
 STAMP = re.compile(r"(\d{4}-\d\d-\d\dT\d\d:\d\d:\d\d\.\d{3}Z) (.*)")
 REMARK = re.compile(r"(keep|watch): (.*)")
 PART = re.compile(r"(.*)\.(\d+)")
@@ -12,7 +15,7 @@ MOST_LINES = 20_000
 """The most lines of a member that are read, the last ones."""
 
 NUMBER = r"\d{1,20}"
-OPERATION = r"(register|put \S+ \S+|get \S+|del \S+)"
+OPERATION = "(" + "|".join(" ".join([word, *[r"\S+"] * len(names)]) for word, names in OPERATIONS.items()) + ")"
 LETTERS = r"([hlwun]+|-)"
 OUTCOME = r"(op # (session|ok|full|absent|value \S+)|old|gap|evicted|busy|redirect #)"
 MESSAGES = (
@@ -53,11 +56,6 @@ class Line(NamedTuple):
 def seconds_of(stamp: str) -> float:
     """A time as keep and watch write it, since the epoch."""
     return datetime.strptime(stamp, "%Y-%m-%dT%H:%M:%S.%fZ").replace(tzinfo=timezone.utc).timestamp()
-
-
-def owner_of(words: List[str]) -> int:
-    """The replica that a line is of."""
-    return int(words[2] if words[0] == "send" else words[1])
 
 
 def read_texts(path: str) -> List[str]:

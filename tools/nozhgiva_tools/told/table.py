@@ -2,9 +2,8 @@
 
 from typing import Dict, Literal, NamedTuple, Optional, Tuple, Union
 
-from .datafile import Checkpoint, Header, KEYS, number, SESSIONS
-
-REGISTER, PUT, DELETE = 1, 2, 4  # the first byte of an operation
+from .datafile import Checkpoint, Header, number, SESSIONS
+from .store import Kind, of_bytes, Store
 
 Change = Union[Tuple[Literal["put"], str, str], Tuple[Literal["del"], str]]
 """`put` with a key and its value, or `del` with a key."""
@@ -21,7 +20,11 @@ class Table:
     """Keys with their values, and the sessions, which tell what of a log is executed."""
 
     def __init__(self, keys: Dict[str, str], sessions: Dict[int, Session]) -> None:
-        self.keys, self.sessions = keys, sessions
+        self.store, self.sessions = Store(keys), sessions
+
+    @property
+    def keys(self) -> Dict[str, str]:
+        return self.store.keys
 
     @classmethod
     def of(cls, checkpoint: Checkpoint) -> "Table":
@@ -46,13 +49,7 @@ class Table:
 
     def change(self, body: bytes) -> Optional[Change]:
         """Executes an operation."""
-        if body[0] == PUT:
-            key, value = body[4:4 + body[1]].decode("ascii"), body[4 + body[1]:].decode("ascii")
-            if key not in self.keys and len(self.keys) >= KEYS:
-                return None
-            self.keys[key] = value
-            return "put", key, value
-        if body[0] == DELETE:
-            key = body[2:].decode("ascii")
-            return ("del", key) if self.keys.pop(key, None) is not None else None
-        return None
+        operation = of_bytes(body)
+        if not self.store.changed(operation):
+            return None
+        return ("put", operation.key, operation.value) if operation.kind == Kind.PUT else ("del", operation.key)

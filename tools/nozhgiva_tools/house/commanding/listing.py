@@ -6,6 +6,8 @@ from typing import Callable, Dict, FrozenSet, List, Match, NamedTuple, Optional,
 
 from .finding import Command, may_run
 
+TABLE = Path(__file__).parent / "commands.txt"
+
 REASONS = frozenset((
     "needs the prover", "needs root", "needs another machine", "needs images from the network", "needs a debugger", "takes longer than a minute",
     "tells the words of a command"))

@@ -45,6 +45,12 @@ def mutation_tests(place: str) -> Tuple[int, int]:
     return len(tests), len({path.split("/")[1] for path in tests})
 
 
+def tests_by_hand(place: str) -> Tuple[int, int]:
+    """The same of those that are tried by hand: a file for each crate, whose tests begin with a line `== NAME`."""
+    files = found(place)
+    return sum(len(re.findall(r"(?m)^== \w+$", read(path))) for path in files), len(files)
+
+
 def bad_gate(numbers: Numbers) -> Iterator[str]:
     """More mutation tests, or more crates with any, than the gate may have."""
     for name, most in (("gate_tests", MOST_TESTS), ("gate_crates", MOST_CRATES)):
@@ -67,7 +73,7 @@ def count(tree: Tree) -> Numbers:
     numbers = {"crates": len(tree.crates), "laws": sum(map(len, tree.laws.values()))}
     numbers["ladder_laws"] = sum(len(laws) for crate, laws in tree.laws.items() if is_rung(crate))
     numbers.update(zip(("gate_tests", "gate_crates"), mutation_tests("crates/*/must-fail/*.edit")))
-    numbers.update(zip(("hand_tests", "hand_crates"), mutation_tests("mutations/*/*.edit")))
+    numbers.update(zip(("hand_tests", "hand_crates"), tests_by_hand("mutations/*.edits")))
     program = sorted(tree.crates - set(tree.rows.get("rows", ())))
     numbers.update(zip(("message_files", "message_crates"), files_with(r"\bGetSync\b", ("rt",), program)))
     numbers.update(zip(("rule_files", "rule_crates"), files_with(r"\bmend_found\b", ("rt", "antt"), sorted(tree.crates))))

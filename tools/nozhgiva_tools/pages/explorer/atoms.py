@@ -2,7 +2,8 @@
 
 from typing import Dict, List
 
-from nozhgiva_tools.told.memberlines import Line, owner_of
+from nozhgiva_tools.told.lines import owner_of
+from nozhgiva_tools.told.memberlines import Line
 
 REPLICATION = {1: 1, 2: 2, 3: 2, 4: 2, 5: 3, 6: 3}
 VIEW_CHANGE = {1: 1, 2: 2, 3: 2, 4: 3, 5: 3, 6: 4}

@@ -8,7 +8,8 @@ statements. Times, where a keeper wrote some, order what is left open; without t
 import re
 from typing import Dict, FrozenSet, Iterator, List, Optional, Set, Tuple
 
-from nozhgiva_tools.told.memberlines import BadRun, Line, lines_of, MOST_LINES, owner_of, read_members, read_texts
+from nozhgiva_tools.told.lines import owner_of
+from nozhgiva_tools.told.memberlines import BadRun, Line, lines_of, MOST_LINES, read_members, read_texts
 
 from .atoms import Atom, atoms_of, Message, NOT_SENT
 from .causes import Clocks, Group, Need, Past, senders_of, SKEW
