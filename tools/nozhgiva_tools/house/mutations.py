@@ -29,6 +29,7 @@ import time
 from pathlib import Path
 from typing import Iterable, NamedTuple, Protocol, cast
 
+from nozhgiva_tools.operate import standard
 from nozhgiva_tools.places import TOP
 
 PRINTING = threading.Lock()
@@ -205,7 +206,7 @@ def main() -> int:
 
 def run() -> None:
     """Runs it to its end."""
-    sys.exit(main())
+    standard.end(main)
 
 
 if __name__ == "__main__":
