@@ -13,6 +13,9 @@ use thiserror::Error;
 /// that is too long is seen as such.
 pub const RECEIVE_ROOM: usize = 20481;
 
+// How long a message may be, the contracts say by it.
+const _: () = prove!(RECEIVE_ROOM == 20481);
+
 /// A call of a link that failed.
 #[derive(Clone, Copy, Debug, PartialEq, Eq, Error)]
 #[error("link failed")]

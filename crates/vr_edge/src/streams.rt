@@ -15,6 +15,9 @@ use vr_base::ByteList;
 /// The length in bytes of the buffer of a poll.
 pub const STREAM_ROOM: usize = 4096;
 
+// How much one poll brings at most, the contracts say by it.
+const _: () = prove!(STREAM_ROOM == 4096);
+
 /// A call of streams that failed.
 #[derive(Clone, Copy, Debug, PartialEq, Eq, Error)]
 #[error("stream failed")]
