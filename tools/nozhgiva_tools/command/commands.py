@@ -147,6 +147,8 @@ COMMANDS: Tuple[Command, ...] = (
             "nozhgiva_tools.house.addresses"),
     Command("believed", KEEPING, "finds the definitions on which the clauses of `run` rest, and compares docs/BELIEVED.md with them", "nozhgiva believed --list", CHECKED,
             "nozhgiva_tools.house.believed"),
+    Command("clauses", KEEPING, "compares the contracts with those of a commit: what means something else, by all that it cites", "nozhgiva clauses main",
+            (("0", "no contract of before means something else"), ("1", "one does, or is gone"), WORDS), "nozhgiva_tools.house.clauses"),
     Command("gate-cost", KEEPING, "runs the gate, and tells what each crate costs", "nozhgiva gate-cost --save /tmp/cost rt ci --anew", COST,
             "nozhgiva_tools.house.gate_cost"),
     Command("mutations", KEEPING, "tries the mutation tests that the gate leaves out: the prover must refuse each", "nozhgiva mutations vr_super",
