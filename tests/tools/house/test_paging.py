@@ -248,9 +248,9 @@ class Numbers(Case):
             self.check(counting.bad_blocks({"docs/DEVELOPING.md": "a\n"}, made))
 
     def test_more_mutation_tests_than_the_gate_may_have(self) -> None:
-        self.check(counting.bad_gate({"gate_tests": "20", "gate_crates": "4"}))
-        self.check(counting.bad_gate({"gate_tests": "21", "gate_crates": "4"}), "crates/*/must-fail: gate_tests is 21, and 20 at most")
-        self.check(counting.bad_gate({"gate_tests": "20", "gate_crates": "5"}), "crates/*/must-fail: gate_crates is 5, and 4 at most")
+        self.check(counting.bad_gate({"gate_tests": "12", "gate_crates": "4"}))
+        self.check(counting.bad_gate({"gate_tests": "13", "gate_crates": "4"}), "crates/*/must-fail: gate_tests is 13, and 12 at most")
+        self.check(counting.bad_gate({"gate_tests": "12", "gate_crates": "5"}), "crates/*/must-fail: gate_crates is 5, and 4 at most")
 
     def test_laws_without_a_number_are_no_rungs(self) -> None:
         self.assertEqual([counting.is_rung(name) for name in ("law_1_machine", "law_12_last", "law_repair", "vr_law")], [True, True, False, False])

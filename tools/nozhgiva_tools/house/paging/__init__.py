@@ -9,6 +9,7 @@ from typing import Dict, List, NamedTuple, Set
 from nozhgiva_tools import places
 from nozhgiva_tools.command.commands import COMMANDS
 from nozhgiva_tools.house import mapping
+from nozhgiva_tools.house.mutations import edits_of
 from nozhgiva_tools.places import TOP
 
 Pages = Dict[str, str]
@@ -55,7 +56,7 @@ def read_tree() -> Tree:
     laws: Dict[str, List[str]] = {}
     for crate in (name for row in rows.values() for name in row):
         laws[crate] = [law for path in found(f"crates/{crate}/src/*.rt") for law in LAW.findall(read(path))]
-    guards = [os.path.basename(path)[:-len(".edit")] for path in found("crates/law_1_machine/must-fail/*.edit")]
+    guards = [edit.name for edit in edits_of("law_1_machine", True)]
     return Tree(rows, {crate: named for crate, named in laws.items() if named}, read_commands(), guards)
 
 

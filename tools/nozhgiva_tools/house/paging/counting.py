@@ -12,7 +12,7 @@ from . import addresses_script, found, Pages, read, Tree
 BEGIN, END = "<!-- ./nozhgiva addresses --above -->\n", "<!-- end -->"
 LAYERS, CRATES = "<!-- crates.txt: rows -->\n", "<!-- crates.txt: crates -->\n"
 WORDS_A_MINUTE = 200
-MOST_TESTS, MOST_CRATES = 20, 4  # of mutation tests in the gate: a crate's first one costs a second check of it
+MOST_TESTS, MOST_CRATES = 12, 4  # of mutation tests in the gate: a crate's first one costs a second check of it, each some ten seconds
 Numbers = Dict[str, str]
 
 # What pages say that is counted. Each word in braces stands for a number, or a name, of `count`. A sentence is looked for in every page, wherever its lines end,
