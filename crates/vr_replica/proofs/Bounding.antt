@@ -1,33 +1,18 @@
 -- How many messages, and how many bytes, a step sends at most.
-use Rattle.std.proofs.Common.{arith, ◌≡◌, ◌≤◌, ◌+◌, ◌-◌, ◌*◌, refl, sym, ap, ◌∙◌, ℕ, List, [], ◌∷◌, ◌++◌, length, length-append, Option, Some, None, Result, Ok, Err}
-use Rattle.std.specs.Prelude.{All, OnErr}
+use Rattle.std.proofs.Common.{arith, ◌≡◌, ◌≤◌, ◌-◌, refl, List, [], ◌∷◌, length, Some, None, Ok, Err}
+use Rattle.std.specs.Prelude.{All}
 use Rattle.std.proofs.lemmas.List.Elements.{All-head, All-tail}
-use Rattle.vr_base.specs.Versions.{value_limit}
-use Rattle.vr_base.proofs.Versions.{more}
-use Rattle.vr_base.proofs.FieldLaws.{length-bytes32, length-bytes64, length-name_of}
-use Rattle.vr_base.proofs.Places.{length-joined, total}
-use Rattle.vr_disk.specs.DiskState.{Disk}
-use Rattle.vr_disk.specs.declared.fault.Halt.{Halt}
-use Rattle.vr_disk.specs.declared.fault.Halt.TheVariants.{DiskFault, NoMemory}
-use Rattle.vr_header.specs.declared.command.Command.{Command}
-use Rattle.vr_header.specs.declared.header.Header.{Header}
-use Rattle.vr_header.specs.Spelling.{IsHeader, field_bytes, header_bytes, named_bytes}
-use Rattle.vr_header.proofs.HeaderLaws.{length-header_bytes}
 use Rattle.vr_msg.specs.declared.event.Event.{Event}
 use Rattle.vr_msg.specs.declared.event.Event.TheVariants as event
 use Rattle.vr_msg.specs.declared.output.Output.{Output}
 use Rattle.vr_msg.specs.declared.output.Sent.{Sent}
-use Rattle.vr_rules.specs.Does.{Does}
 use Rattle.vr_rules.specs.Fit.{MayCome}
-use Rattle.vr_rules.specs.Laws.{IsEvent, IsMessage}
+use Rattle.vr_rules.specs.Laws.{IsEvent}
 use Rattle.vr_rules.specs.Outputs.{messages}
 use Rattle.vr_rules.specs.Replica.{Replica, is_started, version}
-use Rattle.vr_rules.specs.Rules.{react}
 use Rattle.vr_rules.specs.Sectors.{sectors_by}
-use Rattle.vr_rules.specs.Sound.{IsSound}
-use Rattle.vr_rules.specs.Steps.{outputs}
 use Rattle.vr_rules.proofs.FitSteps.{steps_fit}
-use Rattle.vr_replica.specs.Bounds.{DoneIsFew, IsFormed, SendsFew, StepsAreShort, StepsSendFew, TableRows, AnswersAreSingle, longest, most, most_messages, one, sent, size, weight}
+use Rattle.vr_replica.specs.Bounds.{DoneIsFew, IsFormed, StepsAreShort, StepsSendFew, TableRows, AnswersAreSingle, longest, most_messages, one, sent, size, weight}
 use Rattle.vr_replica.proofs.WeighedRules.{steps_weigh_little}
 use Rattle.vr_replica.proofs.Lengths.{message_long}
 

@@ -1,10 +1,10 @@
 -- How long the messages of each kind are.
-use Rattle.std.proofs.Common.{arith, ◌≡◌, ◌≤◌, ◌+◌, ◌*◌, refl, ap, ◌∙◌, suc, ℕ, List, [], ◌∷◌, ◌++◌, length, length-append}
+use Rattle.std.proofs.Common.{arith, ◌≡◌, ◌≤◌, ◌+◌, ◌*◌, refl, ◌∙◌, ℕ, List, [], ◌∷◌, ◌++◌, length, length-append}
 use Rattle.std.specs.Prelude.{map}
 use Rattle.vr_base.specs.Bytes.{bytes16, bytes64, name_of}
 use Rattle.vr_base.specs.Versions.{value_limit}
 use Rattle.vr_base.proofs.FieldLaws.{length-bytes16, length-bytes32, length-bytes64, length-name_of}
-use Rattle.vr_base.proofs.Places.{length-joined, total}
+use Rattle.vr_base.proofs.Places.{length-joined}
 use Rattle.vr_base.proofs.Versions.{more}
 use Rattle.vr_header.specs.declared.header.Header.{Header}
 use Rattle.vr_header.specs.declared.operation.Operation.{Operation}
@@ -20,14 +20,12 @@ use Rattle.vr_header.proofs.BodyLaws.{text_limit}
 use Rattle.vr_header.proofs.HeaderLaws.{length-header_bytes}
 use Rattle.vr_msg.specs.declared.frame.Frame.{Frame}
 use Rattle.vr_msg.specs.declared.frame.Frame.TheVariants as frame
-use Rattle.vr_msg.specs.declared.frame.GetBlock.{GetBlock}
 use Rattle.vr_msg.specs.declared.frame.SyncView.{SyncView}
 use Rattle.vr_msg.specs.declared.reply.ReplyKind.{ReplyKind}
 use Rattle.vr_msg.specs.declared.reply.ReplyKind.TheVariants as reply
 use Rattle.vr_msg.specs.declared.statement.DvcBody.{DvcBody}
 use Rattle.vr_msg.specs.Asking.{IsKindValue}
-use Rattle.vr_msg.specs.Forms.{IsFrame}
-use Rattle.vr_msg.specs.Spelling.{AreHeaders, IsBodyValue, body_bytes, command_for, frame_header, headers_bytes, kind_bytes, known, parts_bytes, spelling, sync_bytes, tag, version_of}
+use Rattle.vr_msg.specs.Spelling.{AreHeaders, body_bytes, command_for, frame_header, headers_bytes, kind_bytes, known, parts_bytes, spelling, sync_bytes, tag, version_of}
 use Rattle.vr_msg.proofs.Short.{length-tags}
 use Rattle.vr_rules.specs.Laws.{IsHeaderOf, IsMessage}
 use Rattle.vr_replica.specs.Bounds.{longest}

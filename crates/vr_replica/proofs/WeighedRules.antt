@@ -1,5 +1,5 @@
 -- How much each rule, and so each step, has a replica send.
-use Rattle.std.proofs.Common.{arith, ◌≡◌, ◌≤◌, ◌<◌, ◌+◌, ◌-◌, ◌*◌, refl, sym, ap, ◌∙◌, subst, ℕ, Bool, true, false, cond, not, List, [], ◌∷◌, max, Option, Some, None, inl, inr}
+use Rattle.std.proofs.Common.{arith, ◌≡◌, ◌≤◌, ◌<◌, ◌+◌, ◌-◌, ◌*◌, refl, sym, subst, ℕ, Bool, true, false, not, List, [], ◌∷◌, max, Option, Some, None, inl, inr}
 use Rattle.std.specs.Prelude.{⊤, is_some, nat_le, ◌==◌, ◌&&◌}
 use Rattle.std.specs.Option.{option_map_or}
 use Rattle.std.proofs.lemmas.Bool.{cases_lt, cond_both, and_parts, not-false}
@@ -32,7 +32,7 @@ use Rattle.vr_msg.specs.declared.request.RequestFields.{RequestFields}
 use Rattle.vr_rules.specs.Outputs as told
 use Rattle.vr_rules.specs.Replica.{Replica, is_frozen, is_started, leads, version}
 use Rattle.vr_rules.specs.Sound.{IsSound}
-use Rattle.vr_rules.specs.Steps.{Setting, Word, ◌⨾◌, quiet, change, does, says, by, naming, reading, outputs}
+use Rattle.vr_rules.specs.Steps.{Setting, Word, ◌⨾◌, quiet, says, by, naming, reading, outputs}
 use Rattle.vr_rules.specs.Words as words
 use Rattle.vr_rules.specs.Deciding.{Hash, first_of as first_row, commit_table, get_block_table, get_prepare_table, get_sync_table, get_view_table, give_block_table, give_prepare_table, is_from, is_from_primary, is_out_of_reach, log_of, prepare_ok_table, prepare_table, request_table, start_view_table, sync_view_table}
 use Rattle.vr_rules.specs.declared.asker.Asker.{Asker}

@@ -1,5 +1,5 @@
 -- How much the words of the rules have a replica send.
-use Rattle.std.proofs.Common.{arith, ◌≡◌, ◌≤◌, ◌<◌, ◌+◌, ◌-◌, ◌*◌, refl, sym, ap, ◌∙◌, subst, ℕ, Bool, true, false, cond, not, List, [], ◌∷◌, length, max, Option, Some, None}
+use Rattle.std.proofs.Common.{arith, ◌≡◌, ◌≤◌, ◌<◌, ◌+◌, ◌-◌, ◌*◌, refl, sym, ap, ◌∙◌, subst, ℕ, Bool, true, cond, not, List, [], ◌∷◌, length, max, Option, Some, None}
 use Rattle.std.specs.Prelude.{nat_le, nat_lt, slice_get, is_some, ◌==◌, ◌&&◌, ◌||◌}
 use Rattle.std.proofs.lemmas.Bool.{cond_both, and_parts, leb-true}
 use Rattle.std.proofs.lemmas.List.FromFn.{length-range_with_len}
@@ -26,12 +26,12 @@ use Rattle.vr_msg.specs.declared.choice.Choice.{Choice}
 use Rattle.vr_msg.specs.declared.choice.Choice.TheVariants.{Ends, WaitsAt, TooFew}
 use Rattle.vr_rules.specs.Outputs as told
 use Rattle.vr_rules.specs.Outputs.{messages}
-use Rattle.vr_rules.specs.Replica.{Replica, forgetting, header_at, is_alone, is_primary, is_started, last_view, leads, statement_of, version, view_change, with_part}
-use Rattle.vr_rules.specs.Steps.{Mend, Word, ◌⨾◌, quiet, change, does, says, by, each, outputs}
+use Rattle.vr_rules.specs.Replica.{Replica, forgetting, header_at, is_primary, is_started, last_view, leads, statement_of, version, view_change, with_part}
+use Rattle.vr_rules.specs.Steps.{Mend, Word, quiet, change, does, says, by, each, outputs}
 use Rattle.vr_rules.specs.Words as words
 use Rattle.vr_rules.specs.Words.{usable}
 use Rattle.vr_replica.specs.Bounds.{asked, begun, spoken, weight}
-use Rattle.vr_replica.proofs.Weighing.{At, Just, Seat, Weighs, seat, times_more, weighs_all, weighs_as, weighs_by, weighs_change, weighs_does, weighs_each, weighs_from, weighs_if, weighs_keeps, weighs_line, weighs_naming, weighs_quiet, weighs_reading, weighs_says, weighs_send, weighs_then, weighs_times, weighs_when}
+use Rattle.vr_replica.proofs.Weighing.{At, Seat, Weighs, seat, times_more, weighs_all, weighs_as, weighs_by, weighs_change, weighs_does, weighs_each, weighs_from, weighs_if, weighs_keeps, weighs_line, weighs_naming, weighs_quiet, weighs_reading, weighs_says, weighs_send, weighs_then, weighs_times, weighs_when}
 
 -- ---- a replica in its seat
 
