@@ -3,3 +3,8 @@ pub mod Reacts
 pub mod EntryReadings
 pub mod Forms
 pub mod Stopped
+pub mod Weighing
+pub mod WeighedWords
+pub mod WeighedRules
+pub mod Lengths
+pub mod Bounding

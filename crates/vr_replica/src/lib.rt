@@ -3,6 +3,7 @@
 //! Whoever runs one in a program of his own finds here what he names: docs/HOSTING.md says what he owes it.
 #![tactic(auto)]
 
+pub mod bounds;
 mod entries;
 mod member;
 mod reacting;

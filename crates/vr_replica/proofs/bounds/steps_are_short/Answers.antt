@@ -1,0 +1,5 @@
+use Rattle.vr_replica.proofs.Bounding as bounding
+use Rattle.vr_replica.proofs.bounds.steps_are_short.Goals as goal
+
+pub returns : goal.returns
+returns g _ = bounding.steps_are_short
