@@ -1,0 +1,7 @@
+mod Fits
+mod Twins
+mod Words
+mod Seeing
+mod Effects
+mod Laws
+mod Damage
