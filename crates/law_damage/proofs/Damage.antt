@@ -23,7 +23,7 @@ use Rattle.law_damage.proofs.Twins.{AlikeAt, verifies_still}
 
 lied_other : (f : Face) (i k : ℕ) (a : Option (List ℕ)) → i ≢ k → reads (lied f i a) k ≡ reads f k
 unfolding lied
-lied_other f i k a d = ap (λ (c : Cell). c.reads) (get_or-set_other f.cells k i (record (cell f i) { reads = a }) blank d)
+lied_other f i k a d = ap (λ (c : Cell). c.reads) (get_or-set_other f.cells i k (record (cell f i) { reads = a }) blank (λ e. d (sym e)))
 
 others_same : (v : ℕ) (f : Face) (i : ℕ) (a b : Option (List ℕ)) (r : Region) → ((k : ℕ) → IsIn v r k → i ≢ k) → AlikeAt v (lied f i a) (lied f i b) r
 others_same v f i a b r h = inl (λ k x. lied_other f i k b (h k x) ∙ sym (lied_other f i k a (h k x)))
