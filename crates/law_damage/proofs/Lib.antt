@@ -5,3 +5,4 @@ mod Seeing
 mod Effects
 mod Laws
 mod Damage
+mod Rows
