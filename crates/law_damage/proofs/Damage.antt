@@ -1,6 +1,6 @@
 -- Which disks read alike, and that the premise stands on both or on neither.
-use Rattle.std.proofs.Common.{ℕ, suc, ◌+◌, ◌≤◌, ◌<◌, ◌≡◌, ◌≢◌, ◌⊎◌, ◌∙◌, inl, inr, arith, refl, sym, ap, Bool, true, false, List, [], Option, Some, None, get_or-set_other}
-use Rattle.std.specs.Prelude.{is_some, ◌||◌}
+use Rattle.std.proofs.Common.{ℕ, ◌+◌, ◌<◌, ◌≡◌, ◌≢◌, ◌∙◌, inl, inr, arith, refl, sym, ap, true, false, List, [], Option, Some, None, get_or-set_other}
+use Rattle.std.specs.Prelude.{is_some}
 use Rattle.std.specs.Option.{option_map, option_map_or}
 use Rattle.std.proofs.lemmas.Bool.{cases_lt, or_parts}
 use Rattle.std.proofs.lemmas.List.{append-nil}
@@ -12,10 +12,10 @@ use Rattle.vr_disk.specs.Regions.{header_place, prepare_place, prepare_sectors}
 use Rattle.vr_disk.specs.Sectors.{behind, together}
 use Rattle.vr_disk.proofs.Together.{together_same}
 use Rattle.vr_mem.specs.Lies.{lied}
-use Rattle.vr_rings.specs.Held.{Holds, MayRead, is_header_sector, is_prepare}
+use Rattle.vr_rings.specs.Held.{MayRead, is_header_sector, is_prepare}
 use Rattle.vr_rings.specs.Moving.{is_movable}
 use Rattle.vr_rings.specs.Slots.{header_of, header_reading, padded, prepare_reading}
-use Rattle.law_damage.specs.Alike.{Region, Header, Prepare, IsIn, IsRegion, ReadAlike, ReadsSame, VerifiesOnNeither, count, is_good, place, verifies}
+use Rattle.law_damage.specs.Alike.{Region, Header, Prepare, IsIn, ReadAlike, count, place, verifies}
 use Rattle.law_damage.specs.Laws as law
 use Rattle.law_damage.proofs.Twins.{AlikeAt, verifies_still}
 

@@ -1,5 +1,5 @@
 -- Each effect leaves two disks that read alike.
-use Rattle.std.proofs.Common.{ℕ, zero, suc, ◌+◌, ◌*◌, ◌-◌, ◌%◌, ◌≤◌, ◌<◌, ◌≡◌, ◌≢◌, ◌⊎◌, ◌∙◌, inl, inr, arith, refl, sym, ap, subst, Bool, true, false, cond, List, [], ◌∷◌, ◌++◌, length, drop, take, Option, Some, None}
+use Rattle.std.proofs.Common.{ℕ, zero, suc, ◌+◌, ◌*◌, ◌≤◌, ◌<◌, ◌≡◌, ◌⊎◌, ◌∙◌, inl, inr, arith, refl, sym, ap, subst, Bool, true, false, cond, List, [], ◌∷◌, ◌++◌, length, drop, Option, Some, None}
 use Rattle.std.specs.List.{AllByRecursion}
 use Rattle.std.specs.Prelude.{is_some}
 use Rattle.std.specs.Option.{option_map_or}
@@ -7,9 +7,8 @@ use Rattle.std.proofs.lemmas.Bool.{cases_eq, cases_lt}
 use Rattle.std.proofs.lemmas.List.{length-append, take_all}
 use Rattle.vr_base.specs.Bytes.{piece}
 use Rattle.vr_disk.specs.Regions.{block_place, header_place, prepare_place, prepare_sectors, sectors}
-use Rattle.vr_disk.specs.DiskState.{Call, Write, Sync, Cell, Face, after, after_all, cell, reads, written}
+use Rattle.vr_disk.specs.DiskState.{Call, Write, Sync, Cell, Face, after, after_all, reads}
 use Rattle.vr_disk.specs.Sectors.{behind as put_behind, has, together, writes}
-use Rattle.vr_disk.specs.Stops.{Spares}
 use Rattle.vr_disk.proofs.Frames.{frame_all}
 use Rattle.vr_disk.proofs.Places.{behind_headers}
 use Rattle.vr_disk.proofs.Together.{Within, after_all_append, has_is, is_has, length_after_all, together_same, together_written, within_append, within_spares, writes_within}
@@ -27,8 +26,8 @@ use Rattle.vr_ckpt.specs.Saves.{blocks_calls, save_calls, written as blocks_writ
 use Rattle.vr_rules.proofs.FitDisks.{grid_behind}
 use Rattle.vr_rules.specs.Sectors.{calls_by}
 use Rattle.vr_rules.specs.Steps.{Effect, Write as Stores, Rewrite, Save, Mend, Checkpoint, PutBlock, Say}
-use Rattle.law_damage.specs.Alike.{Region, Copy, Header as HeaderSector, Prepare, Block, IsIn, IsRegion, ReadAlike, ReadsSame, VerifiesOnNeither, count, is_good, place, verifies}
-use Rattle.law_damage.proofs.Fits.{Fits, blocks_fit, copies_fit, headers_fit, prepares_fit}
+use Rattle.law_damage.specs.Alike.{Region, Copy, Header as HeaderSector, Prepare, Block, IsRegion, place, verifies}
+use Rattle.law_damage.proofs.Fits.{blocks_fit, copies_fit, headers_fit, prepares_fit}
 use Rattle.law_damage.proofs.Twins.{AlikeAt, Fills, Hits, Short, Slim, Twins, alike_still, fill, hit, short_after, slim_append, still, take_short, verifies_still, writes_hit, writes_slim}
 
 -- ---- calls that are the same on both

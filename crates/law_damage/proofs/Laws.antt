@@ -1,5 +1,5 @@
 -- What is the same over two disks that read alike.
-use Rattle.std.proofs.Common.{ℕ, ◌≡◌, ◌∙◌, refl, sym, ap, subst, List, Option, Some, None}
+use Rattle.std.proofs.Common.{ℕ, ◌≡◌, ◌∙◌, refl, ap, subst, Option, Some, None}
 use Rattle.std.specs.Option.{option_map}
 use Rattle.vr_disk.specs.DiskState.{Face}
 use Rattle.vr_super.specs.Copies.{SuperValue}

@@ -1,7 +1,10 @@
 -- Rows: which disks are related, and which aren't.
-use Rattle.std.proofs.Common.{ℕ, zero, suc, ◌+◌, ◌*◌, ◌≤◌, ◌<◌, ◌≡◌, ◌∙◌, inl, inr, arith, refl, sym, ap, false, true, List, [], get_or, replicate, Option, Some, None}
+use Rattle.std.proofs.Common.{ℕ, zero, suc, ◌≡◌, ◌∙◌, inl, inr, arith, refl, sym, ap, false, true, List, [], get_or, replicate, Option, Some, None}
 use Rattle.std.specs.Option.{option_map_or}
+use Rattle.vr_base.specs.Bytes.{number}
 use Rattle.vr_disk.specs.DiskState.{damaged}
+use Rattle.vr_header.specs.Made.{entry_of}
+use Rattle.vr_header.specs.Spelling.{fault_of}
 use Rattle.vr_disk.specs.Sectors.{together}
 use Rattle.vr_disk.proofs.Places.{behind_headers}
 use Rattle.vr_mem.specs.Lies.{lied}
@@ -28,19 +31,19 @@ header_fails : (bytes : List ℕ) → header_of bytes ≡ None → together 80 1
 header_fails bytes e t = rw (t, e) refl
 
 turned_fails : header_of turned ≡ None
-unfolding header_of
+unfolding header_of turned zeros
 turned_fails = refl
 
 others_fail : header_of others ≡ None
-unfolding header_of
+unfolding header_of others
 others_fail = refl
 
 turned_there : together 80 1 (lied plain 80 (Some turned)) ≡ Some turned
-unfolding together lied
+unfolding together lied plain turned zeros
 turned_there = refl
 
 others_there : together 80 1 (lied plain 80 (Some others)) ≡ Some others
-unfolding together lied
+unfolding together lied plain others
 others_there = refl
 
 nowhere : (r : Region) → IsRegion r → IsIn 2 r 80 → VerifiesOnNeither 2 (lied plain 80 (Some turned)) (lied plain 80 (Some others)) r
@@ -55,15 +58,16 @@ patterns_alike : ReadAlike 2 (lied plain 80 (Some turned)) (lied plain 80 (Some 
 patterns_alike = damage 2 plain 80 (Some turned) (Some others) nowhere
 
 blank_verifies : verifies 2 plain (Prepare 0) ≡ true
-unfolding together whole_of size_at
+unfolding together whole_of size_at number entry_of fault_of plain zeros
 blank_verifies = refl
 
 now_turned : reads (lied plain 1424 (Some turned)) 1424 ≡ Some turned
-unfolding lied
+unfolding lied plain
 now_turned = refl
 
 -- a prepare of zeros verifies, so one that is damaged isn't like it
 not_alike : ReadAlike 2 plain (lied plain 1424 (Some turned)) → ⊥
+unfolding plain turned zeros
 not_alike a =
     elim (a.each (Prepare 0) (omega arith)) [
       | inl s ↦ let e : Some turned ≡ Some zeros = sym now_turned ∙ s 1424 (omega arith, omega arith) in let no : 255 ≡ 0 = ap (λ (o : Option (List ℕ)). option_map_or (λ b. get_or b 0 0) o 0) e in omega (arith, no)

@@ -1,6 +1,6 @@
 -- What is read of two disks that read alike is the same.
-use Rattle.std.proofs.Common.{ℕ, zero, suc, ◌+◌, ◌*◌, ◌-◌, ◌<◌, ◌≤◌, ◌≡◌, ◌⊎◌, ◌∙◌, inl, inr, arith, refl, sym, ap, Bool, true, false, cond, List, [], ◌∷◌, ◌++◌, Option, Some, None}
-use Rattle.std.specs.Prelude.{is_some, min, nat_lt, ◌||◌}
+use Rattle.std.proofs.Common.{ℕ, ◌*◌, ◌-◌, ◌<◌, ◌≤◌, ◌≡◌, ◌⊎◌, ◌∙◌, inl, inr, arith, refl, sym, ap, false, List, [], ◌∷◌, Option, Some, None}
+use Rattle.std.specs.Prelude.{is_some, min}
 use Rattle.std.specs.Option.{option_and_then, option_map, option_map_or}
 use Rattle.std.proofs.lemmas.Bool.{lt-ltb, le-ltb, cases_lt, or_parts}
 use Rattle.std.proofs.lemmas.List.{append-nil}
@@ -9,20 +9,18 @@ use Rattle.vr_disk.specs.DiskState.{Face, reads}
 use Rattle.vr_disk.specs.Regions.{block_place, header_place, prepare_place, prepare_sectors}
 use Rattle.vr_disk.specs.Sectors.{behind, together}
 use Rattle.vr_disk.proofs.Together.{together_same}
-use Rattle.vr_super.specs.Copies.{SuperValue, value_of}
-use Rattle.vr_super.specs.Opens.{copy_reading, good_copy, if_good, opened, opens}
-use Rattle.vr_rings.specs.Slots.{header_in, header_of, header_reading, is_blank, padded, prepare_reading, whole_in, whole_of}
+use Rattle.vr_super.specs.Copies.{value_of}
+use Rattle.vr_super.specs.Opens.{copy_reading, good_copy, if_good, opens}
+use Rattle.vr_rings.specs.Slots.{header_in, header_of, is_blank, padded, whole_in, whole_of}
 use Rattle.vr_rings.specs.Moving.{is_movable}
 use Rattle.vr_ckpt.specs.Blocks.{Content, content_of, if_named, named}
 use Rattle.vr_ckpt.specs.Grid.{block_reading, named_at}
 use Rattle.vr_ckpt.specs.Places.{grid_size}
-use Rattle.vr_ckpt.specs.Loads.{data_at, data_of, gathered, gathered_both, load_by, loaded, read_root, root_at, with_data}
-use Rattle.vr_ckpt.specs.declared.found.Load.{Load}
-use Rattle.vr_ckpt.specs.declared.loading.Gathered.{Gathered}
+use Rattle.vr_ckpt.specs.Loads.{data_at, data_of, gathered, load_by, loaded, read_root, root_at}
 use Rattle.vr_ckpt.specs.declared.name.Name.{Name}
 use Rattle.vr_ckpt.specs.declared.root.Root.{Root}
 use Rattle.vr_rules.specs.Sectors.{block_in, of_version}
-use Rattle.law_damage.specs.Alike.{Region, Copy, Header, Prepare, Block, IsRegion, ReadAlike, ReadsSame, VerifiesOnNeither, count, is_good, place, verifies}
+use Rattle.law_damage.specs.Alike.{Region, Copy, Header, Prepare, Block, IsRegion, ReadAlike, VerifiesOnNeither, count, place, verifies}
 use Rattle.law_damage.specs.Laws.{Sees}
 
 none_of : {X : Type 0} (o : Option X) → is_some o ≡ false → o ≡ None

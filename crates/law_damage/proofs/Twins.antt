@@ -1,16 +1,15 @@
 -- Calls that write whole regions leave disks that read alike.
-use Rattle.std.proofs.Common.{ℕ, zero, suc, ◌+◌, ◌*◌, ◌-◌, ◌≤◌, ◌<◌, ◌≡◌, ◌≢◌, ◌⊎◌, ◌∙◌, inl, inr, arith, refl, sym, ap, subst, true, false, List, [], ◌∷◌, ◌++◌, length, length-set, drop, take, Option, Some, None}
+use Rattle.std.proofs.Common.{ℕ, zero, suc, ◌+◌, ◌≤◌, ◌<◌, ◌≡◌, ◌⊎◌, ◌∙◌, inl, inr, arith, sym, ap, subst, false, List, [], ◌∷◌, ◌++◌, length, length-set, drop, take, Option, Some}
 use Rattle.std.specs.List.{AllByRecursion}
 use Rattle.std.specs.Option.{option_map_or}
-use Rattle.std.proofs.lemmas.Bool.{cases_eq, cases_lt}
+use Rattle.std.proofs.lemmas.Bool.{cases_eq}
 use Rattle.vr_base.specs.Bytes.{piece}
 use Rattle.vr_disk.specs.Regions.{sectors}
-use Rattle.vr_disk.specs.DiskState.{Call, Write, Sync, Cell, Face, IsFace, after, after_all, blank, cell, reads, written}
-use Rattle.vr_disk.specs.Sectors.{together, writes}
-use Rattle.vr_disk.specs.Stops.{Spares}
+use Rattle.vr_disk.specs.DiskState.{Call, Write, Sync, Cell, Face, IsFace, after, after_all, cell, reads, written}
+use Rattle.vr_disk.specs.Sectors.{writes}
 use Rattle.vr_disk.proofs.Faces.{there}
 use Rattle.vr_disk.proofs.Frames.{frame_all, reads_back, reads_other}
-use Rattle.vr_disk.proofs.Together.{Within, after_all_append, length_after_all, together_same, within_spares}
+use Rattle.vr_disk.proofs.Together.{Within, length_after_all, together_same, within_spares}
 use Rattle.law_damage.specs.Alike.{Region, IsIn, IsRegion, ReadAlike, ReadsSame, VerifiesOnNeither, count, is_good, place, verifies}
 use Rattle.law_damage.proofs.Fits.{Fits, own, before, behind, region_inside}
 

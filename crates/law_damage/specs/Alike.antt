@@ -1,5 +1,5 @@
 -- Two disks that read the same but where neither verifies.
-use Rattle.std.specs.Prelude.{ℕ, ◌+◌, ◌*◌, ◌≤◌, ◌<◌, ◌≡◌, ◌⊎◌, Bool, false, List, Option, is_some}
+use Rattle.std.specs.Prelude.{ℕ, ◌+◌, ◌*◌, ◌≤◌, ◌<◌, ◌≡◌, ◌⊎◌, Bool, false, List, is_some}
 use Rattle.std.specs.Option.{option_map_or}
 use Rattle.vr_disk.specs.DiskState.{Face, reads}
 use Rattle.vr_disk.specs.Regions.{block_place, header_place, prepare_place, prepare_sectors}
