@@ -165,7 +165,6 @@ module _ {F : Type 0} {w : ℕ → Command → ℕ} {o : Seat} where
   unfolding words.jump words.jumped forgetting
   at_jump v = weighs_then _ _ (weighs_change _ (λ r p. record { seat = p; above = omega arith })) (from_save v.commit)
 
-
   -- a word for each op above the commit number, up to one that is near
   pub from_each : {k : ℕ} (c head : ℕ) (v : ℕ → Word F) → head ≤ c + 64 → ((op : ℕ) → Weighs w (At o) (At o) k (v op)) → Weighs w (From o c) (At o) (64 * k) (by (λ r. each v (ops r.commit head)))
   from_each c head v near h =
