@@ -1,6 +1,6 @@
 -- A replica as it begins, and what it does once its Parts are found.
-use Rattle.std.proofs.Common.{arith, ◌≡◌, ◌<◌, ◌+◌, ◌-◌, ◌^◌, ◌∙◌, inr, refl, sym, subst, Bool, List, [], ◌++◌, Option, true, false, Result, Ok, cond, append-nil}
-use Rattle.std.specs.Prelude.{nat_le}
+use Rattle.std.proofs.Common.{arith, ◌≡◌, ◌<◌, ◌+◌, ◌-◌, ◌^◌, ◌∙◌, inr, refl, sym, subst, Bool, List, [], ◌++◌, Option, true, false, Result, Ok, Err, cond, append-nil}
+use Rattle.std.specs.Prelude.{OnOk, nat_le}
 use Rattle.std.proofs.lemmas.Bool.{and_parts, eqb-true, ltb-false}
 use Rattle.vr_disk.specs.DiskState.{Disk}
 use Rattle.vr_msg.specs.declared.output.Output.{Output}
@@ -59,6 +59,10 @@ opened_next r q h l e =
 pub opened_saved : (r q : Replica) → MayLoad r → IsReady q → q ≡ with_saved r → MayLoad q
 unfolding MayLoad
 opened_saved r q h ready e = record { ready = ready; applied = subst (λ (x : Replica). x.applied ≡ x.checkpoint) (sym e) h.applied }
+
+pub saved_opened : (r q : Replica) (res : Result (Unit {0}) Halt) → MayLoad r → OnOk res (IsReady q) → OnOk res (q ≡ with_saved r) → OnOk res (MayLoad q)
+saved_opened r q (Ok u) h ready e = opened_saved r q h ready e
+saved_opened r q (Err halt) h ready e = tt
 
 pub leave_then : (r q r2 : Replica) (d d2 : Option Disk) (o o2 : List Output) (res : Result (Unit {0}) Halt) → leads r ≡ true → q ≡ in_next_view r → Does save q r2 d d2 o o2 res → Does leave_view r r2 d d2 o o2 res
 leave_then r q r2 d d2 o o2 res l e h = does_by _ r r2 d d2 o o2 res (rw l (change_by_then in_next_view save r q r2 d d2 o o2 res e refl h))

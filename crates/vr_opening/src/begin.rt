@@ -21,7 +21,7 @@ use vr_msg::Outbox;
 // stays as it is, and makes no call of the disk. Nothing is put out. After `Ok` it is ready, with nothing applied above its checkpoint, and its
 // sequence number is one more at most. After an `Err` the disk got the save's calls up to the one that failed, or a front of them; of the replica
 // nothing is said.
-#[tactic(auto, using(crate::proofs::Begins::leave_then, crate::proofs::Begins::leave_none, crate::proofs::Begins::next_fits, crate::proofs::Begins::opened_next, crate::proofs::Begins::opened_member, vr_actions::proofs::Loads::ready_opened))]
+#[tactic(auto, using(crate::proofs::Begins::next_fits, crate::proofs::Begins::opened_next, crate::proofs::Begins::opened_member, vr_actions::proofs::Loads::ready_opened))]
 fn leave_view<D: SectorDisk>(
     replica: &mut Replica,
     alloc: Global,
@@ -37,8 +37,7 @@ fn leave_view<D: SectorDisk>(
 {
     if replica.leads() {
         replica.to_next_view();
-        save(replica, alloc, disk, out)?;
-        Ok(())
+        save(replica, alloc, disk, out)
     } else {
         Ok(())
     }
