@@ -1,7 +1,9 @@
 -- What each call leaves of the disk above a cache and its file.
-use Rattle.std.proofs.Common.{arith, refl, sym, ap, ◌≡◌, ◌∙◌, ◌<◌, ◌≤◌, ℕ, Bool, true, false, cond, List, length, Option, Some, None, ◌⊎◌, inl, inr, replicate}
+use Rattle.std.specs.List.{between}
+use Rattle.std.proofs.Common.{arith, refl, sym, ap, ◌≡◌, ◌∙◌, ◌+◌, ◌-◌, ◌*◌, ◌<◌, ◌≤◌, ℕ, Bool, true, false, cond, List, length, Option, Some, None, ◌⊎◌, inl, inr, replicate}
 use Rattle.std.proofs.lemmas.Bool.{cases_Bool}
 use Rattle.std.proofs.lemmas.Bool.Decides.{nat_tests}
+use Rattle.std.proofs.lemmas.List.Edits.{length-between}
 use Rattle.vr_disk.specs.declared.sector.Sector.{Sector}
 use Rattle.vr_io_policy.specs.declared.cached.Cached.{Cached}
 use Rattle.vr_io_policy.specs.declared.cached.Cached.TheVariants.{Unknown, Unread, Held}
@@ -9,9 +11,9 @@ use Rattle.vr_io_policy.specs.Caches.{AreWhole, Cache, IsCache, IsReady, bytes_o
 use Rattle.vr_io_policy.specs.Files.{Spot, Stands, StandsAt, in_pages, lost, neighbors_lost, over, pages_written, sector_written, synced, waiting_written}
 use Rattle.vr_io_policy.proofs.Between.{is_a_disk}
 use Rattle.vr_io_policy.proofs.Over.{over_now, over_same, page_stops}
-use Rattle.vr_file.specs.Calls.{ReadsSpot, Spots, SyncsSpots, WritesSpots, is_within, spots_written}
+use Rattle.vr_file.specs.Calls.{IsWithin, ReadsSpot, Spots, SyncsSpots, WritesSpots, is_within, spots_written}
 use Rattle.vr_file.specs.Above.{Goes, IsAbove}
-use Rattle.vr_file.proofs.Pieces.{piece_between, within_between}
+use Rattle.vr_file.proofs.Pieces.{length_bytes, piece_between, within_between}
 
 abbrev lost_bytes : List ℕ
 lost_bytes = replicate 512 255
@@ -198,6 +200,23 @@ alone_some c ok None u d is w s h = absurd h
 alone_some c ok (Some f) u d is w s h =
     let each : (j : ℕ) → (s.0 j ≡ f j) ⊎ (s.0 j ≡ waiting_written f c j) = λ j. alone_each c f s.0 j is w (s.2.some j) in
     rw s.1 (record { at = λ j. alone_chosen (waits c j) (cached c j) (f j) (waiting_written f c j) (s.0 j) (d j) (each j) (h.at j) (alone_half (waits c j) (cached c j) (f j) (d j) (h.at j)) })
+
+-- ---- writes stand within the file
+
+between_within : (c : Cache) (a b : ℕ) (bytes : List ℕ) → IsCache c → a ≤ b → b ≤ 3984 → AreWhole (between a b c.sectors) → bytes ≡ bytes_of (between a b c.sectors) → IsWithin a bytes
+between_within c a b bytes is h l w e =
+    let size = is.size in
+    let bound : b ≤ length c.sectors = omega (arith, size, l) in
+    let long : length (between a b c.sectors) ≡ b - a = length-between c.sectors a b bound in
+    record { count = b - a; whole = rw e (length_bytes (between a b c.sectors) w.each ∙ ap (λ n. 512 * n) long); below = omega (arith, h, l) }
+
+pub pages_within : (c : Cache) (bytes : List ℕ) → IsCache c → AreWhole (pages c) → bytes ≡ bytes_of (pages c) → IsWithin (pages_first c) bytes
+pages_within c bytes is w e =
+    let order = is.order in let within = is.within in
+    between_within c (pages_first c) (pages_end c) bytes is (omega (arith, order)) (omega (arith, within)) w e
+
+pub waiting_within : (c : Cache) (bytes : List ℕ) → IsCache c → AreWhole (waiting c) → bytes ≡ bytes_of (waiting c) → IsWithin c.first bytes
+waiting_within c bytes is w e = between_within c c.first c.end bytes is is.order is.within w e
 
 -- ---- syncs and forgetting
 

@@ -1,12 +1,12 @@
 -- What is known after a call.
-use Rattle.std.proofs.Common.{arith, refl, ◌≡◌, ◌∙◌, ◌+◌, ◌<◌, ℕ, true, false, get_or, set, max, inl, inr}
+use Rattle.std.proofs.Common.{arith, refl, ◌≡◌, ◌∙◌, ◌+◌, ◌<◌, ℕ, zero, suc, true, false, get_or, set, max, inl, inr, replicate}
 use Rattle.std.proofs.lemmas.Bool.{cond_both}
 use Rattle.std.proofs.lemmas.Bool.Decides.{eqb_tells}
 use Rattle.std.proofs.lemmas.List.{get_or-set_same, get_or-set_other}
 use Rattle.vr_disk.specs.declared.sector.Sector.{Sector}
 use Rattle.vr_io_policy.specs.declared.cached.Cached.{Cached}
 use Rattle.vr_io_policy.specs.declared.cached.Cached.TheVariants.{Unknown, Held}
-use Rattle.vr_io_policy.specs.Caches.{Cache, IsCache, cached, is_clean, is_held, learnt, put}
+use Rattle.vr_io_policy.specs.Caches.{Cache, IsBlank, IsCache, cached, is_clean, is_held, learnt, new_cache, put}
 
 abbrev with_sector : Cache → ℕ → Cached → Cache
 with_sector c i found = record { sectors = set c.sectors i found; first = c.first; end = c.end; tried = c.tried; forgotten = c.forgotten }
@@ -33,3 +33,13 @@ learnt_keeps c i found k h = cond_both (is_held (cached c i)) c (with_sector c i
 pub kept_then : (a b c : Cache) → ((k : ℕ) → is_held (cached a k) ≡ true → cached b k ≡ cached a k) → ((k : ℕ) → is_held (cached b k) ≡ true → cached c k ≡ cached b k)
     → (k : ℕ) → is_held (cached a k) ≡ true → cached c k ≡ cached a k
 kept_then a b c h g k t = g k (rw (h k t) t) ∙ h k t
+
+-- ---- nothing is known
+
+all_unknown : (n j : ℕ) → get_or (replicate n Unknown) j Unknown ≡ Unknown
+all_unknown zero j = refl
+all_unknown (suc n) zero = refl
+all_unknown (suc n) (suc j) = all_unknown n j
+
+pub new_blank : IsBlank new_cache
+new_blank = record { clean = refl; each = λ i. all_unknown 3984 i }

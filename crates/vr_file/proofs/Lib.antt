@@ -1,4 +1,5 @@
 mod Above
+mod Asking
 mod Known
 mod Pieces
 mod Settling

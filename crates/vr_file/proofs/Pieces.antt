@@ -26,7 +26,7 @@ pieces [] k h w = absurd (omega arith)
 pieces (x ∷ xs) zero h w = first_piece (stands_for x) (bytes_of xs) (w 0 (omega arith))
 pieces (x ∷ xs) (suc k) h w = ap (take 512) (later_piece (stands_for x) (bytes_of xs) k (w 0 (omega arith))) ∙ pieces xs k (omega arith) (later x xs w)
 
-length_bytes : (xs : List Cached) → Whole xs → length (bytes_of xs) ≡ 512 * length xs
+pub length_bytes : (xs : List Cached) → Whole xs → length (bytes_of xs) ≡ 512 * length xs
 length_bytes [] w = refl
 length_bytes (x ∷ xs) w =
     let first : length (stands_for x) ≡ 512 = w 0 (omega arith) in

@@ -13,7 +13,7 @@ use Rattle.vr_io_policy.specs.Files.{Leaves, Spot, over, sector_written, settled
 use Rattle.vr_io_policy.proofs.Over.{over_cases, over_now}
 use Rattle.vr_file.specs.Above.{Spared}
 use Rattle.vr_file.specs.Calls.{Spots}
-use Rattle.vr_file.specs.Shown.{IsADiskOfProofs, IsCutSo, IsShown, IsShownAt, IsWrittenOnce, LosesMore, MayLeave, OnceAt, read_so, reading_so}
+use Rattle.vr_file.specs.Shown.{AreWrittenOnce, Does, Follows, IsADiskOfProofs, IsCutSo, IsShown, IsShownAt, IsWhole, IsWrittenOnce, LosesMore, MayLeave, OnceAt, Reads, RunsSo, Step, read_so, reading_so}
 use Rattle.vr_file.proofs.Settling.{Coded, below_three, coded, digit_for, left_so}
 
 -- ---- those that wait
@@ -196,11 +196,62 @@ stops g lost d left h x =
       ];
     }
 
+-- ---- lists of calls
+
+spared_same : (d m : Spots) (i : ℕ) → IsWhole d → Spared d m → m i ≡ d i
+spared_same d m i w s = elim (s.at i) [
+  | inl same ↦ same
+  | inr p ↦ absurd (w.each i p.0)
+]
+
+shown_same : (g : Face) (lost : ℕ → Bool) (d m : Spots) → ((i : ℕ) → m i ≡ d i) → IsShown g lost d → IsShown g lost m
+shown_same g lost d m e h = record { size = h.size; at = λ i l. rw (e i) (h.at i l) }
+
+whole_same : (d m : Spots) → ((i : ℕ) → m i ≡ d i) → IsWhole d → IsWhole m
+whole_same d m e w = record { each = λ i n. w.each i (ap (λ (s : Spot). s.now) (sym (e i)) ∙ n) }
+
+some_not_none : (bytes : List ℕ) (o : Option (List ℕ)) → o ≡ Some bytes → o ≡ None → ⊥
+some_not_none bytes o e n = absurd cc
+
+written_now : (d : Spots) (i j : ℕ) (bytes : List ℕ) → IsWhole d → (sector_written d i bytes j).now ≡ None → ⊥
+written_now d i j bytes w = elim (eqb_tells j i) [
+  | inl p ↦ λ n. some_not_none bytes (over (d j) bytes).now (over_now (d j) bytes) (rw (cond-true (eqb j i) (over (d j) bytes) (d j) p.0) at n)
+  | inr p ↦ λ n. w.each j (rw (cond-false (eqb j i) (over (d j) bytes) (d j) p.0) at n)
+]
+
+whole_written : (d : Spots) (i : ℕ) (bytes : List ℕ) → IsWhole d → IsWhole (sector_written d i bytes)
+whole_written d i bytes w = record { each = λ j n. written_now d i j bytes w n }
+
+whole_synced : (d : Spots) → IsWhole d → IsWhole (synced d)
+whole_synced d w = record { each = λ i n. w.each i n }
+
+shown_synced : (g : Face) (lost : ℕ → Bool) (d : Spots) → IsShown g lost d → IsShown (after g Sync) (λ i. false) (synced d)
+shown_synced g lost d h = record { size = h.size; at = λ i l. synced_at g (lost i) (d i) i (h.at i l) }
+
+lists : (ss : List Step) (g : Face) (d e : Spots) → AreWrittenOnce ss g → IsWhole d → Follows ss d e → IsShown g (λ i. false) d → RunsSo ss g e
+lists [] g d e o w f h = record { shown = shown_same g (λ i. false) d e (λ i. spared_same d e i w f) h; given = tt }
+lists (Reads i given ∷ ss) g d e o w f h =
+    let same : (j : ℕ) → f.0 j ≡ d j = λ j. spared_same d f.0 j w f.1 in
+    let s : IsShown g (λ i. false) f.0 = shown_same g (λ i. false) d f.0 same h in
+    let r : RunsSo ss g e = lists ss g f.0 e o.1 (whole_same d f.0 same w) f.3 s in
+    record { shown = r.shown; given = (sym f.2 ∙ (s.at i o.0).now, r.given) }
+lists (Does (Write i bytes) ∷ ss) g d e o w f h =
+    let same : (j : ℕ) → f.0 j ≡ d j = λ j. spared_same d f.0 j w f.1 in
+    let s : IsShown (after g (Write i bytes)) (λ i. false) (sector_written f.0 i bytes) = writes g (λ i. false) f.0 i bytes o.0 o.1 (shown_same g (λ i. false) d f.0 same h) in
+    let r : RunsSo ss (after g (Write i bytes)) e = lists ss (after g (Write i bytes)) (sector_written f.0 i bytes) e o.2 (whole_written f.0 i bytes (whole_same d f.0 same w)) f.2 s in
+    record { shown = r.shown; given = r.given }
+lists (Does Sync ∷ ss) g d e o w f h =
+    let same : (j : ℕ) → f.0 j ≡ d j = λ j. spared_same d f.0 j w f.1 in
+    let s : IsShown (after g Sync) (λ i. false) (synced f.0) = shown_synced g (λ i. false) f.0 (shown_same g (λ i. false) d f.0 same h) in
+    let r : RunsSo ss (after g Sync) e = lists ss (after g Sync) (synced f.0) e o (whole_synced f.0 (whole_same d f.0 same w)) f.2 s in
+    record { shown = r.shown; given = r.given }
+
 pub is_a_disk_of_proofs : IsADiskOfProofs
 is_a_disk_of_proofs = record {
   begins = λ g n e. record { size = n; at = λ i l. record { now = refl; rest = λ z w left x. settled_alone (reads g i) left x; wait = λ z. rw e tt } };
   writes = writes;
-  syncs = λ g lost d h. record { size = h.size; at = λ i l. synced_at g (lost i) (d i) i (h.at i l) };
+  syncs = shown_synced;
   loses = loses;
   stops = stops;
+  lists = lists;
 }

@@ -8,9 +8,7 @@ use std::os::fd::AsRawFd;
 use std::os::unix::fs::{FileExt, OpenOptionsExt};
 use std::path::Path;
 use vr_disk::{SECTOR_SIZE, SECTORS};
-
-/// The bytes of the file: 498 pages of 4,096.
-const FILE_SIZE: u64 = SECTORS as u64 * SECTOR_SIZE as u64;
+use vr_io_policy::{FILE_SIZE, Length, length_of, sectors_begun};
 
 /// Who may do what with a file that is made here: its owner may read and write it.
 const OWNER_ONLY: u32 = 0o600;
@@ -21,13 +19,11 @@ const PIECE: i64 = 131_072;
 /// As many pieces as the file has, the last one not whole.
 const PIECES: i64 = (FILE_SIZE as i64 + PIECE - 1) / PIECE;
 
-/// Writes zeros to each sector that lies wholly after this length, so that no later write has to find room for it.
+/// Writes zeros to each sector of which a file of this length has nothing, so that no later write has to find room for it.
 fn fill(file: &File, len: u64) -> io::Result<()> {
     let zeros = [0u8; SECTOR_SIZE];
-    for i in 0..SECTORS {
-        if place(i) >= len {
-            file.write_all_at(&zeros, place(i))?;
-        }
+    for i in sectors_begun(len)..SECTORS {
+        file.write_all_at(&zeros, place(i))?;
     }
     Ok(())
 }
@@ -72,24 +68,31 @@ fn open_locked<R: Files<File = File>>(files: &R, name: &str) -> io::Result<File>
     Ok(file)
 }
 
-/// Gives a file zeros after what it has, up to the whole length, and says whether it was too short. It gets that length last, so a
+/// Gives a file of this length zeros after what it has, up to the whole length. It gets that length last, so a
 /// file of that length has no holes that were made here.
-fn lengthen(file: &File) -> io::Result<bool> {
-    let len = file.metadata()?.len();
-    if len >= FILE_SIZE {
-        return Ok(false);
-    }
+fn lengthen(file: &File, len: u64) -> io::Result<()> {
     fill(file, len)?;
-    file.set_len(FILE_SIZE)?;
-    Ok(true)
+    file.set_len(FILE_SIZE)
 }
 
-/// Has the file with this name whole and on its disk, and its folder too where it had to be made or was too short.
+/// Has the file with this name whole and on its disk, and its folder too where it had to be made or was too short. One that is too long is no disk's: it
+/// fails, and leaves that as it is.
 fn make_whole<R: Files<File = File>>(files: &R, name: &str, file: &File) -> io::Result<()> {
-    let is_longer = lengthen(file)?;
-    file.sync_all()?;
-    let named = sync_folder(files, name);
-    if is_longer { named } else { Ok(()) }
+    let len = file.metadata()?.len();
+    match length_of(len) {
+        Length::Long => Err(io::Error::from(ErrorKind::InvalidData)),
+        Length::Whole => {
+            file.sync_all()?;
+            // Who made it may have been stopped before it came here.
+            let _ = sync_folder(files, name);
+            Ok(())
+        }
+        Length::Short => {
+            lengthen(file, len)?;
+            file.sync_all()?;
+            sync_folder(files, name)
+        }
+    }
 }
 
 /// The file with this name, locked, of the whole length, synced and with its folder synced.

@@ -1,7 +1,8 @@
 //! A disk of sectors in a file.
-ghost use Rattle.std.specs.Prelude.{◌≡◌, ◌<◌, None, OnOk, Some, IfSome};
+ghost use Rattle.std.specs.Prelude.{◌≡◌, ◌<◌, None, OnOk, Some, IfSome, is_some, true};
+ghost use Rattle.vr_base.specs.Causes.{HasCause};
 ghost use Rattle.vr_disk.specs.Regions.{sectors};
-ghost use Rattle.vr_file.specs.Above.{Knows, NoneWaits};
+ghost use Rattle.vr_file.specs.Above.{Knows, NoneIsKnown, NoneWaits};
 
 use crate::file::open;
 use crate::kept::Kept;
@@ -13,7 +14,7 @@ use std::io::ErrorKind;
 use std::time::Clock;
 use vr_base::{Sum, checksum};
 use vr_disk::{DiskFailed, Memo, Room, Sector, SectorDisk};
-use vr_io_policy::{counted, millis_of};
+use vr_io_policy::counted;
 
 /// A disk of sectors in a file of the system: sector i stands at byte 512 i. It tells nothing. A call fails where a call of the
 /// system does that is made for it, or where no file is attached; a read is made again a few times first. The first attach also fails where there is no
@@ -31,8 +32,6 @@ pub struct FileDisk<R> {
     file: Option<File>,
     faults: u64,
     read_faults: u64,
-    /// The last milliseconds of the clock.
-    now: u64,
     /// Texts with their names, from `remember` on.
     memo: Option<Memo>,
     /// Sectors, from the first attach on.
@@ -48,7 +47,6 @@ impl<R: Drop> Drop for FileDisk<R> {
             file: _,
             faults: _,
             read_faults: _,
-            now: _,
             memo: _,
             kept: _,
         } = self;
@@ -63,7 +61,7 @@ fn no_file() -> io::Error {
 impl<R> FileDisk<R> {
     /// A disk without its file, which `attach` opens through the system that is handed in. It takes no memory yet.
     pub fn new(alloc: Global, system: R) -> FileDisk<R>
-        ensures { result ≡ record { system = system; alloc = alloc; file = None; faults = 0; read_faults = 0; now = 0; memo = None; kept = None } }
+        ensures { result ≡ record { system = system; alloc = alloc; file = None; faults = 0; read_faults = 0; memo = None; kept = None } }
     {
         FileDisk {
             system,
@@ -71,7 +69,6 @@ impl<R> FileDisk<R> {
             file: None,
             faults: 0,
             read_faults: 0,
-            now: 0,
             memo: None,
             kept: None,
         }
@@ -90,6 +87,8 @@ impl<R> FileDisk<R> {
     /// Takes memory for sectors, where it wasn't taken yet: some 2.1 MB. An attach does it too, and fails where there is none.
     pub fn take_room(&mut self) -> Result<(), AllocError>
         ensures stays { IfSome self.old.kept (λ k. self.new.kept ≡ Some k) }
+        ensures fresh { OnOk result (self.old.kept ≡ None → NoneIsKnown self.new.kept) }
+        ensures file { self.new.file ≡ self.old.file }
         ensures faults { self.new.faults ≡ self.old.faults }
         ensures reads { self.new.read_faults ≡ self.old.read_faults }
     {
@@ -103,17 +102,6 @@ impl<R> FileDisk<R> {
 }
 
 impl<R: Clock> FileDisk<R> {
-    /// Takes the time. A minute after the last time the sectors are forgotten, and the system is told to read them anew.
-    fn refresh(&mut self)
-        ensures faults { self.new.faults ≡ self.old.faults }
-        ensures reads { self.new.read_faults ≡ self.old.read_faults }
-    {
-        self.now = millis_of(self.system.monotonic(), self.now);
-        if let (Some(file), Some(kept)) = (&self.file, &mut self.kept) {
-            kept.refresh(&mut OpenFile { file }, self.now);
-        }
-    }
-
     /// Reads a sector.
     fn read_sector(&mut self, i: u32, to: &mut Sector) -> io::Result<()>
         requires { i < sectors }
@@ -121,8 +109,9 @@ impl<R: Clock> FileDisk<R> {
         ensures faults { self.new.faults ≡ self.old.faults }
         ensures reads { self.new.read_faults ≡ self.old.read_faults }
     {
+        let clock = &self.system;
         match (&self.file, &mut self.kept) {
-            (Some(file), Some(kept)) => kept.read(&self.system, &mut OpenFile { file }, i, to),
+            (Some(file), Some(kept)) => kept.read(&mut OpenFile { file, clock }, i, to),
             _ => Err(no_file()),
         }
     }
@@ -134,8 +123,9 @@ impl<R: Clock> FileDisk<R> {
         ensures faults { self.new.faults ≡ self.old.faults }
         ensures reads { self.new.read_faults ≡ self.old.read_faults }
     {
+        let clock = &self.system;
         match (&self.file, &mut self.kept) {
-            (Some(file), Some(kept)) => kept.write(&self.system, &mut OpenFile { file }, i, from),
+            (Some(file), Some(kept)) => kept.write(&mut OpenFile { file, clock }, i, from),
             _ => Err(no_file()),
         }
     }
@@ -146,23 +136,22 @@ impl<R: Clock> FileDisk<R> {
         ensures faults { self.new.faults ≡ self.old.faults }
         ensures reads { self.new.read_faults ≡ self.old.read_faults }
     {
+        let clock = &self.system;
         match (&self.file, &mut self.kept) {
-            (Some(file), Some(kept)) => kept.sync(&self.system, &mut OpenFile { file }),
+            (Some(file), Some(kept)) => kept.sync(&mut OpenFile { file, clock }),
             _ => Err(no_file()),
         }
     }
 
-    /// Lets the file go, which gets what waits first. No sector is known then.
+    /// Lets the file go, if there is one. It gets what waits first.
     fn detach(&mut self) -> io::Result<()>
+        ensures gone { OnOk result (self.new.file ≡ None) }
         ensures faults { self.new.faults ≡ self.old.faults }
         ensures reads { self.new.read_faults ≡ self.old.read_faults }
     {
-        self.now = millis_of(self.system.monotonic(), self.now);
+        let clock = &self.system;
         if let (Some(file), Some(kept)) = (&self.file, &mut self.kept) {
-            kept.flush(&self.system, &mut OpenFile { file })?;
-        }
-        if let Some(kept) = &mut self.kept {
-            kept.forget(self.now);
+            kept.let_go(&mut OpenFile { file, clock })?;
         }
         // The lock of the file that it had would keep the next open of that file out.
         self.file = None;
@@ -173,6 +162,7 @@ impl<R: Clock> FileDisk<R> {
 impl<R: Files<File = File> + Clock> FileDisk<R> {
     /// Opens the file with this name in the place of the one that it had.
     fn open_anew(&mut self, name: &str) -> io::Result<File>
+        ensures gone { OnOk result (self.new.file ≡ None) }
         ensures faults { self.new.faults ≡ self.old.faults }
         ensures reads { self.new.read_faults ≡ self.old.read_faults }
     {
@@ -191,22 +181,39 @@ impl<R: Files<File = File> + Clock> SectorDisk for FileDisk<R> {
 
     ghost whole = { λ _. tt };
 
-    fn attach(&mut self, name: &str) -> Result<(), DiskFailed> {
+    fn attach(&mut self, name: &str) -> Result<(), DiskFailed>
+        ensures attached { OnOk result (is_some self.new.file ≡ true) }
+        ensures cause { HasCause self.old.faults self.new.faults result }
+        ensures others { self.new.read_faults ≡ self.old.read_faults }
+    {
         let opened = self.open_anew(name);
         self.file = Some(counted(opened, &mut self.faults, DiskFailed)?);
         Ok(())
     }
 
-    fn read(&mut self, i: u32, to: &mut Sector) -> Result<(), DiskFailed> {
-        self.refresh();
+    fn read(&mut self, i: u32, to: &mut Sector) -> Result<(), DiskFailed>
+        requires { i < sectors }
+        ensures known { OnOk result (Knows self.new.kept i to.new) }
+        ensures cause { HasCause self.old.read_faults self.new.read_faults result }
+        ensures others { self.new.faults ≡ self.old.faults }
+    {
         counted(self.read_sector(i, to), &mut self.read_faults, DiskFailed)
     }
 
-    fn write(&mut self, i: u32, from: &Sector) -> Result<(), DiskFailed> {
+    fn write(&mut self, i: u32, from: &Sector) -> Result<(), DiskFailed>
+        requires { i < sectors }
+        ensures known { OnOk result (Knows self.new.kept i from.now) }
+        ensures cause { HasCause self.old.faults self.new.faults result }
+        ensures others { self.new.read_faults ≡ self.old.read_faults }
+    {
         counted(self.write_sector(i, from), &mut self.faults, DiskFailed)
     }
 
-    fn sync(&mut self) -> Result<(), DiskFailed> {
+    fn sync(&mut self) -> Result<(), DiskFailed>
+        ensures written { OnOk result (NoneWaits self.new.kept) }
+        ensures cause { HasCause self.old.faults self.new.faults result }
+        ensures others { self.new.read_faults ≡ self.old.read_faults }
+    {
         counted(self.sync_data(), &mut self.faults, DiskFailed)
     }
 

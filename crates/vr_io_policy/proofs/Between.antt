@@ -9,7 +9,7 @@ use Rattle.std.proofs.lemmas.List.Edits.{get_or-between, length-between}
 use Rattle.vr_disk.specs.declared.sector.Sector.{Sector}
 use Rattle.vr_io_policy.specs.declared.cached.Cached.{Cached}
 use Rattle.vr_io_policy.specs.declared.cached.Cached.TheVariants.{Unknown, Unread, Held}
-use Rattle.vr_io_policy.specs.Caches.{Cache, IsCache, IsReady, cached, flushed, forgot, is_clean, is_held, is_unknown, joins, learnt, new_cache, pages_end, pages_first, put, stands_for, waiting_alone, waits}
+use Rattle.vr_io_policy.specs.Caches.{Cache, IsBlank, IsCache, IsReady, cached, flushed, forgot, is_clean, is_held, is_unknown, joins, learnt, new_cache, pages_end, pages_first, put, stands_for, waiting_alone, waits}
 use Rattle.vr_io_policy.specs.Files.{IsADisk, Leaves, Spot, Stands, StandsAt, in_pages, lost, neighbors_lost, over, pages_written, sector_written, settled_as, synced, waiting_written}
 use Rattle.vr_io_policy.proofs.Over.{begun, failed, forgotten, lost_more, lost_spares, noted, over_more, page_stops, page_written, seen_below, settled, waits_now}
 
@@ -173,9 +173,17 @@ forgets c f d now is h = record {
 starts : (now : ℕ → Option (List ℕ)) → Stands new_cache (λ j. settled_as (now j)) (λ j. settled_as (now j))
 starts now = record { at = λ j. moved false _ Unknown _ (settled_as (now j)) (settled_as (now j)) _ (grind (arith, nat_tests)) (past 3984 j) refl (begun (now j)) }
 
+-- once nothing waits, and all is forgotten
+pub forgot_blank : (c : Cache) (now : ℕ) → IsCache c → is_clean c ≡ true → IsBlank (forgot c now)
+forgot_blank c now is t = record { clean = t; each = λ j. known_then c j is ∙ cond-false (waits c j) (cached c j) Unknown (none_waits c j t) }
+
+starts_anew : (c : Cache) (now : ℕ → Option (List ℕ)) → IsBlank c → Stands c (λ j. settled_as (now j)) (λ j. settled_as (now j))
+starts_anew c now b = record { at = λ j. moved false _ Unknown _ (settled_as (now j)) (settled_as (now j)) _ (none_waits c j b.clean) (b.each j) refl (begun (now j)) }
+
 pub is_a_disk : IsADisk
 is_a_disk = record {
   begins = starts;
+  anew = starts_anew;
   recalls = λ c f d i s h e. let g = (h.at i).now in rw e at g;
   reads = λ c f d i h n. (h.at i).now ∙ seen_below (cached c i) (f i).now n;
   notes = λ c f d i s is l h e. learns c f d i (Held s) is l h (λ n. noted (waits c i) (cached c i) (f i) (d i) s (h.at i) n e);

@@ -3,4 +3,5 @@ mod Fair
 mod First
 mod Gathering
 mod Holding
+pub mod Left
 pub mod Over

@@ -1,6 +1,6 @@
 -- What a program has in memory of its file: sectors that are known, and those that wait to be written.
 use Rattle.std.specs.Prelude.{ℕ, ◌+◌, ◌-◌, ◌*◌, ◌/◌, ◌≤◌, ◌<◌, ◌≡◌, ◌==◌, ◌&&◌, ◌||◌, Bool, true, false, max, nat_le, nat_lt, if◌then◌else◌, List, ◌++◌, flat_map, length, replicate, slice_index_or, slice_set}
-use Rattle.std.specs.List.{between}
+use Rattle.std.specs.List.{between, count_by}
 use Rattle.vr_disk.specs.declared.sector.Sector.{Sector}
 use Rattle.vr_io_policy.specs.declared.cache.Next.{Next}
 use Rattle.vr_io_policy.specs.declared.cache.Next.TheVariants.{Nothing, Read, WriteAlone, Write}
@@ -46,6 +46,11 @@ waits c i = nat_le c.first i && nat_lt i c.end
 -- none waits
 abbrev pub is_clean : Cache → Bool
 is_clean c = c.first == c.end
+
+-- none is known, and none waits
+pub record IsBlank (c : Cache) : Type 0 where
+  pub clean : is_clean c ≡ true
+  pub each : (i : ℕ) → cached c i ≡ Unknown
 
 -- it couldn't be read
 abbrev pub is_unread : Cached → Bool
@@ -118,6 +123,10 @@ IsNext c Nothing = is_clean c ≡ true
 IsNext c (Read i) = IsWanted c i
 IsNext c (WriteAlone i) = IsAlone c i
 IsNext c (Write i) = IsWritten c i
+
+-- at most so many calls are left until nothing waits: a read of each sector that isn't known, and a write of those that wait alone, or of their pages
+abbrev pub calls_left : Cache → ℕ
+calls_left c = count_by is_unknown c.sectors + (if is_clean c then 0 else (if c.tried then 1 else 2))
 
 -- what is written to a sector: where it couldn't be read, bytes that no reader takes for anything
 abbrev pub stands_for : Cached → List ℕ

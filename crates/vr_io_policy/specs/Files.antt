@@ -5,7 +5,7 @@ use Rattle.vr_disk.specs.Sectors.{has}
 use Rattle.vr_disk.specs.declared.sector.Sector.{Sector}
 use Rattle.vr_io_policy.specs.declared.cached.Cached.{Cached}
 use Rattle.vr_io_policy.specs.declared.cached.Cached.TheVariants.{Unknown, Unread, Held}
-use Rattle.vr_io_policy.specs.Caches.{Cache, IsCache, IsReady, cached, flushed, forgot, is_clean, is_held, joins, learnt, new_cache, pages_end, pages_first, put, stands_for, waits}
+use Rattle.vr_io_policy.specs.Caches.{Cache, IsBlank, IsCache, IsReady, cached, flushed, forgot, is_clean, is_held, joins, learnt, new_cache, pages_end, pages_first, put, stands_for, waits}
 
 -- ---- a disk or a file: what becomes of each sector
 
@@ -98,6 +98,8 @@ pub record Stands (c : Cache) (f d : ℕ → Spot) : Type 0 where
 pub record IsADisk : Type 0 where
   -- a new cache over any file that was synced
   pub begins : (now : ℕ → Option (List ℕ)) → Stands new_cache (λ j. settled_as (now j)) (λ j. settled_as (now j))
+  -- and one that forgot what it knew of another file, once nothing waited
+  pub anew : (c : Cache) (now : ℕ → Option (List ℕ)) → IsBlank c → Stands c (λ j. settled_as (now j)) (λ j. settled_as (now j))
   -- a read of a sector that is known gives what the disk has, and so does the file's, of another
   pub recalls : (c : Cache) (f d : ℕ → Spot) (i : ℕ) (s : Sector) → Stands c f d → cached c i ≡ Held s → (d i).now ≡ Some s.bytes
   pub reads : (c : Cache) (f d : ℕ → Spot) (i : ℕ) → Stands c f d → is_held (cached c i) ≡ false → (d i).now ≡ (f i).now

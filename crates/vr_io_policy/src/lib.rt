@@ -1,6 +1,6 @@
 //! What a program decides about the outside: which stream gives its place up to a newcomer (`guest`, `turn`, `places`), when a call that failed
 //! is made again (`again`), and what it counts as (`counting`); what is known of a file's sectors and done next about them (`cache`, `cached`,
-//! `page_buffer`), which sender a port stands for (`ports`), which answer is held back (`repeats`, `topic`), how many descriptors a start wants
+//! `page_buffer`), how long the file is (`lengths`), which sender a port stands for (`ports`), which answer is held back (`repeats`, `topic`), how many descriptors a start wants
 //! (`wants`), and what time it is where a clock fails (`millis`). Nothing is called here.
 #![tactic(auto)]
 
@@ -10,6 +10,7 @@ mod cached;
 mod counting;
 mod guest;
 mod laws;
+mod lengths;
 mod millis;
 mod page_buffer;
 mod places;
@@ -25,6 +26,7 @@ pub use cached::Cached;
 pub use counting::counted;
 pub use guest::Guest;
 pub use laws::{file_laws, place_laws};
+pub use lengths::{FILE_SIZE, Length, length_of, sectors_begun};
 pub use millis::millis_of;
 pub use page_buffer::PageBuffer;
 pub use places::{PLACES, Places};

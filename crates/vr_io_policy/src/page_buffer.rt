@@ -1,5 +1,5 @@
 //! The bytes of pages that are to be written.
-ghost use Rattle.std.specs.Prelude.{◌≡◌, ◌≤◌, ◌*◌, length, take};
+ghost use Rattle.std.specs.Prelude.{◌≡◌, ◌≤◌, ◌*◌, IfOk, length, replicate, take};
 ghost use Rattle.vr_io_policy.specs.Caches.{AreWhole, IsReady, bytes_of, pages, waiting};
 
 use crate::cache::SectorCache;
@@ -10,7 +10,7 @@ use vr_base::put;
 use vr_disk::SECTOR_SIZE;
 
 /// The bytes of nine pages: so many have neighbors of which 64 wait.
-const MOST: usize = 72 * SECTOR_SIZE;
+const MOST: u32 = 72 * SECTOR_SIZE as u32;
 
 /// Room for the bytes of nine pages.
 #[derive(Drop)]
@@ -28,6 +28,15 @@ impl Model for PageBuffer {
     ghost invariant = { λ b. length b.bytes.items ≡ 36864 };
 }
 
+/// So many zeros.
+fn zeros(alloc: Global, count: u32) -> Result<Vec<u8>, AllocError>
+    ensures { IfOk result (λ v. v.items ≡ replicate count 0) }
+{
+    let mut bytes = Vec::new(alloc);
+    bytes.resize(count as usize, 0)?;
+    Ok(bytes)
+}
+
 /// Puts what is written to these sectors in front.
 fn put_all(out: &mut [u8], sectors: &[Cached])
     requires { 512 * length sectors.now ≤ length out.old }
@@ -41,10 +50,12 @@ fn put_all(out: &mut [u8], sectors: &[Cached])
 
 impl PageBuffer {
     /// All its memory is taken here.
-    pub fn new(alloc: Global) -> Result<PageBuffer, AllocError> {
-        let mut bytes = Vec::new(alloc);
-        bytes.resize(MOST, 0)?;
-        Ok(PageBuffer { bytes })
+    pub fn new(alloc: Global) -> Result<PageBuffer, AllocError>
+        ensures { IfOk result (λ b. b ≡ replicate 36864 0) }
+    {
+        Ok(PageBuffer {
+            bytes: zeros(alloc, MOST)?,
+        })
     }
 
     /// The bytes of the pages in which some sectors wait.
@@ -57,6 +68,7 @@ impl PageBuffer {
         put_all(self.bytes.as_mut_slice(), pages);
         &self.bytes[..SECTOR_SIZE * pages.len()]
     }
+
     /// The bytes of those that wait.
     pub fn gather_waiting(&mut self, cache: &SectorCache) -> &[u8]
         ensures bytes { result.now ≡ bytes_of (waiting cache.now) }
