@@ -21,4 +21,4 @@ returns-in_err-objects g c =
 pub returns : goal.returns
 returns g c =
     short_of_nothing _ _ _ _ _ _ _ _ _ _ _ _ _ _ c.in_ok-words.ensures.0 c.in_ok-words.ensures.1 c.in_ok-path.ensures.0 c.in_ok-path.ensures.1 c.in_ok-objects.was
-    c.words.ensures c.path.ensures c.make.ensures c.take_back.ensures (record { ends = c.run.ensures.ends; trial = c.run.ensures.trial })
+    c.words.ensures c.path.ensures c.make.ensures c.take_back.ensures (record { ends = c.run-status.ensures.ends; trial = c.run-status.ensures.trial })
