@@ -58,8 +58,14 @@ impl<'r> Maker for Hand<'r> {
 
     ghost made = { λ _. None };
 
-    fn make(&mut self, path: Option<PathBuf>) -> Result<Objects<Self::Source, Self::Sink, Self::Disk, Self::Link, Self::Clock, Self::Spawner>, AllocError>
-        // As the trait says of a maker that tells nothing.
+    // This and the next say what the trait says of a maker that tells nothing.
+    fn make(
+        &mut self,
+        path: Option<PathBuf>,
+    ) -> Result<
+        Objects<Self::Source, Self::Sink, Self::Disk, Self::Link, Self::Clock, Self::Spawner>,
+        AllocError,
+    >
         ensures { Grows {X = ℕ} None None [] }
     {
         let disk = self.disk()?;
@@ -74,7 +80,19 @@ impl<'r> Maker for Hand<'r> {
         })
     }
 
-    fn take_back(&mut self, objects: Objects<Self::Source, Self::Sink, Self::Disk, Self::Link, Self::Clock, Self::Spawner>) {
+    fn take_back(
+        &mut self,
+        objects: Objects<
+            Self::Source,
+            Self::Sink,
+            Self::Disk,
+            Self::Link,
+            Self::Clock,
+            Self::Spawner,
+        >,
+    )
+        ensures { Grows {X = ℕ} None None [] }
+    {
         drop(objects);
     }
 }

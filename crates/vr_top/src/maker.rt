@@ -41,10 +41,26 @@ pub trait Maker {
 
     /// Makes the objects, if there is memory for them. The spawner starts the program at this path, and nothing without one. This call, with the
     /// path and what it gave, is then the last one of `made`, also after an `Err`.
-    fn make(&mut self, path: Option<Self::Path>) -> Result<Objects<Self::Source, Self::Sink, Self::Disk, Self::Link, Self::Clock, Self::Spawner>, AllocError>
+    fn make(
+        &mut self,
+        path: Option<Self::Path>,
+    ) -> Result<
+        Objects<Self::Source, Self::Sink, Self::Disk, Self::Link, Self::Clock, Self::Spawner>,
+        AllocError,
+    >
         ensures { Gives made self.old self.new (Made path result) };
 
     /// Takes back what it made, as the run left it. This call, with that, is then the last one of `made`.
-    fn take_back(&mut self, objects: Objects<Self::Source, Self::Sink, Self::Disk, Self::Link, Self::Clock, Self::Spawner>)
+    fn take_back(
+        &mut self,
+        objects: Objects<
+            Self::Source,
+            Self::Sink,
+            Self::Disk,
+            Self::Link,
+            Self::Clock,
+            Self::Spawner,
+        >,
+    )
         ensures { Gives made self.old self.new (TakenBack objects) };
 }
