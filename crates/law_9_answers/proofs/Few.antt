@@ -40,7 +40,7 @@ use Rattle.law_9_answers.proofs.Timing.{are_ordered}
 
 -- ---- lists of numbers without repeats
 
-abbrev AreApart : List ℕ → Type 0
+abbrev pub AreApart : List ℕ → Type 0
 AreApart [] = ⊤
 AreApart (c ∷ cs) = (In c cs → ⊥) × AreApart cs
 
@@ -59,7 +59,7 @@ take_out c (y ∷ ys) (inr i) =
     record { rest = y ∷ r.rest; one_less = omega (arith, less); others = λ d k other. elim k [ inl same ↦ inl same | inr later ↦ inr (r.others d later other) ] }
 
 -- as many as another list has, at most, if they are all of it
-no_more : (xs ys : List ℕ) → AreApart xs → ((c : ℕ) → In c xs → In c ys) → length xs ≤ length ys
+pub no_more : (xs ys : List ℕ) → AreApart xs → ((c : ℕ) → In c xs → In c ys) → length xs ≤ length ys
 no_more [] ys apart among = omega arith
 no_more (x ∷ xs) ys apart among =
     let w = take_out x ys (among x (inl refl)) in

@@ -45,3 +45,4 @@ pub mod Row
 pub mod Clients
 pub mod Effect
 pub mod Runs
+pub mod FewAsk

@@ -1,3 +1,4 @@
 pub mod Rows
 pub mod Pending
 pub mod Runs
+pub mod Few

@@ -15,7 +15,7 @@ use vr_real::{
     RealClock, RealLink, RealSpawner, SocketLink, StdSink, StdSource, take_missing_streams,
     take_stack,
 };
-use vr_top::{Maker, Program, Untold, run_outside};
+use vr_top::{Maker, Objects, Program, Untold, run_outside};
 
 /// The runtime's hand: it makes what is outside, and tells the program's words and where it stands. It doesn't tell what it made.
 #[derive(Drop)]
@@ -28,6 +28,16 @@ fn untold(error: io::Error) -> Untold {
     match error.kind() {
         ErrorKind::OutOfMemory => Untold::NoMemory,
         _ => Untold::NoText,
+    }
+}
+
+impl<'r> Hand<'r> {
+    /// A disk that has taken all the memory that it will have a use for.
+    fn disk(&self) -> Result<FileDisk<&'r HostRuntime>, AllocError> {
+        let mut disk = FileDisk::new(self.rt.alloc(), self.rt);
+        disk.remember()?;
+        disk.take_room()?;
+        Ok(disk)
     }
 }
 
@@ -48,34 +58,42 @@ impl<'r> Maker for Hand<'r> {
 
     ghost made = { λ _. None };
 
-    fn source(&mut self) -> StdSource<Stdin> {
-        StdSource::new(self.rt.stdin())
-    }
-
-    fn sink(&mut self) -> StdSink<Stdout, &'r HostRuntime> {
-        StdSink::new(self.rt.stdout(), self.rt)
-    }
-
-    fn disk(&mut self) -> Result<Self::Disk, AllocError> {
-        let mut disk = FileDisk::new(self.rt.alloc(), self.rt);
-        disk.remember()?;
-        disk.take_room()?;
-        Ok(disk)
-    }
-
-    fn link(&mut self) -> Result<Self::Link, AllocError> {
-        RealLink::new(self.rt.alloc(), self.rt)
-    }
-
-    fn clock(&mut self) -> Self::Clock {
-        RealClock::new(self.rt)
-    }
-
-    // As the trait says of a maker that tells nothing.
-    fn spawner(&mut self, path: Option<PathBuf>) -> Self::Spawner
+    // This and the next say what the trait says of a maker that tells nothing.
+    fn make(
+        &mut self,
+        path: Option<PathBuf>,
+    ) -> Result<
+        Objects<Self::Source, Self::Sink, Self::Disk, Self::Link, Self::Clock, Self::Spawner>,
+        AllocError,
+    >
         ensures { Grows {X = ℕ} None None [] }
     {
-        RealSpawner::new(self.rt.alloc(), self.rt, path)
+        let disk = self.disk()?;
+        let link = RealLink::new(self.rt.alloc(), self.rt)?;
+        Ok(Objects {
+            source: StdSource::new(self.rt.stdin()),
+            sink: StdSink::new(self.rt.stdout(), self.rt),
+            disk,
+            link,
+            clock: RealClock::new(self.rt),
+            spawner: RealSpawner::new(self.rt.alloc(), self.rt, path),
+        })
+    }
+
+    fn take_back(
+        &mut self,
+        objects: Objects<
+            Self::Source,
+            Self::Sink,
+            Self::Disk,
+            Self::Link,
+            Self::Clock,
+            Self::Spawner,
+        >,
+    )
+        ensures { Grows {X = ℕ} None None [] }
+    {
+        drop(objects);
     }
 }
 

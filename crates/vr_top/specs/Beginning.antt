@@ -14,9 +14,10 @@ use Rattle.vr_base.specs.Texts.{code_of}
 use Rattle.vr_base.specs.declared.status.Status.{Status}
 use Rattle.vr_base.specs.declared.status.Status.TheVariants.{NoMemory}
 use Rattle.vr_top.specs.Ends.{Ends, Tries}
-use Rattle.vr_top.specs.Making.{Making, Clock, Disk, Ground, Link, Path, Sink, Source, Spawner, Words, texts_told}
-use Rattle.vr_top.specs.Outside.{Outside, Spawner as SpawnerOutside, outside, trial_outside}
+use Rattle.vr_top.specs.Making.{Making, Ground, Made, Path, TakenBack, Words, texts_told}
+use Rattle.vr_top.specs.Outside.{outside, trial_outside}
 use Rattle.vr_top.specs.Telling.{Tells}
+use Rattle.vr_top.specs.declared.maker.Objects.{Objects}
 use Rattle.vr_top.specs.declared.program.Untold.{Untold}
 use Rattle.vr_top.specs.declared.program.Untold.TheVariants as untold
 use Rattle.vr_args.specs.Asked.{asked}
@@ -41,45 +42,38 @@ KnowsWords told result =
 abbrev pub KnowsPath : {T : Type 0} → Result T Untold → Result (Option T) AllocError → Type 0
 KnowsPath told result = MatchResult result (λ path. (path ≡ path_told told) × (told ≢ Err untold.NoMemory)) (λ e. told ≡ Err untold.NoMemory)
 
--- a run with these words over these objects comes to this status
+-- a run with these words finds the objects so, leaves them so, and comes to this status
 pub record Runs {S K D L C P : Type 0} (s : of_source.Ghosts S) (k : of_sink.Ghosts K) (d : of_disk.Ghosts D) (l : of_link.Ghosts L) (c : of_clock.Ghosts C) (p : of_spawner.Ghosts P)
-    (words : List (List ℕ)) (source : S) (sink : K) (disk : D) (link : L) (clock : C) (spawner : P) (status : Status) : Type 0 where
-  pub after : Outside S K D L C
-  pub spawned : SpawnerOutside P
-  pub ends : Ends (asked words) (outside s k d l c source sink disk link clock) after status
-  pub trial : Tries (asked words) (trial_outside k l p sink link spawner) (record { sink = after.sink; link = after.link; spawner = spawned }) status
+    (words : List (List ℕ)) (o o' : Objects S K D L C P) (status : Status) : Type 0 where
+  pub ends : Ends (asked words) (outside s k d l c o.source o.sink o.disk o.link o.clock) (outside s k d l c o'.source o'.sink o'.disk o'.link o'.clock) status
+  pub trial : Tries (asked words) (trial_outside k l p o.sink o.link o.spawner) (trial_outside k l p o'.sink o'.link o'.spawner) status
 
--- What was made in turn, each at most once, and the status that this comes to. Where memory is short for one of them, nothing is made after it and nothing is
--- run; else the program runs over what was made, with the words that were told.
-pub data Makes {S K D L C P T : Type 0} (Run : List (List ℕ) → S → K → D → L → C → P → Status → Type 0) : List (Making S K D L C P T) → Status → Type 0 where
+-- What a maker was asked for in turn, each at most once, and the status that this comes to. Where memory is short for one of them, it is asked for nothing after
+-- it, and nothing is run. Else one run is made over its objects, with the words that were told, and it takes them back as that run left them.
+pub data Makes {O T : Type 0} (Run : List (List ℕ) → O → O → Status → Type 0) : List (Making O T) → Status → Type 0 where
   no_words : Makes Run (Words (Err untold.NoMemory) ∷ []) NoMemory
-  no_disk : (words : Result (List (List ℕ)) Untold) (s : S) (k : K) (e : AllocError) → words ≢ Err untold.NoMemory
-      → Makes Run (Words words ∷ Source s ∷ Sink k ∷ Disk (Err e) ∷ []) NoMemory
-  no_link : (words : Result (List (List ℕ)) Untold) (s : S) (k : K) (d : D) (e : AllocError) → words ≢ Err untold.NoMemory
-      → Makes Run (Words words ∷ Source s ∷ Sink k ∷ Disk (Ok d) ∷ Link (Err e) ∷ []) NoMemory
-  no_path : (words : Result (List (List ℕ)) Untold) (s : S) (k : K) (d : D) (l : L) (c : C) → words ≢ Err untold.NoMemory
-      → Makes Run (Words words ∷ Source s ∷ Sink k ∷ Disk (Ok d) ∷ Link (Ok l) ∷ Clock c ∷ Path (Err untold.NoMemory) ∷ []) NoMemory
-  runs : (words : Result (List (List ℕ)) Untold) (s : S) (k : K) (d : D) (l : L) (c : C) (path : Result T Untold) (p : P) (status : Status)
-      → words ≢ Err untold.NoMemory → path ≢ Err untold.NoMemory → Run (words_after words) s k d l c p status
-      → Makes Run (Words words ∷ Source s ∷ Sink k ∷ Disk (Ok d) ∷ Link (Ok l) ∷ Clock c ∷ Path path ∷ Spawner (path_told path) p ∷ []) status
+  no_path : (words : Result (List (List ℕ)) Untold) → words ≢ Err untold.NoMemory → Makes Run (Words words ∷ Path (Err untold.NoMemory) ∷ []) NoMemory
+  no_objects : (words : Result (List (List ℕ)) Untold) (path : Result T Untold) (e : AllocError) → words ≢ Err untold.NoMemory → path ≢ Err untold.NoMemory
+      → Makes Run (Words words ∷ Path path ∷ Made (path_told path) (Err e) ∷ []) NoMemory
+  runs : (words : Result (List (List ℕ)) Untold) (path : Result T Untold) (o o' : O) (status : Status) → words ≢ Err untold.NoMemory → path ≢ Err untold.NoMemory
+      → Run (words_after words) o o' status → Makes Run (Words words ∷ Path path ∷ Made (path_told path) (Ok o) ∷ TakenBack o' ∷ []) status
 
 -- the same, once what a run stands on is there; without it nothing is made
-pub data Comes {S K D L C P T : Type 0} (Run : List (List ℕ) → S → K → D → L → C → P → Status → Type 0) : List (Making S K D L C P T) → Status → Type 0 where
+pub data Comes {O T : Type 0} (Run : List (List ℕ) → O → O → Status → Type 0) : List (Making O T) → Status → Type 0 where
   no_ground : Comes Run (Ground false ∷ []) NoMemory
-  makes : (calls : List (Making S K D L C P T)) (status : Status) → Makes Run calls status → Comes Run (Ground true ∷ calls) status
+  makes : (calls : List (Making O T)) (status : Status) → Makes Run calls status → Comes Run (Ground true ∷ calls) status
 
 -- a maker was called so, and that comes to this status
-abbrev pub Began : {S K D L C P T : Type 0} → (List (Making S K D L C P T) → Status → Type 0) → Option (List (Making S K D L C P T)) → Option (List (Making S K D L C P T)) → Status → Type 0
+abbrev pub Began : {O T : Type 0} → (List (Making O T) → Status → Type 0) → Option (List (Making O T)) → Option (List (Making O T)) → Status → Type 0
 Began Comes old new status = (calls : List _) × Grows old new calls × Comes calls status
 
--- the outside was made and run over, or memory was short for it
-abbrev pub Made : {M S K D L C P T : Type 0} → of_source.Ghosts S → of_sink.Ghosts K → of_disk.Ghosts D → of_link.Ghosts L → of_clock.Ghosts C → of_spawner.Ghosts P
-    → (M → Option (List (Making S K D L C P T))) → M → M → Result Status AllocError → Type 0
-Made s k d l c p made maker maker' result = MatchResult result (λ status. Began (Makes (Runs s k d l c p)) (made maker) (made maker') status) (λ e. Began (Makes (Runs s k d l c p)) (made maker) (made maker') NoMemory)
+-- the objects were made, run over and given back, or memory was short for it
+abbrev pub Ran : {M O T : Type 0} → (List (List ℕ) → O → O → Status → Type 0) → (M → Option (List (Making O T))) → M → M → Result Status AllocError → Type 0
+Ran Run made maker maker' result = MatchResult result (λ status. Began (Makes Run) (made maker) (made maker') status) (λ e. Began (Makes Run) (made maker) (made maker') NoMemory)
 
 -- the status that a program came to is told: its line on standard error, and its code
 pub record IsTold {M S K D L C P T E : Type 0} (s : of_source.Ghosts S) (k : of_sink.Ghosts K) (d : of_disk.Ghosts D) (l : of_link.Ghosts L) (c : of_clock.Ghosts C) (p : of_spawner.Ghosts P)
-    (made : M → Option (List (Making S K D L C P T))) (e : of_sink.Ghosts E) (maker maker' : M) (errors errors' : E) (code : ℕ) : Type 0 where
+    (made : M → Option (List (Making (Objects S K D L C P) T))) (e : of_sink.Ghosts E) (maker maker' : M) (errors errors' : E) (code : ℕ) : Type 0 where
   pub status : Status
   pub came : Began (Comes (Runs s k d l c p)) (made maker) (made maker') status
   pub code_is : code ≡ code_of status

@@ -6,17 +6,13 @@ use Rattle.vr_edge.specs.Attaching.{texts_of}
 use Rattle.vr_edge.specs.Told.{Grows}
 use Rattle.vr_top.specs.declared.program.Untold.{Untold}
 
--- a call of a maker, with what it gave
-pub data Making (S K D L C P T : Type 0) : Type 0 where
-  Ground : Bool → Making S K D L C P T
-  Words : Result (List (List ℕ)) Untold → Making S K D L C P T
-  Source : S → Making S K D L C P T
-  Sink : K → Making S K D L C P T
-  Disk : Result D AllocError → Making S K D L C P T
-  Link : Result L AllocError → Making S K D L C P T
-  Clock : C → Making S K D L C P T
-  Path : Result T Untold → Making S K D L C P T
-  Spawner : Option T → P → Making S K D L C P T
+-- a call of a maker, with what it gave, or with what it took back
+pub data Making (O T : Type 0) : Type 0 where
+  Ground : Bool → Making O T
+  Words : Result (List (List ℕ)) Untold → Making O T
+  Path : Result T Untold → Making O T
+  Made : Option T → Result O AllocError → Making O T
+  TakenBack : O → Making O T
 
 -- the words as they are told
 abbrev pub texts_told : Result (Vec (String Global) Global) Untold → Result (List (List ℕ)) Untold

@@ -11,7 +11,7 @@ mod telling;
 mod whole;
 
 pub use command::run;
-pub use maker::Maker;
+pub use maker::{Maker, Objects};
 pub use program::{Program, Untold};
 pub use telling::finish;
 pub use whole::run_outside;

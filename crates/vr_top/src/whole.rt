@@ -1,5 +1,5 @@
 //! A program as a whole: what its maker makes is run over, and the status that it comes to is told.
-ghost use Rattle.vr_top.specs.Beginning.{IsTold, KnowsPath, KnowsWords, Made};
+ghost use Rattle.vr_top.specs.Beginning.{IsTold, KnowsPath, KnowsWords, Ran, Runs};
 
 use crate::command::run;
 use crate::program::{Program, Untold};
@@ -36,37 +36,34 @@ fn path_of<T>(told: Result<T, Untold>) -> Result<Option<T>, AllocError>
     }
 }
 
-/// Has the maker give, each at most once and in this order: words, source, sink, disk, link, clock, path, spawner. Then it runs over these, with the
-/// words after the program's name, and gives the run's status. Where memory is short for words, disk, link or path, nothing is made after it and
-/// nothing is run: that is `NoMemory`. An `Err` says the same as `NoMemory`. It has a frame of its own, which is a large one.
+/// Has the maker give, each at most once and in this order, words, path, and the objects, with that path. Then it runs over these once, with the
+/// words after the program's name, has the maker take them back, and gives the run's status. Where memory is short for words, path or objects, nothing
+/// is asked for after it and nothing is run: that is `NoMemory`. An `Err` says the same as `NoMemory`. It has a frame of its own, which is a large one.
 #[inline(never)]
 fn make_and_run<M: Program>(alloc: Global, maker: &mut M) -> Result<Status, AllocError>
-    ensures { Made M.Source.Source M.Sink.Sink M.Disk.SectorDisk M.Link.Link M.Clock.Clock M.Spawner.Spawner M.made maker.old maker.new result }
+    ensures { Ran (Runs M.Source.Source M.Sink.Sink M.Disk.SectorDisk M.Link.Link M.Clock.Clock M.Spawner.Spawner) M.made maker.old maker.new result }
 {
     let words = words_of(alloc, maker.words())?;
-    let mut source = maker.source();
-    let mut sink = maker.sink();
-    let mut disk = maker.disk()?;
-    let mut link = maker.link()?;
-    let mut clock = maker.clock();
     let path = path_of(maker.path())?;
-    let mut spawner = maker.spawner(path);
-    Ok(run(
+    let mut objects = maker.make(path)?;
+    let status = run(
         alloc,
         &words,
-        &mut source,
-        &mut sink,
-        &mut disk,
-        &mut link,
-        &mut clock,
-        &mut spawner,
-    ))
+        &mut objects.source,
+        &mut objects.sink,
+        &mut objects.disk,
+        &mut objects.link,
+        &mut objects.clock,
+        &mut objects.spawner,
+    );
+    maker.take_back(objects);
+    Ok(status)
 }
 
 /// Takes first what a run stands on; where that isn't all there, nothing is made or run, and the status is `NoMemory`. Else the maker gives, in this
-/// order, words, source, sink, disk, link, clock, path and spawner, and the program runs over them. Where memory is short for one of them, none is
-/// made after it, nothing is run, and the status is `NoMemory`. At last the status's line goes to `errors`, a front of it where a write fails, and
-/// its code is returned.
+/// order, words, path and the objects; the program runs over these once, and the maker takes them back as that run left them. Where memory is short
+/// for one of them, nothing is asked for after it, nothing is run, and the status is `NoMemory`. At last the status's line goes to `errors`, a front
+/// of it where a write fails, and its code is returned.
 pub fn run_outside<M: Program, E: Sink>(alloc: Global, maker: &mut M, errors: &mut E) -> u8
     ensures { IsTold M.Source.Source M.Sink.Sink M.Disk.SectorDisk M.Link.Link M.Clock.Clock M.Spawner.Spawner M.made E.Sink maker.old maker.new errors.old errors.new result }
 {
