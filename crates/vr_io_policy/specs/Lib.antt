@@ -1,3 +1,4 @@
+pub mod Answers
 pub mod Caches
 pub mod Files
 pub mod Guests
@@ -5,7 +6,7 @@ pub mod Laws
 pub mod Lengths
 pub mod Pauses
 pub mod Places
-pub mod Repeats
+pub mod Receivers
 pub mod Senders
 pub mod Topics
 pub mod Turns

@@ -1,10 +1,12 @@
 //! What a program decides about the outside: which stream gives its place up to a newcomer (`guest`, `turn`, `places`), when a call that failed
 //! is made again (`again`), and what it counts as (`counting`); what is known of a file's sectors and done next about them (`cache`, `cached`,
-//! `page_buffer`), how long the file is (`lengths`), which sender a port stands for (`ports`), which answer is held back (`repeats`, `topic`), how many descriptors a start wants
+//! `page_buffer`), how long the file is (`lengths`), which sender a port stands for (`ports`), which answer is held back (`answers`, `topic`,
+//! `receiver`), how many descriptors a start wants
 //! (`wants`), and what time it is where a clock fails (`millis`). Nothing is called here.
 #![tactic(auto)]
 
 mod again;
+mod answers;
 mod cache;
 mod cached;
 mod counting;
@@ -15,12 +17,13 @@ mod millis;
 mod page_buffer;
 mod places;
 mod ports;
-mod repeats;
+mod receiver;
 mod topic;
 mod turn;
 mod wants;
 
 pub use again::{Again, is_passing};
+pub use answers::{Answer, Answers, Passed, repeat_laws};
 pub use cache::{Next, PAGE_SECTORS, SectorCache};
 pub use cached::Cached;
 pub use counting::counted;
@@ -31,7 +34,7 @@ pub use millis::millis_of;
 pub use page_buffer::PageBuffer;
 pub use places::{PLACES, Places};
 pub use ports::{NOBODY, Ports, Sender, number};
-pub use repeats::{Passed, Repeats, repeat_laws};
-pub use topic::{Topic, topic_of};
+pub use receiver::Receiver;
+pub use topic::{Topic, is_answer};
 pub use turn::{Newcomer, Turn};
 pub use wants::descriptors_wanted;

@@ -1,5 +1,9 @@
 //! A link over a socket of datagrams.
-ghost use Rattle.std.specs.Prelude.{◌≡◌, ◌≤◌, None, vec_capacity};
+ghost use Rattle.std.specs.Prelude.{◌≡◌, ◌≤◌, IfSome, IsOk, MatchOption, None, false, length, vec_capacity};
+ghost use Rattle.std.specs.Net.Socket.{socket_ip};
+ghost use Rattle.vr_io_policy.specs.Answers.{after, passes};
+ghost use Rattle.vr_io_policy.specs.Receivers.{receiver_of};
+ghost use Rattle.vr_io_policy.specs.Senders.{address_at};
 
 use crate::addresses::{address_of, addresses_of};
 use std::alloc::{AllocError, Global};
@@ -8,7 +12,7 @@ use std::io::ErrorKind;
 use std::net::{IpAddr, Ipv4Addr, Ipv6Addr, Net, SocketAddr, UdpSocket};
 use std::time::{Clock, Duration};
 use vr_edge::{Link, LinkFailed, RECEIVE_ROOM, Received};
-use vr_io_policy::{NOBODY, Ports, Repeats, Topic, counted, millis_of, topic_of};
+use vr_io_policy::{Answers, NOBODY, Ports, Receiver, counted, is_answer, millis_of};
 
 /// How long a receive is to wait for a datagram. The system may round it up to one of its own ticks, and one more:
 /// 4 become 8 where it has 250 of them a second, which is at most the 10 that a receive may take.
@@ -19,20 +23,6 @@ const HEADER: usize = 128;
 
 const SIZE_AT: usize = 104;
 
-/// To whom an answer goes. Anyone may name any port of a machine as the sender's, so all of its ports are one.
-#[derive(Clone, Copy, PartialEq, Eq)]
-enum Receiver {
-    Peer(u32),
-    Machine(IpAddr),
-}
-
-/// An answer, as far as it can be repeated.
-#[derive(Clone, Copy, PartialEq, Eq)]
-struct Answer {
-    topic: Topic,
-    to: Receiver,
-}
-
 /// Datagrams over UDP. It tells nothing. A receive waits at most ten milliseconds; the ports of the peers are those of
 /// their addresses, and the 64 other senders that were heard last have ports after them, of which a new one takes that of
 /// the one that was heard longest ago. A sender that isn't heard, since what it sent can't be a message, has the port of nobody.
@@ -42,7 +32,7 @@ pub struct UdpLink<R> {
     net: R,
     socket: Option<UdpSocket>,
     ports: Ports<SocketAddr>,
-    answers: Repeats<Answer>,
+    answers: Answers<IpAddr>,
     /// The milliseconds of the clock, as it was looked at last.
     now: u64,
     room: Vec<u8>,
@@ -122,7 +112,7 @@ impl<R: Drop> UdpLink<R> {
             net,
             socket: None,
             ports,
-            answers: Repeats::new(alloc)?,
+            answers: Answers::new(alloc)?,
             now: 0,
             room: Vec::from_elem(alloc, 0, RECEIVE_ROOM)?,
             faults: 0,
@@ -149,25 +139,26 @@ impl<R: Drop> UdpLink<R> {
 }
 
 impl<R: Clock + Drop> UdpLink<R> {
-    /// Whether a message to this port is to be sent: no answer that went there just before.
+    /// Whether a message to this port, of this address, is to be sent: no answer that went there just before, by the time that was read.
     fn lets(&mut self, to: u32, address: SocketAddr, bytes: &[u8]) -> bool
+        ensures result { result ≡ passes ⟦<IpAddr as PartialEq>⟧.eq bytes.now (receiver_of (length self.old.ports.peers.items) to (socket_ip address)) self.new.now self.old.answers }
+        ensures answers { self.new.answers ≡ after ⟦<IpAddr as PartialEq>⟧.eq bytes.now (receiver_of (length self.old.ports.peers.items) to (socket_ip address)) self.new.now self.old.answers }
         ensures faults { self.new.faults ≡ self.old.faults }
         ensures others { self.new.send_faults ≡ self.old.send_faults }
     {
-        let Some(topic) = topic_of(bytes) else {
-            return true;
-        };
-        let to = if (to as usize) < self.ports.peers.len() {
-            Receiver::Peer(to)
-        } else {
-            Receiver::Machine(address.ip())
-        };
-        self.now = millis_of(self.net.monotonic(), self.now);
-        self.answers.lets(Answer { topic, to }, self.now)
+        if is_answer(bytes) {
+            self.now = millis_of(self.net.monotonic(), self.now);
+        }
+        let to = Receiver::of(to, self.ports.peers.len(), address.ip());
+        self.answers.lets(bytes, to, self.now)
     }
 
     /// Sends to the address of a port, unless it is an answer that is held back.
     fn send_to(&mut self, to: u32, bytes: &[u8]) -> io::Result<()>
+        ensures answers { MatchOption (address_at self.old.ports.peers.items self.old.ports.others.items to) (self.new.answers ≡ self.old.answers)
+            (λ address. self.new.answers ≡ after ⟦<IpAddr as PartialEq>⟧.eq bytes.now (receiver_of (length self.old.ports.peers.items) to (socket_ip address)) self.new.now self.old.answers) }
+        ensures held { IfSome (address_at self.old.ports.peers.items self.old.ports.others.items to) (λ address.
+            passes ⟦<IpAddr as PartialEq>⟧.eq bytes.now (receiver_of (length self.old.ports.peers.items) to (socket_ip address)) self.new.now self.old.answers ≡ false → IsOk result) }
         ensures faults { self.new.faults ≡ self.old.faults }
         ensures others { self.new.send_faults ≡ self.old.send_faults }
     {
