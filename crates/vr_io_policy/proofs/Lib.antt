@@ -4,3 +4,4 @@ mod First
 mod Gathering
 mod Holding
 pub mod Over
+mod Speaking

@@ -2,6 +2,7 @@ pub mod Caches
 pub mod Files
 pub mod Guests
 pub mod Laws
+pub mod Origins
 pub mod Pauses
 pub mod Places
 pub mod Repeats

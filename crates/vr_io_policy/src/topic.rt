@@ -6,7 +6,7 @@ use crate::guest::HEADER;
 use vr_base::{Sum, sum_at};
 
 /// Where a header has its command.
-const COMMAND_AT: usize = 108;
+pub(crate) const COMMAND_AT: usize = 108;
 
 /// The commands of answers.
 const REPLY: u8 = 5;
