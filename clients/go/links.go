@@ -57,6 +57,16 @@ func splitAddress(address string) (hostPort string, err error) {
 	return "", invalid("an address is HOST:PORT or tcp:HOST:PORT, not %q", address)
 }
 
+// askedAt reads `HOST:PORT`, or `OWN/CLIENTS`, two such ones of a member, of which clients ask at the second.
+func askedAt(address string) (hostPort string, err error) {
+	for _, one := range strings.SplitN(address, "/", 2) {
+		if hostPort, err = splitAddress(one); err != nil {
+			return "", err
+		}
+	}
+	return hostPort, nil
+}
+
 // readAddresses tells the hosts and ports of addresses, and whether they are reached over TCP.
 func readAddresses(addresses []string) (places []string, overTCP bool, err error) {
 	for at, address := range addresses {
@@ -64,7 +74,7 @@ func readAddresses(addresses []string) (places []string, overTCP bool, err error
 		if at > 0 && isTCP != overTCP {
 			return nil, false, invalid("either all addresses begin with %s, or none does", tcpPrefix)
 		}
-		place, err := splitAddress(strings.TrimPrefix(address, tcpPrefix))
+		place, err := askedAt(strings.TrimPrefix(address, tcpPrefix))
 		if err != nil {
 			return nil, false, err
 		}

@@ -472,7 +472,7 @@ func TestWhatIsOutOfForm(t *testing.T) {
 	try("one address of version 1", good[:1])
 	try("no address", nil, WithVersion(2))
 	try("seven addresses", append(append(append([]string(nil), good...), good...), good[0], good[0], good[0]))
-	for _, address := range []string{"127.0.0.1", ":1", "a:65536", "a:+1", "a:01", "a:", "[]:1", "a:b"} {
+	for _, address := range []string{"127.0.0.1", ":1", "a:65536", "a:+1", "a:01", "a:", "[]:1", "a:b", "a:1/b", "/a:1", "a/b:1"} {
 		try(address, []string{address, good[0]})
 	}
 	try("one over TCP", []string{"tcp:127.0.0.1:4000", good[1]})
@@ -490,6 +490,15 @@ func TestWhatIsOutOfForm(t *testing.T) {
 	}
 	for what, err := range groups {
 		wantIs(t, what, err, ErrInvalid, ErrNotAsked)
+	}
+}
+
+func TestClientsAskAtTheirOwnAddress(t *testing.T) {
+	for scheme, wanted := range map[string]bool{"": false, tcpPrefix: true} {
+		places, overTCP, err := readAddresses([]string{scheme + "127.0.0.1:4000/127.0.0.2:4001", scheme + "127.0.0.1:4002"})
+		if fmt.Sprint(places) != "[127.0.0.2:4001 127.0.0.1:4002]" || overTCP != wanted || err != nil {
+			t.Error(places, overTCP, err)
+		}
 	}
 }
 

@@ -138,6 +138,8 @@ class Datagrams(NamedTuple):
     rate: float
     make: Callable[[Members, Account, random.Random], List[bytes]]
     short: bool = True
+    is_forged: bool = False
+    """Whether they seem to come from members: what isn't a request is taken from members' addresses alone."""
 
 
 DATAGRAMS = (
@@ -146,8 +148,12 @@ DATAGRAMS = (
     Datagrams("messages with one wrong byte", FLOOD, lambda members, account, draw: spoiled(draw), False),
     Datagrams("another group's messages", FLOOD, lambda members, account, draw: messages(draw, OTHER, VERSION)),
     Datagrams("another version's messages", FLOOD, lambda members, account, draw: messages(draw, NUMBER, OTHER_VERSION), False),
-    Datagrams("old messages again", FLOOD / 4, lambda members, account, draw: old_ones(members, account), False),
-    Datagrams("requests for blocks, 20 MB/s of answers", BLOCKS, lambda members, account, draw: for_blocks(members)),
+    Datagrams("messages with one wrong byte, from members' addresses", FLOOD, lambda members, account, draw: spoiled(draw), False, True),
+    Datagrams("another group's messages, from members' addresses", FLOOD, lambda members, account, draw: messages(draw, OTHER, VERSION), True, True),
+    Datagrams("another version's messages, from members' addresses", FLOOD, lambda members, account, draw: messages(draw, NUMBER, OTHER_VERSION), False, True),
+    Datagrams("old messages again, from members' addresses", FLOOD / 4, lambda members, account, draw: old_ones(members, account), False, True),
+    Datagrams("requests for blocks, 20 MB/s of answers, from members' addresses", BLOCKS, lambda members, account, draw: for_blocks(members), True, True),
+    Datagrams("members' messages, from strangers", FLOOD, lambda members, account, draw: messages(draw, NUMBER, VERSION) + for_blocks(members)),
 )
 
 
@@ -164,12 +170,14 @@ class Place:
             members.start(r)
         return members
 
-    def sender(self, members: Sequence[str], datagrams: List[bytes], rate: float, seconds: float) -> "subprocess.Popen[str]":
-        """A process that sends them to these addresses."""
+    def sender(self, members: Sequence[str], datagrams: List[bytes], rate: float, seconds: float, is_forged: bool = False) -> "subprocess.Popen[str]":
+        """A process that sends them to these addresses, from ports of its own or, as it seems, from those of other members."""
+        if is_forged and os.geteuid():
+            raise LeftOut("a sender's address is forged by root alone")
         handle, path = tempfile.mkstemp(dir=self.folder)
         os.close(handle)
         flood.write(path, datagrams)
-        return subprocess.Popen([sys.executable, flood.__file__, str(seconds), str(rate), path, *members], stdout=subprocess.PIPE, text=True)
+        return subprocess.Popen([sys.executable, flood.__file__, str(seconds), str(rate), path, *members, *["--forged"] * is_forged], stdout=subprocess.PIPE, text=True)
 
 
 def try_datagrams(place: Place, row: Datagrams, _: int, number: int) -> Outcome:
@@ -178,7 +186,7 @@ def try_datagrams(place: Place, row: Datagrams, _: int, number: int) -> Outcome:
         if account.work(4, PATIENCE) < 4:
             return Outcome("no answer before it", wrong="the group doesn't answer")
         datagrams = row.make(members, account, random.Random(number))
-        sender = place.sender(members.addresses, datagrams, row.rate, place.seconds)
+        sender = place.sender(members.addresses, datagrams, row.rate, place.seconds, row.is_forged)
         begun = time.monotonic()
         account.work_for(place.seconds)
         done = time.monotonic()

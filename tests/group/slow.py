@@ -37,20 +37,22 @@ def parse_words() -> argparse.Namespace:
 
 
 class Proxy:
-    """Hands on what members send each other. Each way from one to another has a port, which the sender has as the address of the other."""
+    """Hands on what members send each other. Each way from one to another has a port, which the sender has as the address of the other. What is handed
+    on comes from the port of the way back: a member takes messages of members from the addresses of its list alone."""
 
     def __init__(self, hosts: List[str], first: int) -> None:
         self.delay, self.late = 0.0, 0.0
         self.selector, self.waiting, self.order = selectors.DefaultSelector(), [], itertools.count()
         self.ways: Dict[Tuple[int, int], str] = {}
-        self.out = socket.socket(socket.AF_INET, socket.SOCK_DGRAM)
-        for number, (sender, receiver) in enumerate(itertools.permutations(range(len(hosts)), 2)):
+        self.sockets: Dict[Tuple[int, int], socket.socket] = {}
+        for number, way in enumerate(itertools.permutations(range(len(hosts)), 2)):
+            self.sockets[way] = socket.socket(socket.AF_INET, socket.SOCK_DGRAM)
+            self.sockets[way].bind(("127.0.0.1", first + number))
+            self.sockets[way].setblocking(False)
+            self.ways[way] = f"127.0.0.1:{first + number}"
+        for (sender, receiver), one in self.sockets.items():
             host, port = hosts[receiver].rsplit(":", 1)
-            one = socket.socket(socket.AF_INET, socket.SOCK_DGRAM)
-            one.bind(("127.0.0.1", first + number))
-            one.setblocking(False)
-            self.ways[sender, receiver] = f"127.0.0.1:{first + number}"
-            self.selector.register(one, selectors.EVENT_READ, (host, int(port)))
+            self.selector.register(one, selectors.EVENT_READ, (self.sockets[receiver, sender], (host, int(port))))
         threading.Thread(target=self.work, daemon=True).start()
 
     def addresses(self, hosts: List[str], member: int) -> List[str]:
@@ -66,10 +68,10 @@ class Proxy:
                 except OSError:
                     pass  # Nobody listens where the last one went.
             while self.waiting and self.waiting[0][0] <= time.monotonic():
-                at, _, data, place = heapq.heappop(self.waiting)
+                at, _, data, (back, place) = heapq.heappop(self.waiting)
                 self.late = max(self.late, time.monotonic() - at)
                 try:
-                    self.out.sendto(data, place)
+                    back.sendto(data, place)
                 except OSError:
                     pass
 

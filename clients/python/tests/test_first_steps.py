@@ -173,6 +173,16 @@ class Words(unittest.TestCase):
             with self.subTest(version=version, size=size), self.assertRaises(ValueError):
                 nozhgiva.Group(5, ["127.0.0.1:4000"] * size, version=version)
 
+    def test_clients_ask_at_their_own_address(self):
+        with Members(2, State()) as members:
+            addresses = [f"127.0.0.1:1/{address}" for address in members.addresses]
+            with nozhgiva.Group(5, addresses, timeout=SOON).register() as session:
+                session.put("k", "v")
+                self.assertEqual(session.get("k"), "v")
+        for address in ("127.0.0.1:4000/", "/127.0.0.1:4000", "127.0.0.1:4000/x", "x/127.0.0.1:4000"):
+            with self.subTest(address), self.assertRaises(ValueError):
+                nozhgiva.Group(5, [address, "127.0.0.1:4001"])
+
     def test_words_of_other_types(self):
         for cluster, addresses in (("5", ["a:1", "b:1"]), (5, "a:1"), (5, b"a:1"), (5, [("a", 1), ("b", 1)])):
             with self.subTest(cluster=cluster, addresses=addresses), self.assertRaises(TypeError):

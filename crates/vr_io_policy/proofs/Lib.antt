@@ -7,3 +7,4 @@ mod Holding
 pub mod Left
 mod Marks
 pub mod Over
+mod Speaking

@@ -4,6 +4,7 @@ pub mod Files
 pub mod Guests
 pub mod Laws
 pub mod Lengths
+pub mod Origins
 pub mod Pauses
 pub mod Places
 pub mod Receivers

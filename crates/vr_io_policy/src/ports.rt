@@ -1,8 +1,10 @@
 //! Which port stands for which address.
-ghost use Rattle.std.specs.Prelude.{◌≡◌, ◌<◌, ◌+◌, ◌^◌, ◌-◌, [], None, IfOk, length, min, option_map, replicate};
+ghost use Rattle.std.specs.Prelude.{◌≡◌, ◌<◌, ◌+◌, ◌^◌, ◌-◌, [], None, IfOk, is_some, length, min, option_map, replicate};
 ghost use Rattle.std.specs.List.{position};
+ghost use Rattle.vr_io_policy.specs.Origins.{origin_of};
 ghost use Rattle.vr_io_policy.specs.Senders.{IsHeard, IsOldest, IsSenderPlace, address_at, at_address, never};
 
+use crate::origin::{Door, Origin};
 use std::alloc::{AllocError, Global};
 
 /// The number of senders beside the peers that have a port at a time.
@@ -116,6 +118,13 @@ impl<A: Copy + PartialEq> Ports<A> {
             Some(place) => Some(number(place)),
             None => None,
         }
+    }
+
+    /// Where what comes from an address at a door comes from: the peers are those of the group's list.
+    pub fn origin(&self, door: Door, address: A) -> Origin
+        ensures { result ≡ origin_of door (is_some (position (λ p. A.eq p address) self.now.peers.items)) }
+    {
+        door.origin(peer_of(&self.peers, &address).is_some())
     }
 
     // The place of a sender: its own; else that of the one that was heard longest ago.

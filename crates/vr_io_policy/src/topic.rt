@@ -8,7 +8,7 @@ use crate::guest::HEADER;
 use vr_base::{Sum, sum_at, u64_at};
 
 /// Where a header has its command.
-const COMMAND_AT: usize = 108;
+pub(crate) const COMMAND_AT: usize = 108;
 
 /// The commands of answers: that these are the numbers of `vr_header` is proved.
 const REPLY: u8 = 5;

@@ -1,12 +1,14 @@
 //! A link over datagrams or over streams, by its addresses: the program's is over UDP or over TCP.
-ghost use Rattle.std.specs.Prelude.{None};
+ghost use Rattle.std.specs.Prelude.{◌≡◌, ◌≤◌, None, if◌then◌else◌, vec_capacity};
+ghost use Rattle.vr_io_policy.specs.Origins.{is_taken};
 
 use crate::tcp_streams::{PREFIX, TcpStreams};
 use crate::udp_link::UdpLink;
 use std::alloc::{AllocError, Global};
 use std::net::Net;
-use vr_edge::{Link, LinkFailed, Received, Streams};
-use vr_io_policy::counted;
+use std::time::Clock;
+use vr_edge::{Link, LinkFailed, RECEIVE_ROOM, Received, Streams};
+use vr_io_policy::{Origin, counted, is_taken};
 use vr_stream::StreamLink;
 
 /// The most peers.
@@ -19,8 +21,45 @@ enum Over {
     Streams,
 }
 
+/// Who knows where what comes at a port comes from.
+pub trait Origins {
+    /// Where what comes at a port comes from.
+    fn origin(&self, port: u32) -> Origin;
+}
+
+impl<R: Net + Clock + Drop> Origins for StreamLink<TcpStreams<R>> {
+    fn origin(&self, port: u32) -> Origin {
+        self.streams().origin(port)
+    }
+}
+
+// A message that came at a port, where it is taken; else it is as if a part of one had come.
+fn sifted(port: u32, origin: Origin, bytes: &[u8]) -> Received
+    ensures { result ≡ (if is_taken origin bytes.now then Received.Datagram port else Received.Part) }
+{
+    if is_taken(origin, bytes) {
+        Received::Datagram(port)
+    } else {
+        Received::Part
+    }
+}
+
+// A receive over streams: a message that isn't taken of its sender is lost.
+fn receive_taken<S: Link + Origins>(
+    streams: &mut S,
+    to: &mut Vec<u8>,
+) -> Result<Received, LinkFailed>
+    requires { RECEIVE_ROOM ≤ vec_capacity to.old }
+    ensures { RECEIVE_ROOM ≤ vec_capacity to.new }
+{
+    match streams.receive(to) {
+        Ok(Received::Datagram(port)) => Ok(sifted(port, streams.origin(port), to.as_slice())),
+        received => received,
+    }
+}
+
 /// The link over streams where all addresses begin with `tcp:`, that over datagrams where none does; otherwise it can't be
-/// attached. It tells nothing.
+/// attached. Of what comes members' messages are taken from addresses of the list alone, and at an address for clients requests alone. It tells nothing.
 pub struct RealLink<D, S> {
     datagrams: D,
     streams: S,
@@ -79,7 +118,7 @@ where
     }
 }
 
-impl<D: Link, S: Link> Link for RealLink<D, S> {
+impl<D: Link, S: Link + Origins> Link for RealLink<D, S> {
     ghost attached = { λ _. None };
 
     ghost sent = { λ _. None };
@@ -118,7 +157,7 @@ impl<D: Link, S: Link> Link for RealLink<D, S> {
     fn receive(&mut self, to: &mut Vec<u8>) -> Result<Received, LinkFailed> {
         let received = match self.over {
             Over::Datagrams => self.datagrams.receive(to),
-            Over::Streams => self.streams.receive(to),
+            Over::Streams => receive_taken(&mut self.streams, to),
         };
         counted(received, &mut self.faults, LinkFailed)
     }

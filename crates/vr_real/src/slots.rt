@@ -10,21 +10,20 @@ use std::io;
 use std::io::{ErrorKind, Read, Write};
 use std::net::{IpAddr, SocketAddr};
 use vr_edge::{Polled, STREAM_ROOM};
-use vr_io_policy::{Places, number};
+use vr_io_policy::{Door, Origin, Places, number};
 
-/// How many streams are taken in at once: no more than are read until the next ones are.
-const TAKEN: usize = 4;
-
-/// The number by which the system tells that streams wait to be taken in.
+/// The number by which the system tells that streams wait to be taken in at the own address; at that for clients the next one.
 pub const ENTRANCE: usize = 1_000_000;
 
 /// How much later than the last one a stream to a peer is begun.
 const AGAIN_MILLIS: u64 = 1000;
 
 /// The stream at a port, at first none.
-#[derive(Drop, Default)]
+#[derive(Drop)]
 pub struct Slot {
     stream: Option<TcpStream>,
+    /// Where it comes from.
+    origin: Origin,
     /// Whether something may be there to be read.
     ready: bool,
     /// Whether it has taken bytes: one that is being made takes none.
@@ -41,12 +40,24 @@ pub fn empty_slots(alloc: Global, count: usize) -> Result<Vec<Slot>, AllocError>
 {
     let mut slots = Vec::new(alloc);
     for _ in 0..count {
-        slots.push(Slot::default())?;
+        slots.push(Slot::new())?;
     }
     Ok(slots)
 }
 
 impl Slot {
+    /// One without a stream.
+    fn new() -> Slot {
+        Slot {
+            stream: None,
+            origin: Origin::Stranger,
+            ready: false,
+            stands: false,
+            over: false,
+            begun: None,
+        }
+    }
+
     /// The stream is there no more, and no poll has to tell so.
     pub fn leave(&mut self) {
         self.stream = None;
@@ -55,9 +66,10 @@ impl Slot {
     }
 
     /// Takes a stream in the place of what it had.
-    fn put(&mut self, stream: TcpStream) {
+    fn put(&mut self, stream: TcpStream, origin: Origin) {
         self.over = self.over || self.stream.is_some();
         self.stream = Some(stream);
+        self.origin = origin;
         self.ready = false;
         self.stands = false;
     }
@@ -160,7 +172,7 @@ pub fn note(events: &Events, slots: &mut Vec<Slot>) -> bool
     let mut waiting = false;
     for event in events.iter() {
         let Token(at) = event.token();
-        waiting = waiting || at == ENTRANCE;
+        waiting = waiting || at >= ENTRANCE;
         if let Some(slot) = slots.get_mut(at) {
             slot.ready = true;
         }
@@ -169,11 +181,11 @@ pub fn note(events: &Events, slots: &mut Vec<Slot>) -> bool
 }
 
 /// Puts a stream at a port. Something may be there already.
-pub fn put_stream(slots: &mut Vec<Slot>, at: usize, stream: TcpStream)
+pub fn put_stream(slots: &mut Vec<Slot>, at: usize, stream: TcpStream, origin: Origin)
     ensures { vec_len slots.new ≡ vec_len slots.old }
 {
     if let Some(slot) = slots.get_mut(at) {
-        slot.put(stream);
+        slot.put(stream, origin);
         slot.ready = true;
     }
 }
@@ -211,6 +223,19 @@ pub fn is_free(slots: &Vec<Slot>, at: usize) -> bool {
     slots.get(at).is_some_and(|slot| slot.stream.is_none())
 }
 
+/// Where what comes at a port comes from.
+pub fn origin_at(slots: &Vec<Slot>, at: usize) -> Origin {
+    match slots.get(at) {
+        Some(slot) => slot.origin,
+        None => Origin::Stranger,
+    }
+}
+
+// Whether one of these addresses is on this machine.
+fn is_listed(peers: &Vec<SocketAddr>, from: IpAddr) -> bool {
+    peers.iter().any(|peer| peer.ip() == from)
+}
+
 // Whether no stream speaks for the member at this place of the list of peers.
 fn is_silent(places: &Places, at: usize) -> bool {
     match u8::try_from(at) {
@@ -242,6 +267,33 @@ fn meet(
     near
 }
 
+/// What is known of a stream that comes.
+#[derive(Clone, Copy)]
+struct Comer {
+    /// Whether it may be that of a member.
+    near: bool,
+    origin: Origin,
+}
+
+/// What is known of a stream from an address that comes at a door. One from the machine of an address of the list may be a member's.
+fn meet_at(
+    slots: &mut Vec<Slot>,
+    peers: &Vec<SocketAddr>,
+    places: &Places,
+    listener: &TcpListener,
+    door: Door,
+    from: IpAddr,
+) -> Comer
+    ensures { vec_len slots.new ≡ vec_len slots.old }
+{
+    let origin = door.origin(is_listed(peers, from));
+    let near = match origin {
+        Origin::Member => meet(slots, peers, places, listener.local_addr().ok(), from),
+        _ => false,
+    };
+    Comer { near, origin }
+}
+
 /// Takes a stream in where there is a place for it, and lets it go where there is none.
 fn seat(
     poll: &Poll,
@@ -249,12 +301,12 @@ fn seat(
     places: &mut Places,
     peers: &Vec<SocketAddr>,
     mut stream: TcpStream,
-    near: bool,
+    comer: Comer,
     now: u64,
 )
     ensures { vec_len slots.new ≡ vec_len slots.old }
 {
-    let Some(place) = places.place_for(near, now) else {
+    let Some(place) = places.place_for(comer.near, now) else {
         return;
     };
     let at = peers.len().saturating_add(place);
@@ -264,15 +316,17 @@ fn seat(
     if registered.is_ok() {
         let _ = stream.set_nodelay(true);
         watch(&stream);
-        places.come(place, near, now);
-        put_stream(slots, at, stream);
+        places.come(place, comer.near, now);
+        put_stream(slots, at, stream, comer.origin);
     }
 }
 
-/// Takes in streams that wait, a few, and says whether more may wait.
+/// Takes in streams that wait at a door, at most so many, and says whether more may wait.
 pub fn take_in(
     poll: &Poll,
     listener: &TcpListener,
+    door: Door,
+    most: usize,
     slots: &mut Vec<Slot>,
     places: &mut Places,
     peers: &Vec<SocketAddr>,
@@ -280,12 +334,11 @@ pub fn take_in(
 ) -> bool
     ensures { vec_len slots.new ≡ vec_len slots.old }
 {
-    let own = listener.local_addr().ok();
-    for _ in 0..TAKEN {
+    for _ in 0..most {
         match listener.accept() {
             Ok((stream, from)) => {
-                let near = meet(slots, peers, places, own, from.ip());
-                seat(poll, slots, places, peers, stream, near, now);
+                let comer = meet_at(slots, peers, places, listener, door, from.ip());
+                seat(poll, slots, places, peers, stream, comer, now);
             }
             Err(error) => return error.kind() != ErrorKind::WouldBlock,
         }

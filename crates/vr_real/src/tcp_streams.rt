@@ -2,11 +2,11 @@
 ghost use Rattle.std.specs.Prelude.{◌≡◌, ◌≤◌, ◌+◌, IfOk, IfSome, OnOk, OnErr, None, length, vec_len};
 ghost use Rattle.vr_edge.specs.Streaming.{IsPolled};
 
-use crate::addresses::{address_of, addresses_of};
+use crate::addresses::{address_of, addresses_of, has_clients};
 use crate::descriptors::has_descriptors;
 use crate::slots::{
-    ENTRANCE, Slot, begins_at, empty_slots, is_free, note, put_stream, read_ready, stands_at,
-    take_in, write_at,
+    ENTRANCE, Slot, begins_at, empty_slots, is_free, note, origin_at, put_stream, read_ready,
+    stands_at, take_in, write_at,
 };
 use crate::stream_options::watch;
 use mio::net::{TcpListener, TcpStream};
@@ -17,13 +17,16 @@ use std::io::ErrorKind;
 use std::net::{Net, SocketAddr};
 use std::time::{Clock, Duration};
 use vr_edge::{Polled, STREAM_ROOM, StreamFailed, Streams};
-use vr_io_policy::{PLACES, Places, counted, descriptors_wanted, millis_of};
+use vr_io_policy::{Door, Origin, PLACES, Places, counted, descriptors_wanted, millis_of};
 
 /// How long a poll waits where nothing is there. The system may round it up to one of its own ticks, and one more.
 const WAIT_MILLIS: u64 = 4;
 
 /// How many pieces more are read, until the system is asked again what there is.
 const ROUND: u32 = 4;
+
+/// How many streams are taken in at once, at one door or at both: no more than are read until the next ones are.
+const TAKEN: usize = 4;
 
 /// What the address of a stream begins with.
 pub const PREFIX: &str = "tcp:";
@@ -32,13 +35,16 @@ pub const PREFIX: &str = "tcp:";
 /// of one's own, and at each write to its port while it doesn't stand, but at most once a second as long as no stream comes from the peer's
 /// machine; what is written before it stands is lost. One of which bytes aren't acknowledged for two seconds ends. Where 64 others are
 /// there and one more comes, it takes the place that `vr_io_policy` gives it, or none. No stream is read for ever while others wait. An
-/// attach with an address of one's own fails where the descriptors for all of them can't be had.
+/// attach with an address of one's own fails where the descriptors for all of them can't be had. A member's place is had by streams alone that come
+/// from the machine of an address of the list; where the own word names an address for clients too, none of those that come there has one.
 pub struct TcpStreams<R> {
     alloc: Global,
     net: R,
     poll: Option<Poll>,
     events: Events,
     listener: Option<TcpListener>,
+    /// Where clients alone come, if there is such an address.
+    clients: Option<TcpListener>,
     peers: Vec<SocketAddr>,
     slots: Vec<Slot>,
     /// Who has the places after the peers' slots.
@@ -65,6 +71,7 @@ impl<R: Drop> Drop for TcpStreams<R> {
             poll: _,
             events: _,
             listener: _,
+            clients: _,
             peers: _,
             slots: _,
             places: _,
@@ -97,15 +104,34 @@ impl Rooms {
     }
 }
 
-/// The own address, opened to others where there is one; the poll tells when they come.
-fn entrance<R: Net>(net: &R, poll: &Poll, own: &str) -> io::Result<Option<TcpListener>> {
+/// The address at a door in the own word, opened to others; the poll tells by this number when they come.
+fn entrance<R: Net>(
+    net: &R,
+    poll: &Poll,
+    own: &str,
+    door: Door,
+    number: usize,
+) -> io::Result<TcpListener> {
+    let mut listener = TcpListener::bind(net, address_of(net, PREFIX, own, door)?)?;
+    poll.registry()
+        .register(&mut listener, Token(number), Interest::READABLE)?;
+    Ok(listener)
+}
+
+/// The own address, opened to others where there is one.
+fn own_entrance<R: Net>(net: &R, poll: &Poll, own: &str) -> io::Result<Option<TcpListener>> {
     if own.is_empty() {
         return Ok(None);
     }
-    let mut listener = TcpListener::bind(net, address_of(net, PREFIX, own)?)?;
-    poll.registry()
-        .register(&mut listener, Token(ENTRANCE), Interest::READABLE)?;
-    Ok(Some(listener))
+    Ok(Some(entrance(net, poll, own, Door::Own, ENTRANCE)?))
+}
+
+/// The address for clients alone, opened to them where there is one.
+fn clients_entrance<R: Net>(net: &R, poll: &Poll, own: &str) -> io::Result<Option<TcpListener>> {
+    if !has_clients(own) {
+        return Ok(None);
+    }
+    Ok(Some(entrance(net, poll, own, Door::Clients, ENTRANCE + 1)?))
 }
 
 /// Notes what is there, once something is or so long was waited; says whether the wait went to its end, and no signal came.
@@ -140,21 +166,39 @@ fn want_descriptors(alloc: Global, peers: usize, is_member: bool) -> io::Result<
 struct Opened {
     poll: Poll,
     listener: Option<TcpListener>,
+    clients: Option<TcpListener>,
 }
 
 impl Opened {
-    /// The own address is open to others, and there are descriptors for them and so many peers.
+    /// The own addresses are open to others, and there are descriptors for them and so many peers.
     fn new<R: Net>(alloc: Global, net: &R, own: &str, peers: usize) -> io::Result<Opened> {
         let poll = Poll::new(net)?;
-        let listener = entrance(net, &poll, own)?;
+        let listener = own_entrance(net, &poll, own)?;
+        let clients = clients_entrance(net, &poll, own)?;
         want_descriptors(alloc, peers, !own.is_empty())?;
-        Ok(Opened { poll, listener })
+        Ok(Opened {
+            poll,
+            listener,
+            clients,
+        })
     }
 }
 
 /// The address at which streams of others are taken in.
 fn own_address(listener: &Option<TcpListener>) -> Option<SocketAddr> {
     listener.as_ref()?.local_addr().ok()
+}
+
+/// What takes streams in at a door.
+fn listener_at<'x>(
+    own: &'x Option<TcpListener>,
+    clients: &'x Option<TcpListener>,
+    door: Door,
+) -> &'x Option<TcpListener> {
+    match door {
+        Door::Own => own,
+        Door::Clients => clients,
+    }
 }
 
 impl<R: Drop> TcpStreams<R> {
@@ -168,6 +212,7 @@ impl<R: Drop> TcpStreams<R> {
             poll: None,
             events,
             listener: None,
+            clients: None,
             peers: Vec::new(alloc),
             slots: Vec::new(alloc),
             places,
@@ -203,16 +248,38 @@ impl<R: Drop> TcpStreams<R> {
         ensures faults { self.new.faults ≡ self.old.faults }
         ensures others { self.new.call_faults ≡ self.old.call_faults }
     {
-        if let (true, Some(poll), Some(listener)) = (knocks, &self.poll, &self.listener) {
-            self.knocks = take_in(
-                poll,
-                listener,
-                &mut self.slots,
-                &mut self.places,
-                &self.peers,
-                self.now,
-            );
+        if knocks {
+            let members = self.let_in(Door::Own);
+            let clients = self.let_in(Door::Clients);
+            self.knocks = members || clients;
         }
+    }
+
+    /// Takes in streams that wait at a door, and says whether more may wait there.
+    fn let_in(&mut self, door: Door) -> bool
+        ensures attached { vec_len self.new.peers ≡ vec_len self.old.peers }
+        ensures faults { self.new.faults ≡ self.old.faults }
+        ensures others { self.new.call_faults ≡ self.old.call_faults }
+    {
+        let listener = listener_at(&self.listener, &self.clients, door);
+        let (Some(poll), Some(listener)) = (&self.poll, listener) else {
+            return false;
+        };
+        let most = if self.clients.is_some() {
+            TAKEN / 2
+        } else {
+            TAKEN
+        };
+        take_in(
+            poll,
+            listener,
+            door,
+            most,
+            &mut self.slots,
+            &mut self.places,
+            &self.peers,
+            self.now,
+        )
     }
 
     /// What the first stream has that has something, from the next one on; who has its place is told of it.
@@ -259,6 +326,11 @@ impl<R: Drop> TcpStreams<R> {
         (port as usize).checked_sub(self.peers.len())
     }
 
+    /// Where what comes at a port comes from. A stream that was begun here leads to a member.
+    pub fn origin(&self, port: u32) -> Origin {
+        origin_at(&self.slots, port as usize)
+    }
+
     /// What comes next.
     fn find(&mut self, to: &mut [u8]) -> io::Result<Polled>
         requires { length to.old ≡ STREAM_ROOM }
@@ -303,6 +375,7 @@ impl<R: Net + Clock + Drop> TcpStreams<R> {
         self.peers = peers;
         self.poll = Some(opened.poll);
         self.listener = opened.listener;
+        self.clients = opened.clients;
     }
 
     /// Takes the peers, and opens the own address to others.
@@ -312,7 +385,7 @@ impl<R: Net + Clock + Drop> TcpStreams<R> {
         ensures faults { self.new.faults ≡ self.old.faults }
         ensures others { self.new.call_faults ≡ self.old.call_faults }
     {
-        let peers = addresses_of(self.alloc, &self.net, PREFIX, peers)?;
+        let peers = addresses_of(self.alloc, &self.net, PREFIX, own, peers)?;
         let rooms = Rooms::new(self.alloc, peers.len())?;
         let opened = Opened::new(self.alloc, &self.net, own, peers.len())?;
         self.take(peers, rooms, opened);
@@ -345,7 +418,7 @@ impl<R: Net + Clock + Drop> TcpStreams<R> {
             return Ok(());
         };
         let stream = begin(&self.net, poll, *address, at)?;
-        put_stream(&mut self.slots, at, stream);
+        put_stream(&mut self.slots, at, stream, Origin::Member);
         Ok(())
     }
 
@@ -427,7 +500,7 @@ impl<R: Net + Clock + Drop> Streams for TcpStreams<R> {
     }
 
     fn speaks(&mut self, port: u32, member: u8) {
-        if let Some(place) = self.place(port) {
+        if let (Origin::Member, Some(place)) = (self.origin(port), self.place(port)) {
             self.places.speak(place, member);
         }
     }

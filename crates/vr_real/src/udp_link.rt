@@ -1,22 +1,21 @@
 //! A link over a socket of datagrams.
-ghost use Rattle.std.specs.Prelude.{◌≡◌, ◌≤◌, IfSome, IsOk, MatchOption, None, false, length, vec_capacity};
+ghost use Rattle.std.specs.Prelude.{◌≡◌, ◌≤◌, IfSome, IsOk, MatchOption, None, false, true, is_some, length, vec_capacity};
+ghost use Rattle.std.specs.List.{position};
 ghost use Rattle.std.specs.Net.Socket.{socket_ip};
 ghost use Rattle.vr_io_policy.specs.Answers.{after, passes};
+ghost use Rattle.vr_io_policy.specs.Origins.{is_taken, origin_of};
 ghost use Rattle.vr_io_policy.specs.Receivers.{receiver_of};
 ghost use Rattle.vr_io_policy.specs.Senders.{address_at};
 
-use crate::addresses::{address_of, addresses_of};
+use crate::addresses::{address_of, addresses_of, has_clients};
+use crate::udp_sockets::{Sockets, Way};
 use std::alloc::{AllocError, Global};
 use std::io;
 use std::io::ErrorKind;
-use std::net::{IpAddr, Ipv4Addr, Ipv6Addr, Net, SocketAddr, UdpSocket};
-use std::time::{Clock, Duration};
+use std::net::{IpAddr, Ipv4Addr, Ipv6Addr, Net, SocketAddr};
+use std::time::Clock;
 use vr_edge::{Link, LinkFailed, RECEIVE_ROOM, Received};
-use vr_io_policy::{Answers, NOBODY, Ports, Receiver, counted, is_answer, millis_of};
-
-/// How long a receive is to wait for a datagram. The system may round it up to one of its own ticks, and one more:
-/// 4 become 8 where it has 250 of them a second, which is at most the 10 that a receive may take.
-const WAIT_MILLIS: u64 = 4;
+use vr_io_policy::{Answers, Door, NOBODY, Ports, Receiver, counted, is_answer, is_taken, millis_of};
 
 /// The bytes of a header, and where the message's size stands in it.
 const HEADER: usize = 128;
@@ -26,12 +25,14 @@ const SIZE_AT: usize = 104;
 /// Datagrams over UDP. It tells nothing. A receive waits at most ten milliseconds; the ports of the peers are those of
 /// their addresses, and the 64 other senders that were heard last have ports after them, of which a new one takes that of
 /// the one that was heard longest ago. A sender that isn't heard, since what it sent can't be a message, has the port of nobody.
-/// An answer that `vr_io_policy` holds back, since it went there just before, is lost, as any datagram may be.
+/// An answer that `vr_io_policy` holds back, since it went there just before, is lost, as any datagram may be. So is what isn't taken of its sender:
+/// members' messages from addresses of the list alone. Where the own word names an address for clients too, requests alone are taken there, and
+/// answers to them go out from there.
 pub struct UdpLink<R> {
     alloc: Global,
     net: R,
-    socket: Option<UdpSocket>,
-    ports: Ports<SocketAddr>,
+    sockets: Option<Sockets>,
+    ports: Ports<Way>,
     answers: Answers<IpAddr>,
     /// The milliseconds of the clock, as it was looked at last.
     now: u64,
@@ -46,7 +47,7 @@ impl<R: Drop> Drop for UdpLink<R> {
         let UdpLink {
             alloc: _,
             net: _,
-            socket: _,
+            sockets: _,
             ports: _,
             answers: _,
             now: _,
@@ -60,7 +61,7 @@ impl<R: Drop> Drop for UdpLink<R> {
 /// The own address; without one, any of the kind that the peers have.
 fn own_address<R: Net>(net: &R, own: &str, peers: &Vec<SocketAddr>) -> io::Result<SocketAddr> {
     if !own.is_empty() {
-        return address_of(net, "", own);
+        return address_of(net, "", own, Door::Own);
     }
     match peers.first() {
         Some(SocketAddr::V6(_)) => Ok(SocketAddr::new(IpAddr::V6(Ipv6Addr::UNSPECIFIED), 0)),
@@ -68,11 +69,25 @@ fn own_address<R: Net>(net: &R, own: &str, peers: &Vec<SocketAddr>) -> io::Resul
     }
 }
 
-/// A socket at the own address, whose receives wait a little.
-fn bind<R: Net>(net: &R, own: &str, peers: &Vec<SocketAddr>) -> io::Result<UdpSocket> {
-    let socket = UdpSocket::bind(net, own_address(net, own, peers)?)?;
-    socket.set_read_timeout(Some(Duration::from_millis(WAIT_MILLIS)))?;
-    Ok(socket)
+/// The address for clients alone, where the own word names one.
+fn clients_address<R: Net>(net: &R, own: &str) -> io::Result<Option<SocketAddr>> {
+    if !has_clients(own) {
+        return Ok(None);
+    }
+    Ok(Some(address_of(net, "", own, Door::Clients)?))
+}
+
+/// The ways to the peers.
+fn ways_of(alloc: Global, peers: &Vec<SocketAddr>) -> Result<Vec<Way>, AllocError> {
+    let door = Door::Own;
+    let mut ways = Vec::new(alloc);
+    for address in peers.iter() {
+        ways.push(Way {
+            address: *address,
+            door,
+        })?;
+    }
+    Ok(ways)
 }
 
 /// Whether nothing was there to be received.
@@ -94,23 +109,33 @@ fn may_be_message(bytes: &[u8]) -> bool {
     }
 }
 
-/// The port of the sender of a datagram.
-fn port_of(ports: &mut Ports<SocketAddr>, address: SocketAddr, bytes: &[u8]) -> u32 {
+/// The port of the sender of a datagram that came at a door; `None` where it isn't taken.
+fn port_of<A: Copy + PartialEq>(
+    ports: &mut Ports<A>,
+    door: Door,
+    address: A,
+    bytes: &[u8],
+) -> Option<u32>
+    ensures { IfSome result (λ _. is_taken (origin_of door (is_some (position (λ p. A.eq p address) ports.old.peers.items))) bytes.now ≡ true) }
+{
+    if !is_taken(ports.origin(door, address), bytes) {
+        return None;
+    }
     match ports.peer(address) {
-        Some(port) => port,
-        None if may_be_message(bytes) => ports.other(address),
-        None => NOBODY,
+        Some(port) => Some(port),
+        None if may_be_message(bytes) => Some(ports.other(address)),
+        None => Some(NOBODY),
     }
 }
 
 impl<R: Drop> UdpLink<R> {
-    /// A link without its socket, which `attach` opens through `net`.
+    /// A link without its sockets, which `attach` opens through `net`.
     pub fn new(alloc: Global, net: R) -> Result<UdpLink<R>, AllocError> {
         let ports = Ports::new(alloc, Vec::new(alloc))?;
         Ok(UdpLink {
             alloc,
             net,
-            socket: None,
+            sockets: None,
             ports,
             answers: Answers::new(alloc)?,
             now: 0,
@@ -120,21 +145,21 @@ impl<R: Drop> UdpLink<R> {
         })
     }
 
-    /// Receives into its own room, and copies what came. It returns the sender's port.
-    fn receive_from(&mut self, to: &mut Vec<u8>) -> io::Result<u32>
+    /// Receives into its own room, and copies what came. It returns the sender's port, none where it isn't taken.
+    fn receive_from(&mut self, to: &mut Vec<u8>) -> io::Result<Option<u32>>
         requires { RECEIVE_ROOM ≤ vec_capacity to.old }
         ensures room { RECEIVE_ROOM ≤ vec_capacity to.new }
         ensures faults { self.new.faults ≡ self.old.faults }
         ensures others { self.new.send_faults ≡ self.old.send_faults }
     {
         to.clear();
-        let Some(socket) = &self.socket else {
+        let Some(sockets) = &mut self.sockets else {
             return Err(io::Error::from(ErrorKind::NotConnected));
         };
-        let (count, address) = socket.recv_from(&mut self.room)?;
+        let (count, way) = sockets.receive(&mut self.room)?;
         let bytes = &self.room[..count.min(RECEIVE_ROOM)];
         to.extend_from_slice(bytes).unwrap();
-        Ok(port_of(&mut self.ports, address, bytes))
+        Ok(port_of(&mut self.ports, way.door, way, bytes))
     }
 }
 
@@ -156,35 +181,38 @@ impl<R: Clock + Drop> UdpLink<R> {
     /// Sends to the address of a port, unless it is an answer that is held back.
     fn send_to(&mut self, to: u32, bytes: &[u8]) -> io::Result<()>
         ensures answers { MatchOption (address_at self.old.ports.peers.items self.old.ports.others.items to) (self.new.answers ≡ self.old.answers)
-            (λ address. self.new.answers ≡ after ⟦<IpAddr as PartialEq>⟧.eq bytes.now (receiver_of (length self.old.ports.peers.items) to (socket_ip address)) self.new.now self.old.answers) }
-        ensures held { IfSome (address_at self.old.ports.peers.items self.old.ports.others.items to) (λ address.
-            passes ⟦<IpAddr as PartialEq>⟧.eq bytes.now (receiver_of (length self.old.ports.peers.items) to (socket_ip address)) self.new.now self.old.answers ≡ false → IsOk result) }
+            (λ way. self.new.answers ≡ after ⟦<IpAddr as PartialEq>⟧.eq bytes.now (receiver_of (length self.old.ports.peers.items) to (socket_ip way.address)) self.new.now self.old.answers) }
+        ensures held { IfSome (address_at self.old.ports.peers.items self.old.ports.others.items to) (λ way.
+            passes ⟦<IpAddr as PartialEq>⟧.eq bytes.now (receiver_of (length self.old.ports.peers.items) to (socket_ip way.address)) self.new.now self.old.answers ≡ false → IsOk result) }
         ensures faults { self.new.faults ≡ self.old.faults }
         ensures others { self.new.send_faults ≡ self.old.send_faults }
     {
-        let Some(address) = self.ports.address(to) else {
+        let Some(way) = self.ports.address(to) else {
             return Err(io::Error::from(ErrorKind::NotConnected));
         };
-        if !self.lets(to, address, bytes) {
+        if !self.lets(to, way.address, bytes) {
             return Ok(());
         }
-        let Some(socket) = &self.socket else {
+        let Some(sockets) = &self.sockets else {
             return Err(io::Error::from(ErrorKind::NotConnected));
         };
-        socket.send_to(bytes, address)?;
+        sockets.send(bytes, way)?;
         Ok(())
     }
 }
 
 impl<R: Net + Drop> UdpLink<R> {
-    /// Opens the socket, and takes the peers.
+    /// Opens the sockets, and takes the peers.
     fn open(&mut self, own: &str, peers: &Vec<String>) -> io::Result<()>
         ensures faults { self.new.faults ≡ self.old.faults }
         ensures others { self.new.send_faults ≡ self.old.send_faults }
     {
-        let peers = addresses_of(self.alloc, &self.net, "", peers)?;
-        self.socket = Some(bind(&self.net, own, &peers)?);
-        self.ports = Ports::new(self.alloc, peers)?;
+        let peers = addresses_of(self.alloc, &self.net, "", own, peers)?;
+        let address = own_address(&self.net, own, &peers)?;
+        let clients = clients_address(&self.net, own)?;
+        let ports = Ports::new(self.alloc, ways_of(self.alloc, &peers)?)?;
+        self.sockets = Some(Sockets::open(self.alloc, &self.net, address, clients)?);
+        self.ports = ports;
         Ok(())
     }
 }
@@ -214,7 +242,8 @@ impl<R: Net + Clock + Drop> Link for UdpLink<R> {
 
     fn receive(&mut self, to: &mut Vec<u8>) -> Result<Received, LinkFailed> {
         match self.receive_from(to) {
-            Ok(port) => Ok(Received::Datagram(port)),
+            Ok(Some(port)) => Ok(Received::Datagram(port)),
+            Ok(None) => Ok(Received::Part),
             Err(error) if is_quiet(&error) => Ok(Received::Quiet),
             Err(error) => counted(Err(error), &mut self.faults, LinkFailed),
         }

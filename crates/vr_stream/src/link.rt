@@ -20,6 +20,13 @@ impl<T: Streams> StreamLink<T> {
     ghost use Rattle.vr_stream.specs.Heard.{IsUnasked};
     ghost use Rattle.vr_stream.specs.Lines.{fresh_line};
 
+    /// What it is a link over.
+    pub fn streams(&self) -> &T
+        ensures { result.now ≡ self.now.framed.streams }
+    {
+        &self.framed.streams
+    }
+
     /// A link to so many peers at most, over streams that aren't attached. It is attached as a link is.
     #[tactic(auto, using(crate::proofs::Told::not_told))]
     pub fn new(alloc: Global, peers: u8, streams: T) -> Result<StreamLink<T>, AllocError>

@@ -6,6 +6,7 @@ from typing import Dict, List, Optional, Tuple
 from nozhgiva_tools.operate.demand import Demand
 from nozhgiva_tools.operate.doors import http_asked, place_of
 from nozhgiva_tools.operate.judging import AILS, Settling, SILENT, Verdict, WELL
+from nozhgiva_tools.operate.probing import places_of, where_of
 from nozhgiva_tools.operate.tally import Tally
 from nozhgiva_tools.told.datafile import Checkpoint, Report, Value
 from nozhgiva_tools.told.lines import Applied, parse
@@ -123,6 +124,15 @@ class Telling(unittest.TestCase):
             told.append(settling.hear(now, Verdict(code, None, None, 0, [], may_change=True)).code)
         self.assertEqual(told, [WELL, AILS, AILS, WELL, AILS, AILS, SILENT, SILENT, AILS])
         self.assertEqual(Settling().hear(0.0, Verdict(SILENT, 0, 3, 9, [])).code, SILENT)
+
+    def test_both_addresses_of_a_member(self) -> None:
+        own, clients = ("127.0.0.1", 4000), ("::1", 4001)
+        for scheme in ("", "tcp:"):
+            self.assertEqual(places_of(f"{scheme}127.0.0.1:4000"), [own])
+            self.assertEqual(places_of(f"{scheme}127.0.0.1:4000/[::1]:4001"), [own, clients])
+            self.assertEqual(where_of(f"{scheme}127.0.0.1:4000/[::1]:4001"), clients)
+        for text in ("a:1/", "/a:1", "a:1/b", "a/b:1"):
+            self.assertRaises(ValueError, places_of, text)
 
     def test_addresses_and_questions(self) -> None:
         for text, place in [("127.0.0.1:80", ("127.0.0.1", 80)), ("[::1]:80", ("::1", 80)), ("host:65535", ("host", 65535))]:

@@ -55,7 +55,7 @@ class Command(NamedTuple):
 
 
 CLUSTER = ("CLUSTER", "the number of the group, below 2^64")
-ADDRESSES = ("ADDR..", "the addresses of all members, in their order; over TCP each begins with tcp:")
+ADDRESSES = ("ADDR..", "the addresses of all members, in their order; over TCP each begins with tcp:; OWN/CLIENTS is one with another for clients")
 TURNS = ("TURNS", "how often it receives before it ends, with up to ten milliseconds each")
 VERSION_2 = ("--v2", "the group's files are of version 2")
 KEY = ("KEY", "the key, 1 to 64 visible letters of ASCII")

@@ -1,6 +1,7 @@
 """What an exit code of the program means here, in one sentence, by what the system says. docs/NODE.md has the whole table."""
 
 import errno
+import itertools
 import os
 import resource
 import signal
@@ -165,8 +166,13 @@ OF_FILES: Dict[int, Callable[[str, Seen], str]] = {Code.DISK_FAULT: why_no_file,
 
 
 def split_address(address: str) -> Tuple[str, Optional[int]]:
-    host, _, port = address[4 if address.startswith("tcp:") else 0:].rpartition(":")
+    host, _, port = address.rpartition(":")
     return host.strip("[]"), int(port) if port.isdigit() and int(port) < 65536 else None
+
+
+def split_word(word: str) -> List[str]:
+    """The addresses in a word: a member's own, and the one for clients, if there is one."""
+    return word[4 if word.startswith("tcp:") else 0:].split("/", 1)
 
 
 def why_no_link(name: str, addresses: List[str]) -> str:
@@ -174,9 +180,9 @@ def why_no_link(name: str, addresses: List[str]) -> str:
     if 0 < streams < len(addresses):
         return "some of the addresses begin with tcp: and some don't"
     for one in addresses:
-        host, port = split_address(one)
-        if not host or port is None:
-            return f"{one} is no address: HOST:PORT, or tcp:HOST:PORT"
+        for host, port in map(split_address, split_word(one)):
+            if not host or port is None:
+                return f"{one} is no address: HOST:PORT, or tcp:HOST:PORT; or with one for clients HOST:PORT/HOST:PORT"
     return why_no_descriptors(name, streams) or why_not_bound(addresses, streams > 0) or (
         "an address isn't one of this machine, is in use, or is of another kind than the others; or receiving failed")
 
@@ -191,7 +197,7 @@ def why_no_descriptors(name: str, streams: int) -> Optional[str]:
 def why_not_bound(addresses: List[str], is_stream: bool) -> Optional[str]:
     """What the system says of each address that is this machine's to take; those of other machines are left out."""
     kind = socket.SOCK_STREAM if is_stream else socket.SOCK_DGRAM
-    for one in addresses:
+    for one in itertools.chain.from_iterable(map(split_word, addresses)):
         host, port = split_address(one)
         try:
             family, _, _, _, place = socket.getaddrinfo(host, port, type=kind)[0]

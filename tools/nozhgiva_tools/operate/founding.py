@@ -8,7 +8,7 @@ from typing import Dict, List, NamedTuple, Optional
 
 from nozhgiva_tools.told import datafile
 
-from .probing import HEADER, LARGEST, Probe, TCP, where_of
+from .probing import HEADER, LARGEST, Probe, TCP, places_of
 
 PREPARE, COMMIT, START_VIEW = 6, 8, 11
 TOLD = (PREPARE, COMMIT, 10, START_VIEW, 14, 19)  # messages of a member that hold the number of an operation of its log
@@ -46,7 +46,7 @@ class Ear:
         self.selector = selectors.DefaultSelector()
         self.is_stream = address.startswith(TCP)
         try:
-            self.open(*where_of(address))
+            self.open(*places_of(address)[0])
         except OSError as error:
             self.why = f"{address} is taken by another process" if error.errno == errno.EADDRINUSE else f"{address} isn't of this machine ({error.strerror or error})"
 

@@ -23,15 +23,21 @@ TCP = "tcp:"
 AGAIN = 0.25  # seconds after which a datagram is sent once more
 
 
+def places_of(address: str) -> List[Tuple[str, int]]:
+    """Host and port of a member's own address, and of that at which clients alone ask where there is one, over UDP or TCP: `OWN` or `OWN/CLIENTS`.
+    ValueError where one is of another form."""
+    return [place_of(one) for one in (address[len(TCP):] if address.startswith(TCP) else address).split("/", 1)]
+
+
 def where_of(address: str) -> Tuple[str, int]:
-    """Host and port of a member's address, over UDP or TCP; ValueError where it is of another form."""
-    return place_of(address[len(TCP):] if address.startswith(TCP) else address)
+    """Where clients ask a member."""
+    return places_of(address)[-1]
 
 
 def is_known(address: str) -> bool:
-    """Whether this machine knows the host of an address."""
+    """Whether this machine knows the hosts of an address."""
     try:
-        return bool(socket.getaddrinfo(*where_of(address)))
+        return all(socket.getaddrinfo(*place) for place in places_of(address))
     except OSError:
         return False
 

@@ -64,8 +64,10 @@ def check_places(parser: argparse.ArgumentParser, words: argparse.Namespace) -> 
     if words.keepers is not None and len(words.keepers) != len(words.addresses):
         parser.error("--keepers are as many as the members")
     try:
-        for address in words.addresses + (words.keepers or []) + ([words.page] if words.page else []):
-            doors.place_of(address[len(probing.TCP):] if address.startswith(probing.TCP) else address)
+        for address in words.addresses:
+            probing.places_of(address)
+        for address in (words.keepers or []) + ([words.page] if words.page else []):
+            doors.place_of(address)
     except ValueError as why:
         parser.error(str(why))
 

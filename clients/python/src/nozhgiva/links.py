@@ -92,14 +92,19 @@ def _place(address: str) -> Place:
     return Place(host, int(port))
 
 
+def _asked(address: str) -> Place:
+    """Where clients ask: of `OWN/CLIENTS` at the second one."""
+    return [_place(one) for one in address.split("/", 1)][-1]
+
+
 def places_of(addresses: Sequence[str]) -> Places:
-    """Reads addresses: `HOST:PORT` for UDP, or `tcp:HOST:PORT`. Raises `ValueError` where one is of another form, or some begin with `tcp:`
-    and some don't."""
+    """Reads addresses: `HOST:PORT` for UDP, or `tcp:HOST:PORT`. Where members have other ones for clients, as `HOST:PORT/HOST:PORT`, those are
+    taken. Raises `ValueError` where one is of another form, or some begin with `tcp:` and some don't."""
     over_tcp = [address.startswith(TCP_PREFIX) for address in addresses]
     if any(over_tcp) and not all(over_tcp):
         raise ValueError("either all addresses begin with tcp:, or none does")
     front = len(TCP_PREFIX) if any(over_tcp) else 0
-    return Places(any(over_tcp), [_place(address[front:]) for address in addresses])
+    return Places(any(over_tcp), [_asked(address[front:]) for address in addresses])
 
 
 def resolved(places: Places, answers: Sequence[Sequence[Tuple[Any, ...]]]) -> List[Optional[Found]]:
