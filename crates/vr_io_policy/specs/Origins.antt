@@ -1,5 +1,7 @@
 -- From whom a message is taken.
 use Rattle.std.specs.Prelude.{ℕ, ◌≡◌, ◌==◌, Bool, true, false, nat_le, ◌&&◌, List, length, slice_index_or, if◌then◌else◌}
+use Rattle.vr_header.specs.Spelling.{code_of}
+use Rattle.vr_header.specs.declared.command.Command.TheVariants.{Request}
 use Rattle.vr_io_policy.specs.declared.origin.Door.{Door}
 use Rattle.vr_io_policy.specs.declared.origin.Door.TheVariants.{Own, Clients}
 use Rattle.vr_io_policy.specs.declared.origin.Origin.{Origin}
@@ -10,9 +12,9 @@ abbrev pub origin_of : Door → Bool → Origin
 origin_of Own is_listed = if is_listed then Member else Stranger
 origin_of Clients is_listed = Client
 
--- bytes begin with the header of a request: its command is 4
+-- bytes begin with the header of a request, by the number of its command
 abbrev pub is_request : List ℕ → Bool
-is_request bytes = nat_le 128 (length bytes) && (slice_index_or bytes 108 0 == 4)
+is_request bytes = nat_le 128 (length bytes) && (slice_index_or bytes 108 0 == code_of Request)
 
 -- a message is taken: from a member each one, from others requests alone
 abbrev pub is_taken : Origin → List ℕ → Bool

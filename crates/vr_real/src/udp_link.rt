@@ -15,7 +15,9 @@ use std::io::ErrorKind;
 use std::net::{IpAddr, Ipv4Addr, Ipv6Addr, Net, SocketAddr};
 use std::time::Clock;
 use vr_edge::{Link, LinkFailed, RECEIVE_ROOM, Received};
-use vr_io_policy::{Answers, Door, NOBODY, Ports, Receiver, counted, is_answer, is_taken, millis_of};
+use vr_io_policy::{
+    Answers, Door, NOBODY, Ports, Receiver, counted, is_answer, is_taken, millis_of,
+};
 
 /// The bytes of a header, and where the message's size stands in it.
 const HEADER: usize = 128;
