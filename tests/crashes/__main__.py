@@ -213,7 +213,7 @@ def run_all(words: argparse.Namespace, bench: Bench) -> bool:
             bench.groups(seconds * share)
     finally:
         # Also where it was interrupted.
-        for line in tables.table(bench.tried, bench.grouped):
+        for line in [*tables.table(bench.tried, bench.grouped), tables.judged_line(bench.tried, bench.grouped)]:
             say(line)
     tallies = [*bench.tried.values(), *bench.grouped.values()]
     is_well = bool(tallies) and not any(it.failures for it in tallies)
