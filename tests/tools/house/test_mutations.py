@@ -2,7 +2,7 @@
 
 import re
 import unittest
-from typing import Dict, Iterator, Tuple, Union
+from typing import Dict, Iterator, List, Tuple, Union
 
 from nozhgiva_tools.house.mutations import BAD, Edit, edits_of, ending_of, LEFT, LIMITED, PASSED, REFUSED, sections, summed, Tried, UNTRIED
 from nozhgiva_tools.places import TOP
@@ -27,14 +27,14 @@ class Mutations(unittest.TestCase):
     def test_what_came_of_an_edit(self) -> None:
         """By the words of the toolchain; an earlier kit answers with a truth value."""
         limit = "refused, as it must be (only by a limit of the prover, which gave no verdict, so this says less of the contract: choose a change that it refuses sooner): src/a.rt"
-        rows: Tuple[Tuple[Union[bool, str], str, str], ...]
-        rows = (("refused", "refused, as it must be: src/a.rt:1:2: error", REFUSED), (True, "refused, as it must be", REFUSED),
-                ("limit", limit, LIMITED), (True, limit, LIMITED), ("missed", "NOT REFUSED: the crate is still proved", PASSED),
-                (False, "NOT REFUSED: the crate is still proved", PASSED), ("bad", "BAD EDIT: it did not reach the prover", BAD),
-                (False, "BAD EDIT: it did not reach the prover", BAD), ("unsure", "NOT TRIED: its check was killed", UNTRIED))
-        for told, text, ending in rows:
-            with self.subTest(told=told, text=text):
-                self.assertEqual(ending_of(told, text), ending)
+        outcomes: List[Tuple[Union[bool, str], str, str]] = [
+            ("refused", "refused, as it must be: src/a.rt:1:2: error", REFUSED), (True, "refused, as it must be", REFUSED),
+            ("limit", limit, LIMITED), (True, limit, LIMITED), ("missed", "NOT REFUSED: the crate is still proved", PASSED),
+            (False, "NOT REFUSED: the crate is still proved", PASSED), ("bad", "BAD EDIT: it did not reach the prover", BAD),
+            (False, "BAD EDIT: it did not reach the prover", BAD), ("unsure", "NOT TRIED: its check was killed", UNTRIED)]
+        for answer, text, ending in outcomes:
+            with self.subTest(answer=answer, text=text):
+                self.assertEqual(ending_of(answer, text), ending)
 
     def test_the_sum_and_its_status(self) -> None:
         for endings, words, status in (([REFUSED, REFUSED], "2 of 2 refused in 3 minutes", 0), ([REFUSED, LIMITED], "2 of 2 refused in 3 minutes, 1 of them only by a limit", 0),
