@@ -1,5 +1,5 @@
 -- A group of three whose members' programs run: two are made, and the primary answers a register and a put that the backup has stored. The third isn't made yet.
-use Rattle.std.proofs.Common.{ℕ, zero, suc, ◌<◌, ◌≤◌, ◌≡◌, inl, inr, arith, refl, sym, ap, ◌∙◌, subst, List, [], ◌∷◌, ◌++◌, map, drop, Some}
+use Rattle.std.proofs.Common.{ℕ, zero, suc, ◌<◌, ◌≡◌, inl, inr, arith, refl, sym, ap, ◌∙◌, subst, List, [], ◌∷◌, ◌++◌, map, drop, Some}
 use Rattle.std.specs.Prelude.{Contains}
 use Rattle.std.specs.List.{AllByRecursion}
 use Rattle.std.proofs.lemmas.List.{append-nil}
@@ -29,7 +29,7 @@ use Rattle.vr_rules.specs.Rules.{react}
 use Rattle.vr_rules.specs.Sectors.{script_calls}
 use Rattle.vr_rules.specs.Steps as words
 use Rattle.vr_rules.specs.Steps.{Effect, Say, Step, outputs}
-use Rattle.vr_world.specs.Group.{Arrival, Asked, Message}
+use Rattle.vr_world.specs.Group.{Asked, Message}
 use Rattle.vr_world.specs.Lying.{Lying, hazards, lying, zero_face}
 use Rattle.vr_world.specs.World.{Arrives, Asks, Happening, Host, World, at_member, happens}
 use Rattle.vr_serve.specs.Outputs.{numbers_after, text_from}
@@ -249,11 +249,19 @@ carried : Carries [] acts
 unfolding outputs messages blank
 carried = (
   (registers_asked, omega arith, refl),
-  ((prepares first (p1 Strict), refl, refl, refl),
-  ((acknowledges first (b1 Strict), refl, refl, refl),
-  ((puts_asked, omega arith, refl),
-  ((prepares second (p3 Strict), refl, refl, refl),
-  ((acknowledges second (b2 Strict), refl, refl, refl), tt))))),
+  (
+    (prepares first (p1 Strict), refl, refl, refl),
+    (
+      (acknowledges first (b1 Strict), refl, refl, refl),
+      (
+        (puts_asked, omega arith, refl),
+        (
+          (prepares second (p3 Strict), refl, refl, refl),
+          ((acknowledges second (b2 Strict), refl, refl, refl), tt),
+        ),
+      ),
+    ),
+  ),
 )
 
 are_runs : AreRuns plain_kind 0 3 plain_member acts
