@@ -2,11 +2,13 @@
 
 import collections
 import os
+import tempfile
 from pathlib import Path
 from typing import Counter, List, Optional, TYPE_CHECKING
 
 import pytest
 
+from nozhgiva_tools.places import in_memory
 from nozhgiva_tools.run import program
 
 try:
@@ -31,11 +33,14 @@ ENDS_WELL = (pytest.ExitCode.OK, pytest.ExitCode.NO_TESTS_COLLECTED)
 
 
 def pytest_configure() -> None:
-    """What the tests call takes the program that they found, and says nothing of which it is."""
+    """What the tests call takes the program that they found, and says nothing of which it is. Their files stand in memory, unless TMPDIR says where: no test waits for a disk."""
     try:
         os.environ["NOZHGIVA_PROGRAM"] = program.find().path
     except program.Missing:
         pass
+    folder = in_memory()
+    if folder is not None and "TMPDIR" not in os.environ:
+        os.environ["TMPDIR"] = tempfile.tempdir = folder
 
 
 def pytest_ignore_collect(collection_path: Path) -> Optional[bool]:

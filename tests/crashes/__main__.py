@@ -27,12 +27,12 @@ import time
 from typing import Dict, List, NoReturn
 
 from nozhgiva_tools.operate import standard
+from nozhgiva_tools.places import in_memory
 from nozhgiva_tools.run import ports, program as find
 
 from . import disk, early, members, recording, running, scenarios, tables, walking
 from .scenarios import Recording, Scenario
 
-MEMORY, ROOM = "/dev/shm", 2_000_000_000
 MINUTES, SHORT_SECONDS, TRIES = 10.0, 24.0, 3
 SHORT = ("fresh-strict", "three-mixed", "one-careful-v2", "migrate-strict")
 PLANTED = ("three-strict", "three-careful-v2")
@@ -213,7 +213,7 @@ def run_all(words: argparse.Namespace, bench: Bench) -> bool:
             bench.groups(seconds * share)
     finally:
         # Also where it was interrupted.
-        for line in tables.table(bench.tried, bench.grouped):
+        for line in [*tables.table(bench.tried, bench.grouped), tables.judged_line(bench.tried, bench.grouped)]:
             say(line)
     tallies = [*bench.tried.values(), *bench.grouped.values()]
     is_well = bool(tallies) and not any(it.failures for it in tallies)
@@ -227,8 +227,7 @@ def run_all(words: argparse.Namespace, bench: Bench) -> bool:
 
 def work_folder() -> str:
     """A folder in memory where there is room: what is tried here is no disk."""
-    has_room = os.path.isdir(MEMORY) and os.access(MEMORY, os.W_OK) and shutil.disk_usage(MEMORY).free > ROOM
-    return tempfile.mkdtemp(prefix="crashes-", dir=MEMORY if has_room else None)
+    return tempfile.mkdtemp(prefix="crashes-", dir=in_memory())
 
 
 def keep_failed(folder: str, recordings: List[Recording]) -> None:

@@ -32,6 +32,16 @@ def table(states: Dict[str, Tally], groups: Dict[str, Tally]) -> List[str]:
     return [*told_states, *([""] if states and groups else []), *(section("whole groups of", groups, False) if groups else [])]
 
 
+def judged_line(states: Dict[str, Tally], groups: Dict[str, Tally]) -> str:
+    """How many were judged, and how many of them were wrong, in one line."""
+    tallies = [*states.values(), *groups.values()]
+    wrong = sum((it.failures for it in tallies), collections.Counter[str]())
+    rows = sum(sum(it.rows.values()) for it in tallies)
+    of_rows = f", {rows:,} in rows of OPERATING" if rows else ""
+    return (f"judged: {sum(it.states for it in states.values()):,} crash states at {sum(it.points for it in states.values()):,} moments, "
+            f"{sum(it.states for it in groups.values()):,} whole groups: {f'WRONG: {told(wrong)}' if wrong else 'none wrong'}{of_rows}")
+
+
 def standing_lines(groups: Dict[str, Tally]) -> List[str]:
     """How many groups stood still on disks that write pages, by the version of their files."""
     counts: Dict[int, List[int]] = {1: [0, 0], 2: [0, 0]}

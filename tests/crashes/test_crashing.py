@@ -9,7 +9,7 @@ from nozhgiva_tools.told import formats
 
 from . import early, running, scenarios, tables, whole
 from .disk import Disk, PAGES, spoiled, State
-from .judging import Case, judge_claim
+from .judging import Case, judge_claim, Verdict
 from .members import Seen
 from .recording import Call, Reader, SECTOR
 from .statements import Part, start_view_change, Statement, statement_of
@@ -190,6 +190,17 @@ class Groups(unittest.TestCase):
         one = scenarios.part_of([at("write", 1, 1), at("write", 2, 2), at("sync", 3, 4), at("write", 8, 8)], 0)
         other = scenarios.part_of([at("write", 3.5, 3.5), at("sync", 5, 6), at("write", 7, 7)], 0)
         self.assertEqual((whole.busiest_times([one, other]), whole.busiest_times([one])), ([3.5, 8], [1, 8]))
+
+    def test_how_many_were_judged(self) -> None:
+        tried, grouped = running.Tally(), running.Tally()
+        for number in range(1200):
+            tried.add(running.Result("three-strict", number % 3 == 0, 1, Verdict([], []), str(number)))
+        grouped.add(running.Result("three-strict", False, 3, Verdict([], ["a choice waits: careful files"]), "1"))
+        well = {"three-strict": tried}, {"three-strict": grouped}
+        self.assertEqual(tables.judged_line(*well), "judged: 1,200 crash states at 400 moments, 1 whole groups: none wrong, 1 in rows of OPERATING")
+        tried.add(running.Result("three-strict", False, 1, Verdict(["lost: an answer", "lost: another", "gone: 7"], []), "2"))
+        self.assertEqual(tables.judged_line(*well), "judged: 1,201 crash states at 400 moments, 1 whole groups: WRONG: 1 gone, 1 lost, 1 in rows of OPERATING")
+        self.assertEqual(tables.judged_line({}, {}), "judged: 0 crash states at 0 moments, 0 whole groups: none wrong")
 
     def test_what_is_told(self) -> None:
         tally = running.Tally()

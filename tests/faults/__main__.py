@@ -31,6 +31,7 @@ from concurrent.futures import ThreadPoolExecutor
 from pathlib import Path
 from typing import Callable, Iterator, List, NoReturn, Optional, Tuple
 
+from nozhgiva_tools.places import in_memory
 from nozhgiva_tools.run import ports
 from nozhgiva_tools.run.built import or_end as program
 
@@ -38,8 +39,6 @@ from . import calls, disk, elsewhere, machine, planted, strangers
 from .shim import compiler, Shim
 from .table import by_name, LeftOut, Outcome, print_table, Progress, Row, Scenario
 
-MEMORY = "/dev/shm"
-ROOM = 500 << 20  # bytes
 SHORT, LONG = 0.8, 10.0  # minutes
 SHORT_ROW, LONG_ROW = 1.5, 5.0  # seconds that a row of strangers lasts
 LANES = 4
@@ -224,8 +223,7 @@ def main() -> int:
     os.environ["NOZHGIVA_PROGRAM"] = program()
     for number in (signal.SIGINT, signal.SIGTERM, signal.SIGHUP):
         signal.signal(number, end_by_signal)
-    has_room = os.path.isdir(MEMORY) and os.statvfs(MEMORY).f_bavail * os.statvfs(MEMORY).f_frsize > ROOM
-    with tempfile.TemporaryDirectory(prefix="faults-", dir=os.environ.get("TMPDIR") or (MEMORY if has_room else None)) as folder:
+    with tempfile.TemporaryDirectory(prefix="faults-", dir=os.environ.get("TMPDIR") or in_memory()) as folder:
         tempfile.tempdir = folder
         return run(words, folder)
 

@@ -7,7 +7,7 @@ started again after a second in both. Ends with 0, with 1 where no client got an
 import argparse
 import random
 import sys
-from typing import List, Tuple
+from typing import List, Set, Tuple
 
 from nozhgiva_tools.operate import standard
 from nozhgiva_tools.operate.policy import PATIENCE
@@ -78,7 +78,7 @@ class Run:
         self.group.cuts = cuts
         self.group.plan(self.group.now + length, lambda at: self.mend(cuts))
 
-    def mend(self, cuts: set) -> None:
+    def mend(self, cuts: Set[Tuple[int, int]]) -> None:
         if self.group.cuts is cuts:
             self.group.cuts = set()
 

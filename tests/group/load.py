@@ -13,6 +13,14 @@ NEVER = float("inf")
 TURNS = "1000"  # of each ask: at most ten seconds where nobody answers
 
 
+class Zone(NamedTuple):
+    """When a register has a value: throughout these seconds, or at one moment of them."""
+
+    low: float
+    high: float
+    value: Optional[str]
+
+
 class Asked(NamedTuple):
     """One ask. Times are seconds; an end that isn't known is NEVER."""
 
@@ -31,7 +39,8 @@ def first_fault(history: Iterable[Asked]) -> Optional[str]:
     by_value: Dict[Optional[str], List[Asked]] = {}
     for asked in history:
         by_value.setdefault(asked.value, []).append(asked)
-    forward, backward = [], []
+    forward: List[Zone] = []
+    backward: List[Zone] = []
     for value, group in by_value.items():
         puts = [asked for asked in group if asked.is_put]
         reads = [asked for asked in group if not asked.is_put]
@@ -44,19 +53,19 @@ def first_fault(history: Iterable[Asked]) -> Optional[str]:
         if not reads and puts[0].ended == NEVER:
             continue  # It may never have been executed.
         low, high = min(asked.ended for asked in puts + reads), max(asked.begun for asked in puts + reads)
-        (forward if low < high else backward).append((min(low, high), max(low, high), value))
-    return first_meeting(sorted(forward, key=lambda zone: zone[:2]), backward)
+        (forward if low < high else backward).append(Zone(min(low, high), max(low, high), value))
+    return first_meeting(sorted(forward, key=lambda zone: (zone.low, zone.high)), backward)
 
 
-def first_meeting(forward: list, backward: list) -> Optional[str]:
+def first_meeting(forward: List[Zone], backward: List[Zone]) -> Optional[str]:
     """Two zones that can't both be; None where there are none."""
     for before, after in zip(forward, forward[1:]):
-        if after[0] < before[1]:
-            return f"the register had {before[2]} and {after[2]} at one time"
-    for low, high, value in backward:
+        if after.low < before.high:
+            return f"the register had {before.value} and {after.value} at one time"
+    for one in backward:
         for zone in forward:
-            if zone[0] < low and high < zone[1]:
-                return f"the register had {zone[2]} when {value} was put and overwritten"
+            if zone.low < one.low and one.high < zone.high:
+                return f"the register had {zone.value} when {one.value} was put and overwritten"
     return None
 
 
@@ -67,7 +76,7 @@ class Client:
 
     def __init__(self, group: Group, is_over: Callable[[], bool] = lambda: False) -> None:
         self.group, self.is_over = group, is_over
-        self.child: Optional[subprocess.Popen] = None
+        self.child: "Optional[subprocess.Popen[str]]" = None
 
     def ask(self, line: str) -> Optional[str]:
         """The answer; None where there is none. A client that never gets a session tries on until all is over."""
@@ -75,10 +84,12 @@ class Client:
             if self.is_over():
                 return None
             self.register()
+        words, answers = self.child.stdin, self.child.stdout
+        assert words is not None and answers is not None
         try:
-            self.child.stdin.write(line + "\n")
-            self.child.stdin.flush()
-            answer = self.child.stdout.readline().strip()
+            words.write(line + "\n")
+            words.flush()
+            answer = answers.readline().strip()
         except OSError:
             answer = ""
         if answer in ("", "old", "gap", "evicted"):
@@ -88,6 +99,7 @@ class Client:
 
     def register(self) -> None:
         self.child = subprocess.Popen(self.group.asking(next(Client.numbers), TURNS), stdin=subprocess.PIPE, stdout=subprocess.PIPE, stderr=subprocess.DEVNULL, text=True)
+        assert self.child.stdout is not None
         if self.child.stdout.readline() != "session\n":
             self.end()
             time.sleep(0.1)
@@ -97,7 +109,8 @@ class Client:
             self.child.kill()
             self.child.wait()
             self.child.stdin = None
-            self.child.stdout.close()
+            if self.child.stdout is not None:
+                self.child.stdout.close()
         self.child = None
 
 

@@ -10,6 +10,7 @@ all that was acknowledged is read in the end, with 1 where it isn't, with 3 wher
 import argparse
 import sys
 import time
+from typing import List
 
 from nozhgiva_tools.operate import rolling, standard
 from nozhgiva_tools.run.keepers import Kept
@@ -53,7 +54,7 @@ class Trial:
     def release(self) -> None:
         self.held = False
 
-    def loop(self, members: list) -> None:
+    def loop(self, members: List[int]) -> None:
         """The next once the one before has started."""
         for member in members:
             self.say(f"member {member} is restarted")
@@ -62,7 +63,7 @@ class Trial:
                 time.sleep(0.1)
             time.sleep(1)
 
-    def roll(self, members: list) -> None:
+    def roll(self, members: List[int]) -> None:
         holds = self.words.way == "held"
         hands = rolling.Hands(self.group.health, self.restart, self.hold if holds else None, self.release if holds else None, time.sleep, time.monotonic, self.say)
         rolling.roll(hands, list(range(SIZE)), rolling.Bounds(self.words.bound, 10.0), members)

@@ -23,6 +23,8 @@ from nozhgiva_tools.run.keepers import Kept
 from nozhgiva_tools.run.nets import Net
 
 LARGEST = 20_480  # bytes of a datagram
+Way = Tuple[socket.socket, Tuple[str, int]]  # from where it is handed on, and to where
+Waiting = Tuple[float, int, bytes, Way]  # when, and in which order
 DELAYS = "0.1,0.2,0.3,0.4,0.5,0.6"
 
 
@@ -42,7 +44,8 @@ class Proxy:
 
     def __init__(self, hosts: List[str], first: int) -> None:
         self.delay, self.late = 0.0, 0.0
-        self.selector, self.waiting, self.order = selectors.DefaultSelector(), [], itertools.count()
+        self.selector, self.order = selectors.DefaultSelector(), itertools.count()
+        self.waiting: List[Waiting] = []
         self.ways: Dict[Tuple[int, int], str] = {}
         self.sockets: Dict[Tuple[int, int], socket.socket] = {}
         for number, way in enumerate(itertools.permutations(range(len(hosts)), 2)):
@@ -52,7 +55,7 @@ class Proxy:
             self.ways[way] = f"127.0.0.1:{first + number}"
         for (sender, receiver), one in self.sockets.items():
             host, port = hosts[receiver].rsplit(":", 1)
-            self.selector.register(one, selectors.EVENT_READ, (self.sockets[receiver, sender], (host, int(port))))
+            self.selector.register(one, selectors.EVENT_READ, (one, self.sockets[receiver, sender], (host, int(port))))
         threading.Thread(target=self.work, daemon=True).start()
 
     def addresses(self, hosts: List[str], member: int) -> List[str]:
@@ -63,8 +66,9 @@ class Proxy:
         while True:
             wait = max(0.0, self.waiting[0][0] - time.monotonic()) if self.waiting else 1.0
             for key, _ in self.selector.select(wait):
+                one, back, place = key.data
                 try:
-                    heapq.heappush(self.waiting, (time.monotonic() + self.delay, next(self.order), key.fileobj.recv(LARGEST + 1), key.data))
+                    heapq.heappush(self.waiting, (time.monotonic() + self.delay, next(self.order), one.recv(LARGEST + 1), (back, place)))
                 except OSError:
                     pass  # Nobody listens where the last one went.
             while self.waiting and self.waiting[0][0] <= time.monotonic():
@@ -84,7 +88,7 @@ class Try:
         self.group = Kept(Net(words.size, range(port, port + words.size)))
         self.hosts = list(self.group.addresses)
         self.proxy = Proxy(self.hosts, port + 10)
-        sources = [surveying.source(member, None, self.group.file(0)[:-1] + "{}.socket", None, 1.0) for member in range(words.size)]
+        sources = [surveying.at_socket(member, self.group.file(0)[:-1] + "{}.socket", 1.0) for member in range(words.size)]
         self.survey = surveying.Survey(NUMBER, self.hosts, sources, 1.0)
 
     def start(self, member: int) -> None:

@@ -17,7 +17,7 @@ import subprocess
 import sys
 import threading
 import time
-from typing import Callable, Counter, Dict, List, Optional, Tuple
+from typing import Any, Callable, Counter, Dict, List, Optional, Tuple
 
 import nozhgiva
 from nozhgiva_tools.operate import judging, standard, surveying
@@ -100,7 +100,7 @@ class Tries:
         self.words, self.group, self.draw = words, group, random.Random(words.seed)
         self.asker, self.lateness = Asker(group), Lateness()
         sockets = group.file(0)[:-1] + "{}.socket"
-        self.survey = surveying.Survey(NUMBER, group.addresses, [surveying.source(member, None, sockets, None, 0.6) for member in range(words.size)], 0.6)
+        self.survey = surveying.Survey(NUMBER, group.addresses, [surveying.at_socket(member, sockets, 0.6) for member in range(words.size)], 0.6)
         self.late: List[str] = []
         self.paused: List[int] = []
         self.counts: Counter[Tuple[str, str]] = collections.Counter()
@@ -134,6 +134,7 @@ class Tries:
     def spoil_slot(self, member: int) -> None:
         """The header sector of a slot above the head, of which nothing is named."""
         report = datafile.Report(self.group.file(member))
+        assert report.value is not None, f"member {member} has no superblock that can be read"
         op = min(report.slots.head() + 20, report.value.checkpoint + datafile.SLOTS)
         self.flip(member, (datafile.HEADERS + op % datafile.SLOTS) * datafile.SECTOR)
 
@@ -180,15 +181,20 @@ class Tries:
 
     # One try.
 
-    def status(self) -> Dict:
+    def status(self) -> Dict[str, Any]:
         words = [str(OPERATE / "status"), str(NUMBER), *self.group.addresses, "--sockets", self.group.file(0)[:-1] + "{}.socket", "--json", "--wait", "0.6"]
-        return json.loads(subprocess.run(words, stdout=subprocess.PIPE, text=True, check=False).stdout)
+        told: Dict[str, Any] = json.loads(subprocess.run(words, stdout=subprocess.PIPE, text=True, check=False).stdout)
+        return told
 
-    def choose(self, told: Dict) -> Optional[Dict]:
+    def choose(self, told: Dict[str, Any]) -> Optional[Dict[str, Any]]:
         """A member that runs; where some may be stopped and others not, either with like chance."""
-        running = [member for member in told["members"] if member["may_be_stopped"] is not None and member["member"] in self.group.members and member["member"] not in self.paused]
+        def runs(told_of: Dict[str, Any]) -> bool:
+            return told_of["may_be_stopped"] is not None and told_of["member"] in self.group.members and told_of["member"] not in self.paused
+
+        running: List[Dict[str, Any]] = [member for member in told["members"] if runs(member)]
         wanted = self.draw.random() < 0.7
-        return self.draw.choice([member for member in running if member["may_be_stopped"] == wanted] or running or [None])
+        some = [member for member in running if member["may_be_stopped"] == wanted] or running
+        return self.draw.choice(some) if some else None
 
     def one(self) -> None:
         kind = self.state()
@@ -215,7 +221,7 @@ class Tries:
             time.sleep(0.05)
         return False
 
-    def count(self, kind: str, said: str, went_on: bool, member: int, told: Dict, seconds: float) -> None:
+    def count(self, kind: str, said: str, went_on: bool, member: int, told: Dict[str, Any], seconds: float) -> None:
         is_wrong = (said == "yes") != went_on and said in ("yes", FEW)
         if is_wrong and self.lateness.most > self.words.late:
             self.late.append(f"{kind}: `{said}`, and it {'went on' if went_on else 'stood still'}; this waited for a processor for {self.lateness.most:.2f} s")

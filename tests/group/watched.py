@@ -18,7 +18,7 @@ import threading
 import time
 import urllib.request
 from collections import Counter
-from typing import Dict, List, Optional, Tuple
+from typing import Any, Dict, List, Optional, Tuple
 
 import nozhgiva
 from nozhgiva_tools.operate import standard
@@ -69,7 +69,8 @@ def move_to(net: Net) -> None:
 
 def fetch(address: str, path: str) -> str:
     with urllib.request.urlopen(f"http://{address}{path}", timeout=2) as answer:
-        return answer.read().decode()
+        text: str = answer.read().decode()
+    return text
 
 
 class Told:
@@ -79,7 +80,7 @@ class Told:
         self.seconds, self.code, self.leader, self.states, self.ends = seconds, code, leader, states, ends
 
 
-def of_json(told: Dict, seconds: float) -> Told:
+def of_json(told: Dict[str, Any], seconds: float) -> Told:
     members = told["members"]
     return Told(seconds, told["code"], told["leader"], [member["state"] for member in members], [member["ends"] for member in members])
 
@@ -87,7 +88,9 @@ def of_json(told: Dict, seconds: float) -> Told:
 def of_metrics(texts: List[str], seconds: float) -> Told:
     """Of metrics: no code, and who leads is the one that tells so in the newest view."""
     values = [dict(re.findall(r"^nozhgiva_([a-z_]+(?:\{[^}]*\}))\S* (\S+)$", re.sub(r'\{group="\d+",member="\d+",?', "{", text), re.M)) for text in texts]
-    states, ends, leading = [], [], []
+    states: List[str] = []
+    ends: List[Optional[int]] = []
+    leading: List[Tuple[int, int]] = []
     for member, found in enumerate(values):
         hangs = found.get('member_trouble{trouble="hangs"}') == "1"
         states.append("down" if found.get("member_up{}") == "0" else "hangs" if hangs else "leads" if found.get("member_leads{}") == "1" else "follows")
@@ -149,7 +152,8 @@ class Asker:
     """One client that asks again soon where no answer comes, so that its answers show when the group answers: reads ten times a second."""
 
     def __init__(self, group: Kept) -> None:
-        self.group, self.answers, self.stopping = group, [], False
+        self.group, self.stopping = group, False
+        self.answers: List[float] = []
         self.thread = threading.Thread(target=self.work, daemon=True)
         self.thread.start()
 
@@ -218,8 +222,9 @@ class Judge:
             if paused is True and told.leader == member:
                 found.append(f"member {member} is paused, and told to lead")
             least, most = self.faults.kills(member, now - LATE), self.faults.kills(member, now)
-            if told.ends[member] is not None and not least <= told.ends[member] <= most:
-                found.append(f"member {member} was killed {least} times, and told as ended {told.ends[member]} times")
+            ends = told.ends[member]
+            if ends is not None and not least <= ends <= most:
+                found.append(f"member {member} was killed {least} times, and told as ended {ends} times")
         return found + self.of_code(told, now)
 
     def of_code(self, told: Told, now: float) -> List[str]:
@@ -247,7 +252,7 @@ def begin(words: argparse.Namespace) -> Tuple[Kept, Dict[str, List[str]]]:
     return group, ports
 
 
-def begin_page(group: Kept, ports: Dict[str, List[str]]) -> subprocess.Popen:
+def begin_page(group: Kept, ports: Dict[str, List[str]]) -> "subprocess.Popen[bytes]":
     words = [str(OPERATE / "status"), str(NUMBER), *group.addresses, "--keepers", ",".join(ports["health"]), "--page", ports["page"][0]]
     return subprocess.Popen(group.net.inside(None) + words, stdout=subprocess.DEVNULL)
 
@@ -295,7 +300,7 @@ while True:
     time.sleep(1)"""
 
 
-def begin_scrapes(group: Kept, ports: Dict[str, List[str]]) -> subprocess.Popen:
+def begin_scrapes(group: Kept, ports: Dict[str, List[str]]) -> "subprocess.Popen[bytes]":
     """Each keeper is scraped once a second, by a process of its own."""
     return subprocess.Popen(group.net.inside(None) + [sys.executable, "-c", SCRAPER, *ports["metrics"]])
 

@@ -22,7 +22,7 @@ import tempfile
 import time
 from typing import List, Optional
 
-from nozhgiva_tools.places import TOP, words_of_module
+from nozhgiva_tools.places import in_memory, TOP, words_of_module
 from nozhgiva_tools.run.built import or_end as program
 from nozhgiva_tools.run.nets import Sealed
 from nozhgiva_tools.run.scripts import fail, sealed
@@ -33,7 +33,6 @@ from .order import judge, Verdict
 from .workers import Board, FAST, KEYS, SLOW, Worker
 
 HERE = pathlib.Path(__file__).resolve().parent
-MEMORY = "/dev/shm"
 SHORT, LONG, REST = 7.0, 60.0, 2.0
 
 
@@ -254,7 +253,7 @@ def hunt(words: argparse.Namespace) -> int:
     print(f"{len(planted.table())} planted histories are judged right", flush=True)
     seeds = itertools.count(random.randrange(10**6) if words.seed is None else words.seed)
     end = time.monotonic() + 60 * (words.minutes or 0)
-    with tempfile.TemporaryDirectory(dir=MEMORY if os.path.isdir(MEMORY) else None) as folder:
+    with tempfile.TemporaryDirectory(dir=in_memory()) as folder:
         tempfile.tempdir = folder
         go = built_worker(folder)
         while True:

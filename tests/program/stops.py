@@ -16,6 +16,7 @@ import os
 import subprocess
 import sys
 from concurrent.futures import ThreadPoolExecutor
+from typing import Dict, Iterable, List, Sequence, Tuple, TypeVar, Union
 
 from nozhgiva_tools.run.built import or_end as built
 from nozhgiva_tools.run.scripts import no_words
@@ -35,8 +36,12 @@ GROUPS = ["cluster 2", "cluster 2 careful"]
 ALONE = ["cluster 1 v2", "cluster 1 careful v2"]
 ONES, TWOS = 6078832729528464400, 12157665459056928800
 
+Stop = Tuple[int, int]  # at which call, and with which code
+Fault = Union[None, str, List[str]]  # what was wrong: a word, or the lines that came
+One = TypeVar("One")
 
-def schedule():
+
+def schedule() -> List[str]:
     lines = []
     for op in range(33):
         lines.append(f"request 0 7 {op} {'put a b' if op else 'register'}")
@@ -44,17 +49,17 @@ def schedule():
     return lines
 
 
-def replay(program, lines):
+def replay(program: str, lines: List[str]) -> List[str]:
     text = "".join(line + "\n" for line in lines)
     run = subprocess.run([program, "replay"], input=text, stdout=subprocess.PIPE, text=True, check=True)
     return run.stdout.splitlines()
 
 
-def kept(outputs):
+def kept(outputs: List[str]) -> List[str]:
     return [line for line in outputs if line.startswith("send ") or line.split()[1:2] == ["0"]]
 
 
-def fused(program, group, lines, base, starts, call, code):
+def fused(program: str, group: str, lines: List[str], base: List[str], starts: Dict[int, int], call: int, code: int) -> Fault:
     fuse = f"fuse 1 {call} {code}"
     outputs = replay(program, [group, fuse] + lines)
     if "halt 1" not in outputs:
@@ -64,7 +69,7 @@ def fused(program, group, lines, base, starts, call, code):
     return None if call <= CALLS and outputs.count("halt 1") == 1 and kept(outputs) == kept(base) else "outputs"
 
 
-def opened(program, group, call, code):
+def opened(program: str, group: str, call: int, code: int) -> Fault:
     """What an opening writes: a copy of the superblock that is damaged, and the header of an entry that was stored without it."""
     left = [group, "request 0 7 0 register", "fuse 1 6 0", "deliver 0", "damage 1 0", f"fuse 1 {call} {code}", "start 1"]
     stopped = ["send 0 0 1 prepare view 0 op 1 made 0 commit 0", "halt 1", "done"] + ["halt 1"] * (call <= OPENING_CALLS)
@@ -73,7 +78,7 @@ def opened(program, group, call, code):
     return None if outputs == wanted else outputs
 
 
-def heard(program, lines):
+def heard(program: str, lines: List[str]) -> List[str]:
     """These lines, and all messages delivered that are sent in them and in what comes of them, each once."""
     delivered = sum(line.startswith("deliver ") for line in lines)
     while True:
@@ -84,7 +89,7 @@ def heard(program, lines):
         delivered = sent
 
 
-def migrating(program, group):
+def migrating(program: str, group: str) -> Tuple[List[str], List[str]]:
     """A schedule up to where replica 1 is migrated; and from there on, where both are in version 2 and begin a view."""
     lines = [group]
     for op in range(4):
@@ -98,7 +103,7 @@ def migrating(program, group):
     return lines, whole[len(lines) + 1:]
 
 
-def moved(program, lines, rest, call, code):
+def moved(program: str, lines: List[str], rest: List[str], call: int, code: int) -> Fault:
     """What a migration that is stopped leaves: of version 1 up to the saving of the value, and then of either version."""
     front = replay(program, lines)
     if call > MIGRATION_CALLS:
@@ -110,24 +115,24 @@ def moved(program, lines, rest, call, code):
     return None if outputs == again or call > MOVED_CALLS and outputs == done else "outputs"
 
 
-def unread(program, group, lines, base, sector):
+def unread(program: str, group: str, lines: List[str], base: List[str], sector: int) -> Fault:
     outputs = replay(program, [group] + lines + [f"unread 1 {sector}", "stop 1", "start 1"])
     return None if outputs == base + ["done", "start 1 view 0 log_view 0 commit 32"] else outputs[len(base):]
 
 
-def replies(outputs):
+def replies(outputs: List[str]) -> List[str]:
     """Each once, in the order in which they come first: what is applied again is replied to again."""
     return list(dict.fromkeys(line for line in outputs if line.startswith("reply ")))
 
 
-def waits(outputs, base, at):
+def waits(outputs: List[str], base: List[str], at: int) -> bool:
     """It comes back with what it had, waits at that operation and doesn't lead."""
     rest = outputs[2 * at:]
     silent = all(line.startswith(("halt 0", "start 0", "wait 0")) or line.endswith(" redirect 1") for line in rest)
     return outputs[:2 * at] == base[:2 * at] and f"wait 0 view 1 op {at + 1}" in rest and silent
 
 
-def alone(program, group, lines, base, call, code):
+def alone(program: str, group: str, lines: List[str], base: List[str], call: int, code: int) -> Fault:
     fuse = f"fuse 0 {call} {code}"
     outputs = replay(program, [group, fuse] + lines)
     if "halt 0" not in outputs:
@@ -139,11 +144,11 @@ def alone(program, group, lines, base, call, code):
     return None if call <= ALONE_CALLS and outputs.count("halt 0") == 1 and is_well else "outputs"
 
 
-def stops(count):
+def stops(count: int) -> List[Stop]:
     return [(call, code) for call in range(1, count + 2) for code in (0, ONES, TWOS)]
 
 
-def tried(what, runs, faults):
+def tried(what: str, runs: Sequence[One], faults: Iterable[Fault]) -> int:
     """How many of these runs had a fault; each is printed."""
     failed = 0
     for run, fault in zip(runs, faults):
@@ -154,7 +159,7 @@ def tried(what, runs, faults):
     return failed
 
 
-def tried_group(program, pool, group):
+def tried_group(program: str, pool: ThreadPoolExecutor, group: str) -> int:
     lines = schedule()
     base = replay(program, [group] + lines)
     # Which line's outputs begin there; of several the last, since those before it have none.
@@ -174,13 +179,13 @@ def tried_group(program, pool, group):
     )
 
 
-def tried_alone(program, pool, group):
+def tried_alone(program: str, pool: ThreadPoolExecutor, group: str) -> int:
     lines = [f"request 0 7 {op} {'put a b' if op else 'register'}" for op in range(33)]
     base, calls = replay(program, [group] + lines), stops(ALONE_CALLS)
     return tried(f"{group}, a fuse", calls, pool.map(lambda r: alone(program, group, lines, base, *r), calls))
 
 
-def main():
+def main() -> None:
     no_words()
     with ThreadPoolExecutor(os.cpu_count()) as pool:
         failed = sum(tried_group(built(), pool, group) for group in GROUPS)

@@ -1,10 +1,11 @@
 """Where things stand: the top of the clone, or of an installation, and how a module of this package or of the tests is run."""
 
 import os
+import shutil
 import sys
 from pathlib import Path
 from types import ModuleType
-from typing import List, Union
+from typing import List, Optional, Union
 
 TOOLS = Path(os.path.realpath(__file__)).parent.parent
 TOP = TOOLS.parent
@@ -18,6 +19,14 @@ BENCH = TOP / "bench"
 TESTS = TOP / "tests"
 CHECKS, PACKAGES = TESTS / "checks.txt", TESTS / "packages.txt"
 ROWS = TESTS / "rows"
+MEMORY, ROOM = "/dev/shm", 2 << 30  # a file system in memory; the bytes that it has to have free
+
+
+def in_memory() -> Optional[str]:
+    """A folder in memory for files of members that are tried, where what is tried is no disk; None where there is none with room, or none that programs may be run from."""
+    if not (os.path.isdir(MEMORY) and os.access(MEMORY, os.W_OK)) or os.statvfs(MEMORY).f_flag & os.ST_NOEXEC:
+        return None
+    return MEMORY if shutil.disk_usage(MEMORY).free > ROOM else None
 
 
 def name_of(module: ModuleType) -> str:

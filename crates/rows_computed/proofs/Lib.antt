@@ -46,3 +46,4 @@ pub mod Clients
 pub mod Effect
 pub mod Runs
 pub mod FewAsk
+pub mod Three

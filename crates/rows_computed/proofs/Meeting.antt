@@ -98,13 +98,13 @@ puts_asked_2 = record { form = record { first = (λ e. absurd cc, λ e. absurd (
 alone_asked : HaveAsked alone_lines
 alone_asked = ((registers_asked_2, omega arith), ((puts_asked_2, omega arith), tt))
 
-registers_asked : IsAsked registers
+pub registers_asked : IsAsked registers
 registers_asked = record { form = record { first = (λ e. refl, λ e. refl); fits = tt }; client = omega arith; request = omega arith; version = (omega arith, omega arith) }
 
 later_asked : IsAsked registers_later
 later_asked = record { form = record { first = (λ e. refl, λ e. refl); fits = tt }; client = omega arith; request = omega arith; version = (omega arith, omega arith) }
 
-puts_asked : IsAsked puts
+pub puts_asked : IsAsked puts
 unfolding is_text
 puts_asked = record { form = record { first = (λ e. absurd cc, λ e. absurd (omega (arith, e))); fits = (refl, refl) }; client = omega arith; request = omega arith; version = (omega arith, omega arith) }
 

@@ -50,10 +50,10 @@ sent_1 m = prepares first (p1 m)
 abbrev pub sent_2 : Mode → List Sent
 sent_2 m = (sent_1 m) ++ acknowledges first (b1 m) ∷ []
 
-abbrev sent_4 : Mode → List Sent
+abbrev pub sent_4 : Mode → List Sent
 sent_4 m = (sent_2 m) ++ prepares second (p3 m)
 
-abbrev sent_5 : Mode → List Sent
+abbrev pub sent_5 : Mode → List Sent
 sent_5 m = (sent_4 m) ++ acknowledges second (b2 m) ∷ []
 
 pub begins : (m : Mode) → fresh_world hazards (of_mode m) 3 ≡ group_of m (host (p0 m) (blank_disk m 0)) (host (b0 m) (blank_disk m 1)) []
@@ -68,7 +68,7 @@ pub goes_1 : (m : Mode) (x y : Lying) → (happens hazards (group_of m (host (p1
 unfolding at_member outputs messages blank
 goes_1 m x y = ap (λ (s : Step). group_of m (host (p1 m) x) (host s.replica (after_all lying y s.script)) (sent_1 m ++ messages (outputs s.script))) (step_1 m y)
 
-goes_2 : (m : Mode) (x : Lying) (b : Host Lying) → lying.entry x 1 ≡ Some first → (happens hazards (group_of m (host (p1 m) x) b (sent_2 m)) (Arrives 2)).world ≡ group_of m (host (p2 m) (after_all lying x (answers first (p1c m)))) b (sent_2 m)
+pub goes_2 : (m : Mode) (x : Lying) (b : Host Lying) → lying.entry x 1 ≡ Some first → (happens hazards (group_of m (host (p1 m) x) b (sent_2 m)) (Arrives 2)).world ≡ group_of m (host (p2 m) (after_all lying x (answers first (p1c m)))) b (sent_2 m)
 unfolding at_member outputs messages blank
 goes_2 m x b reads = ap (λ (s : Step). group_of m (host s.replica (after_all lying x s.script)) b (sent_2 m ++ messages (outputs s.script))) (step_2 m x reads)
 
@@ -76,7 +76,7 @@ goes_3 : (m : Mode) (x : Lying) (b : Host Lying) → (happens hazards (group_of 
 unfolding at_member outputs messages blank
 goes_3 m x b = ap (λ (s : Step). group_of m (host s.replica (after_all lying x s.script)) b (sent_2 m ++ messages (outputs s.script))) (step_3 m x)
 
-goes_4 : (m : Mode) (x y : Lying) → lying.entry (stores_second m y) 1 ≡ Some first
+pub goes_4 : (m : Mode) (x y : Lying) → lying.entry (stores_second m y) 1 ≡ Some first
     → (happens hazards (group_of m (host (p3 m) x) (host (b1 m) y) (sent_4 m)) (Arrives 3)).world ≡ group_of m (host (p3 m) x) (host (b3 m) (after_all lying y (stores second (b2 m) ++ map Say (commit_line first (b2c m))))) (sent_5 m)
 unfolding at_member outputs messages blank
 goes_4 m x y reads = ap (λ (s : Step). group_of m (host (p3 m) x) (host s.replica (after_all lying y s.script)) (sent_4 m ++ messages (outputs s.script))) (step_4 m y reads)
@@ -109,89 +109,89 @@ asks_3 m x = asks_of puts (p2 m) x refl
 line_0 : (m : Mode) (x : Lying) (b : Host Lying) → Plain both x → (t : List ℕ) → HashesAt (group_of m (host (p0 m) x) b []) (AsksInVersion 0 registers) t → IsText both t
 line_0 m x b p = line_text both (group_of m (host (p0 m) x) b []) (AsksInVersion 0 registers) (host (p0 m) x) (react (event.Request registers) lying (p0 m) x).script refl (asks_0 m x) p (subst (λ (s : Step). AllByRecursion (IsOf both) s.script) (sym (step_0 m x)) ((inl refl, first_taken), (tt, (tt, tt))))
 
-line_1 : (m : Mode) (x y : Lying) → Plain both y → (t : List ℕ) → HashesAt (group_of m (host (p1 m) x) (host (b0 m) y) (sent_1 m)) (Arrives 0) t → IsText both t
+pub line_1 : (m : Mode) (x y : Lying) → Plain both y → (t : List ℕ) → HashesAt (group_of m (host (p1 m) x) (host (b0 m) y) (sent_1 m)) (Arrives 0) t → IsText both t
 line_1 m x y p = line_text both (group_of m (host (p1 m) x) (host (b0 m) y) (sent_1 m)) (Arrives 0) (host (b0 m) y) (react (event.Deliver (prepare first (p1 m))) lying (b0 m) y).script refl refl p (subst (λ (s : Step). AllByRecursion (IsOf both) s.script) (sym (step_1 m y)) ((inl refl, first_taken), (tt, tt)))
 
-line_2 : (m : Mode) (x : Lying) (b : Host Lying) → Plain both x → lying.entry x 1 ≡ Some first → (t : List ℕ) → HashesAt (group_of m (host (p1 m) x) b (sent_2 m)) (Arrives 2) t → IsText both t
+pub line_2 : (m : Mode) (x : Lying) (b : Host Lying) → Plain both x → lying.entry x 1 ≡ Some first → (t : List ℕ) → HashesAt (group_of m (host (p1 m) x) b (sent_2 m)) (Arrives 2) t → IsText both t
 line_2 m x b p reads = line_text both (group_of m (host (p1 m) x) b (sent_2 m)) (Arrives 2) (host (p1 m) x) (react (event.Deliver (prepare_ok name_of first_header (b1 m))) lying (p1 m) x).script refl refl p (subst (λ (s : Step). AllByRecursion (IsOf both) s.script) (sym (step_2 m x reads)) (answers_first m))
 
 line_3 : (m : Mode) (x : Lying) (b : Host Lying) → Plain both x → (t : List ℕ) → HashesAt (group_of m (host (p2 m) x) b (sent_2 m)) (AsksInVersion 0 puts) t → IsText both t
 line_3 m x b p = line_text both (group_of m (host (p2 m) x) b (sent_2 m)) (AsksInVersion 0 puts) (host (p2 m) x) (react (event.Request puts) lying (p2 m) x).script refl (asks_3 m x) p (subst (λ (s : Step). AllByRecursion (IsOf both) s.script) (sym (step_3 m x)) ((inr (inl refl), second_taken), (tt, (tt, tt))))
 
-line_4 : (m : Mode) (x y : Lying) → Plain both y → lying.entry (stores_second m y) 1 ≡ Some first → (t : List ℕ) → HashesAt (group_of m (host (p3 m) x) (host (b1 m) y) (sent_4 m)) (Arrives 3) t → IsText both t
+pub line_4 : (m : Mode) (x y : Lying) → Plain both y → lying.entry (stores_second m y) 1 ≡ Some first → (t : List ℕ) → HashesAt (group_of m (host (p3 m) x) (host (b1 m) y) (sent_4 m)) (Arrives 3) t → IsText both t
 line_4 m x y p reads = line_text both (group_of m (host (p3 m) x) (host (b1 m) y) (sent_4 m)) (Arrives 3) (host (b1 m) y) (react (event.Deliver (prepare second (p3 m))) lying (b1 m) y).script refl refl p (subst (λ (s : Step). AllByRecursion (IsOf both) s.script) (sym (step_4 m y reads)) (stores_both m))
 
-line_5 : (m : Mode) (x y : Lying) → Plain both x → lying.entry x 2 ≡ Some second → (t : List ℕ) → HashesAt (group_of m (host (p3 m) x) (host (b3 m) y) (sent_5 m)) (Arrives 5) t → IsText both t
+pub line_5 : (m : Mode) (x y : Lying) → Plain both x → lying.entry x 2 ≡ Some second → (t : List ℕ) → HashesAt (group_of m (host (p3 m) x) (host (b3 m) y) (sent_5 m)) (Arrives 5) t → IsText both t
 line_5 m x y p reads = line_text both (group_of m (host (p3 m) x) (host (b3 m) y) (sent_5 m)) (Arrives 5) (host (p3 m) x) (react (event.Deliver (prepare_ok name_of second_header (b2 m))) lying (p3 m) x).script refl refl p (subst (λ (s : Step). AllByRecursion (IsOf both) s.script) (sym (step_5 m x reads)) (answers_second m))
 
 -- ---- the disks
 
-abbrev x0 : Mode → Lying
+abbrev pub x0 : Mode → Lying
 x0 m = blank_disk m 0
 
-abbrev y0 : Mode → Lying
+abbrev pub y0 : Mode → Lying
 y0 m = blank_disk m 1
 
-abbrev x1 : Mode → Lying
+abbrev pub x1 : Mode → Lying
 x1 m = after_all lying (x0 m) (makes first (p1 m))
 
-abbrev y1 : Mode → Lying
+abbrev pub y1 : Mode → Lying
 y1 m = after_all lying (y0 m) (stores first (b1 m))
 
-abbrev x2 : Mode → Lying
+abbrev pub x2 : Mode → Lying
 x2 m = after_all lying (x1 m) (answers first (p1c m))
 
-abbrev x3 : Mode → Lying
+abbrev pub x3 : Mode → Lying
 x3 m = after_all lying (x2 m) (makes second (p3 m))
 
-abbrev y2 : Mode → Lying
+abbrev pub y2 : Mode → Lying
 y2 m = after_all lying (y1 m) (stores second (b2 m) ++ map Say (commit_line first (b2c m)))
 
-plain_x0 : (m : Mode) → Plain both (x0 m)
+pub plain_x0 : (m : Mode) → Plain both (x0 m)
 plain_x0 m = (blank_plain m both).0
 
-plain_y0 : (m : Mode) → Plain both (y0 m)
+pub plain_y0 : (m : Mode) → Plain both (y0 m)
 plain_y0 m = (blank_plain m both).1
 
-plain_x1 : (m : Mode) → Plain both (x1 m)
+pub plain_x1 : (m : Mode) → Plain both (x1 m)
 plain_x1 m = plain_all both (makes first (p1 m)) (x0 m) ((inl refl, first_taken), (tt, (tt, tt))) (plain_x0 m)
 
-plain_y1 : (m : Mode) → Plain both (y1 m)
+pub plain_y1 : (m : Mode) → Plain both (y1 m)
 plain_y1 m = plain_all both (stores first (b1 m)) (y0 m) ((inl refl, first_taken), (tt, tt)) (plain_y0 m)
 
-plain_x2 : (m : Mode) → Plain both (x2 m)
+pub plain_x2 : (m : Mode) → Plain both (x2 m)
 plain_x2 m = plain_all both (answers first (p1c m)) (x1 m) (answers_first m) (plain_x1 m)
 
-plain_x3 : (m : Mode) → Plain both (x3 m)
+pub plain_x3 : (m : Mode) → Plain both (x3 m)
 plain_x3 m = plain_all both (makes second (p3 m)) (x2 m) ((inr (inl refl), second_taken), (tt, (tt, tt))) (plain_x2 m)
 
-reads_x1 : (m : Mode) → lying.entry (x1 m) 1 ≡ Some first
+pub reads_x1 : (m : Mode) → lying.entry (x1 m) 1 ≡ Some first
 unfolding after_all
 reads_x1 m = written_there false first (x0 m).face (plain_x0 m).count first_taken
 
-reads_y2 : (m : Mode) → lying.entry (stores_second m (y1 m)) 1 ≡ Some first
+pub reads_y2 : (m : Mode) → lying.entry (stores_second m (y1 m)) 1 ≡ Some first
 unfolding after_all
 reads_y2 m = written_apart false second (y1 m).face 1 (λ e. omega (arith, e)) ∙ written_there false first (y0 m).face (plain_y0 m).count first_taken
 
-reads_x3 : (m : Mode) → lying.entry (x3 m) 2 ≡ Some second
+pub reads_x3 : (m : Mode) → lying.entry (x3 m) 2 ≡ Some second
 unfolding after_all
 reads_x3 m = entry_there both false second (x2 m) (plain_x2 m) second_taken
 
 -- ---- the whole path
 
-abbrev world_1 : Mode → World Lying
+abbrev pub world_1 : Mode → World Lying
 world_1 m = group_of m (host (p1 m) (x1 m)) (host (b0 m) (y0 m)) (sent_1 m)
 
-abbrev world_2 : Mode → World Lying
+abbrev pub world_2 : Mode → World Lying
 world_2 m = group_of m (host (p1 m) (x1 m)) (host (b1 m) (y1 m)) (sent_2 m)
 
-abbrev world_3 : Mode → World Lying
+abbrev pub world_3 : Mode → World Lying
 world_3 m = group_of m (host (p2 m) (x2 m)) (host (b1 m) (y1 m)) (sent_2 m)
 
-abbrev world_4 : Mode → World Lying
+abbrev pub world_4 : Mode → World Lying
 world_4 m = group_of m (host (p3 m) (x3 m)) (host (b1 m) (y1 m)) (sent_4 m)
 
-abbrev world_5 : Mode → World Lying
+abbrev pub world_5 : Mode → World Lying
 world_5 m = group_of m (host (p3 m) (x3 m)) (host (b3 m) (y2 m)) (sent_5 m)
 
 hashed : (m : Mode) → Hashes (IsText both) (fresh_world hazards (of_mode m) 3) plain

@@ -58,14 +58,14 @@ use Rattle.law_4_disks.proofs.Fresh.{schedules_begin}
 use Rattle.law_6_one_log.specs.Schedules.{IsHashedOf}
 use Rattle.rows_computed.proofs.Disks.{IsOfIn}
 use Rattle.rows_computed.proofs.Lines.{Hashes, HashesAt, IsText, host, line_in, none_left, root, then_lines}
-use Rattle.rows_computed.specs.Runs.{RunsAnswer, lone_kind, lone_member}
+use Rattle.rows_computed.specs.Runs.{OneAnswers, lone_kind, lone_member}
 
 -- ---- a disk whose calls all go well
 
-record IsCalm (d : Disk) : Type 0 where
-  fuse : d.fate.fuse ≡ None
-  sure : d.fate.failing ≡ []
-  alive : d.fate.dead ≡ false
+pub record IsCalm (d : Disk) : Type 0 where
+  pub fuse : d.fate.fuse ≡ None
+  pub sure : d.fate.failing ≡ []
+  pub alive : d.fate.dead ≡ false
 
 record Goes (d : Disk) (cs : List Call) : Type 0 where
   ok : (runs cs d).ok ≡ true
@@ -87,12 +87,12 @@ all_go (c ∷ cs) d k =
       face = rw one.0 (rest.face ∙ ap (λ (f : Face). after_all f cs) one.2);
     }
 
-quiet_calm : (f : Face) → IsCalm (quiet_disk f)
+pub quiet_calm : (f : Face) → IsCalm (quiet_disk f)
 quiet_calm f = record { fuse = refl; sure = refl; alive = refl }
 
 -- ---- an event is handled
 
-abbrev node_of : Replica → Node
+abbrev pub node_of : Replica → Node
 node_of r = record { replica = record { memory = r; running = true } }
 
 some_disk : (a b : Disk) → Some a ≡ Some b → a ≡ b
@@ -118,7 +118,7 @@ handled_so e r d s calm is same found =
 
 -- ---- a file of zeros opens as nothing
 
-opens_none : is_some (opened (good_copies zero_face)) ≡ false
+pub opens_none : is_some (opened (good_copies zero_face)) ≡ false
 unfolding good_copy copy_reading together value_of is_sealed good_fields fields_at opened best_of
 opens_none = refl
 
@@ -133,25 +133,25 @@ calls_1 = script_calls 2 does_first d0.face
 abbrev calls_2 : List Call
 calls_2 = script_calls 2 does_second d1.face
 
-abbrev zeroed : Disk
+abbrev pub zeroed : Disk
 zeroed = quiet_disk zero_face
 
 -- where calls begin from, and what they leave
-record Passes (d e : Disk) (f g : Face) (cs : List Call) : Type 0 where
-  begun : d.face ≡ f
-  calm : IsCalm d
-  left : e ≡ (runs cs d).disk
-  went : (runs cs d).ok ≡ true
-  after_calm : IsCalm e
-  face : e.face ≡ g
+pub record Passes (d e : Disk) (f g : Face) (cs : List Call) : Type 0 where
+  pub begun : d.face ≡ f
+  pub calm : IsCalm d
+  pub left : e ≡ (runs cs d).disk
+  pub went : (runs cs d).ok ≡ true
+  pub after_calm : IsCalm e
+  pub face : e.face ≡ g
 
-passes : (d : Disk) (f g : Face) (cs : List Call) → d.face ≡ f → IsCalm d → after_all f cs ≡ g → Passes d (runs cs d).disk f g cs
+pub passes : (d : Disk) (f g : Face) (cs : List Call) → d.face ≡ f → IsCalm d → after_all f cs ≡ g → Passes d (runs cs d).disk f g cs
 passes d f g cs begun calm is =
     let go = all_go cs d calm in
     record { begun = begun; calm = calm; left = refl; went = go.ok; after_calm = go.calm; face = go.face ∙ (ap (λ (f : Face). after_all f cs) begun ∙ is) }
 
 -- an event that is handled on such a disk, by a step that is known
-handles : (e : Event) (r : Replica) (x : Lying) (s : Step) (d left : Disk) (g : Face) → x.version ≡ version r → (1 ≤ version r) × (version r ≤ 2) → version s.replica ≡ version r → react e lying r x ≡ s
+pub handles : (e : Event) (r : Replica) (x : Lying) (s : Step) (d left : Disk) (g : Face) → x.version ≡ version r → (1 ≤ version r) × (version r ≤ 2) → version s.replica ≡ version r → react e lying r x ≡ s
     → Passes d left x.face g (script_calls (version r) s.script x.face) → steps (node_of r) (Some d) e (outputs s.script) (node_of s.replica) (Some left)
 handles e r x s d left g own is same found p =
     let v = version r in
@@ -200,7 +200,7 @@ dids = did_1 ∷ did_2 ∷ []
 abbrev text : List ℕ
 text = text_from 0 [] ++ texts_of (numbers_after 0 []) dids
 
-abbrev outside_by : Disk → List ℕ → Outside
+abbrev pub outside_by : Disk → List ℕ → Outside
 outside_by d text = record { disk = Some d; left = None; got = None; taken = Some text; sent = None; attached = None }
 
 the_run : HasDeeds (Some later_kind) (config_at 0 1 0) (outside_by zeroed []) (outside_by later_2 text)
@@ -285,7 +285,7 @@ said_second =
     let o = output.Reply (reply_to second outcome.Ok) in
     in_contains o (all_said acts) (in_right (outputs does_first) (outputs does_second ++ []) o (in_left (outputs does_second) [] o replies_second))
 
-pub some_runs_answer : RunsAnswer
+pub some_runs_answer : OneAnswers
 some_runs_answer = record {
   acts = acts;
   runs = are_runs;

@@ -1,5 +1,6 @@
--- Whole runs of members' programs that meet all that the laws on them ask: a group of one that answers a register and a put.
+-- Whole runs of members' programs that meet all that the laws on them ask: a group of one, and one of three, that answers a register and a put.
 use Rattle.std.specs.Prelude.{ℕ, ◌≡◌, List, Contains}
+use Rattle.vr_base.specs.Kinds.{of_mode}
 use Rattle.vr_base.specs.declared.kind.Kind.{Kind}
 use Rattle.vr_base.specs.declared.mode.Mode.TheVariants.{Strict}
 use Rattle.vr_header.specs.NoCollision.{NoCollision}
@@ -23,6 +24,14 @@ lone_kind i = record { mode = Strict; version = 2 }
 abbrev pub lone_member : ℕ → Host Lying
 lone_member = on_zeros lone_kind 0 1
 
+-- strict files of version 1
+abbrev pub plain_kind : ℕ → Kind
+plain_kind i = of_mode Strict
+
+-- the three members of group 0, each made on a file of zeros
+abbrev pub plain_member : ℕ → Host Lying
+plain_member = on_zeros plain_kind 0 3
+
 -- among these outputs client 7 is answered for its request of this number, at an op
 pub record IsAnswered (os : List Output) (request op : ℕ) (o : Outcome) : Type 0 where
   pub given : ReplyFields
@@ -31,12 +40,20 @@ pub record IsAnswered (os : List Output) (request op : ℕ) (o : Outcome) : Type
   pub number : given.request ≡ request
   pub outcome : given.kind ≡ reply.Outcome (record { op = op; outcome = o })
 
--- A run makes the member and handles two requests of client 7, a register and a put, which are executed and answered. It meets what `runs_keep_one_log` asks, names
--- and all; so it keeps one log.
-pub record RunsAnswer : Type 0 where
+-- Runs make members and handle two requests of client 7, a register and a put, which are executed and answered. They meet what `runs_keep_one_log` asks, names
+-- and all; so they keep one log.
+pub record RunsAnswer (kinds : ℕ → Kind) (n : ℕ) (first : ℕ → Host Lying) : Type 0 where
   pub acts : List ActBy
-  pub runs : AreRuns lone_kind 0 1 lone_member acts
-  pub names : NoCollision (IsHashedOf 0 (world_of lone_member 1) (all_lines acts))
-  pub one : KeepOneLog lone_kind 0 1 lone_member acts
+  pub runs : AreRuns kinds 0 n first acts
+  pub names : NoCollision (IsHashedOf 0 (world_of first n) (all_lines acts))
+  pub one : KeepOneLog kinds 0 n first acts
   pub registered : IsAnswered (all_said acts) 0 1 outcome.Session
   pub put : IsAnswered (all_said acts) 1 2 outcome.Ok
+
+-- of a group of one
+abbrev pub OneAnswers : Type 0
+OneAnswers = RunsAnswer lone_kind 1 lone_member
+
+-- of one of three
+abbrev pub ThreeAnswer : Type 0
+ThreeAnswer = RunsAnswer plain_kind 3 plain_member

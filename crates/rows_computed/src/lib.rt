@@ -12,7 +12,7 @@ mod schedules;
 pub use called::{links_over_streams, writes_a_block};
 pub use few::so_many_are_few;
 pub use pending::a_pending_request_takes_effect;
-pub use running::some_runs_answer;
+pub use running::{some_runs_answer, three_run_and_answer};
 pub use schedules::{
     acknowledged_meets_all, careful_path_meets_all, dropped_meets_all, moved_meets_all,
     one_alone_meets_all, plain_path_meets_all, torn_prepare_meets_all,

@@ -8,7 +8,8 @@ import unittest
 from pathlib import Path
 from typing import Dict, List
 
-from nozhgiva_tools.house.addressing import checks, standing, Tree
+from nozhgiva_tools.house import addresses
+from nozhgiva_tools.house.addressing import checks, Tree
 from nozhgiva_tools.places import TOOLS
 
 # Three crates, each on the ones before. Rooms stand in `vr_low`.
@@ -102,11 +103,11 @@ class Entries(unittest.TestCase):
 class Standing(unittest.TestCase):
     def test_how_many_stand_above_each(self) -> None:
         with tempfile.TemporaryDirectory() as folder:
-            lines = list(standing.above(Tree(laid(folder))))
+            lines = list(addresses.above(Tree(laid(folder))))
         self.assertEqual(lines, ["- *base*: `vr_low` 2, `vr_mid` 1", "- *rows*: `vr_top` 0"])
 
     def test_the_longest_chain(self) -> None:
-        self.assertEqual(standing.chain({"a": ["b", "c"], "b": ["c", "hex"], "c": []}, "a"), ["a", "b", "c"])
+        self.assertEqual(addresses.chain({"a": ["b", "c"], "b": ["c", "hex"], "c": []}, "a"), ["a", "b", "c"])
 
 
 class Script(unittest.TestCase):

@@ -8,7 +8,8 @@ import unittest
 from pathlib import Path
 from typing import Dict, Set
 
-from nozhgiva_tools.house.addressing import believing, Tree
+from nozhgiva_tools.house import believed
+from nozhgiva_tools.house.addressing import Tree
 from nozhgiva_tools.house.addressing.definitions import Definitions
 from nozhgiva_tools.places import TOOLS
 
@@ -49,8 +50,8 @@ def laid(folder: str, changes: Dict[str, str]) -> Path:
 def below(label: str, changes: Dict[str, str]) -> Set[str]:
     with tempfile.TemporaryDirectory() as folder:
         definitions = Definitions(Tree(laid(folder, changes)))
-        run, scope = believing.function(definitions, ("vr_top", "command"), "run")
-        found = believing.below(definitions, [clause.text for clause in run.clauses if clause.label == label], scope)
+        run, scope = believed.function(definitions, ("vr_top", "command"), "run")
+        found = believed.below(definitions, [clause.text for clause in run.clauses if clause.label == label], scope)
         return {f"{declaration.kind} {declaration.name}" for declaration in found.values()}
 
 
@@ -77,8 +78,8 @@ class Below(unittest.TestCase):
     def test_a_function_without_a_contract(self) -> None:
         with tempfile.TemporaryDirectory() as folder:
             definitions = Definitions(Tree(laid(folder, {"crates/vr_top/src/command.rt": "pub fn run() {}\n"})))
-            with self.assertRaisesRegex(believing.NoFunction, "no function run with a contract"):
-                believing.function(definitions, ("vr_top", "command"), "run")
+            with self.assertRaisesRegex(believed.NoFunction, "no function run with a contract"):
+                believed.function(definitions, ("vr_top", "command"), "run")
 
 
 class Script(unittest.TestCase):

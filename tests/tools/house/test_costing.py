@@ -7,7 +7,7 @@ import unittest
 from pathlib import Path
 from typing import Dict, Tuple
 
-from nozhgiva_tools.house import costing
+from nozhgiva_tools.house import gate_cost
 from nozhgiva_tools.places import NOZHGIVA
 
 CHECK = "/opt/kit/bin/rattle check --crate-name app_low --antt-project /opt/kit/logic.json"
@@ -31,19 +31,19 @@ class Tasks(unittest.TestCase):
             ("/tmp/rt-run-7/bin/app_low", "/tmp/rt-run-7", ("app_low", "run")),
             ("/usr/bin/python3 /opt/kit/bin/rt ci", "/work", None),
         ):
-            self.assertEqual(costing.task_of(words, folder), task, words)
+            self.assertEqual(gate_cost.task_of(words, folder), task, words)
 
     def test_seconds_of_one_kind_are_summed(self) -> None:
-        seen = {(1, "a"): costing.Seen(CHECK, "/", 2.5), (2, "b"): costing.Seen(CHECK, "/", 1.0), (3, "c"): costing.Seen("rt ci", "/", 9.0)}
-        self.assertEqual(costing.cost_of(seen), {"app_low": {"proof": 3.5}})
+        seen = {(1, "a"): gate_cost.Seen(CHECK, "/", 2.5), (2, "b"): gate_cost.Seen(CHECK, "/", 1.0), (3, "c"): gate_cost.Seen("rt ci", "/", 9.0)}
+        self.assertEqual(gate_cost.cost_of(seen), {"app_low": {"proof": 3.5}})
 
 
 class Clocks(unittest.TestCase):
     """Three crates, of which two wait for the first; reckoned by hand."""
 
-    def clock(self, lanes: int, **seconds: float) -> costing.Clock:
-        waits = costing.waits_of(LIBRARIES)
-        return costing.clock(lanes, {one: seconds.get("_".join(one), 0.0) for one in waits}, waits)
+    def clock(self, lanes: int, **seconds: float) -> gate_cost.Clock:
+        waits = gate_cost.waits_of(LIBRARIES)
+        return gate_cost.clock(lanes, {one: seconds.get("_".join(one), 0.0) for one in waits}, waits)
 
     def test_one_processor_takes_the_sum(self) -> None:
         self.assertEqual(self.clock(1, app_low_proof=10, app_high_proof=5, app_wide_proof=7), (22, 17))
@@ -58,9 +58,9 @@ class Clocks(unittest.TestCase):
         self.assertEqual(self.clock(4, app_low_proof=10, app_low_compile=4, app_low_run=2), (16, 16))
 
     def test_a_circle_is_refused(self) -> None:
-        waits = costing.waits_of({"app_low": ("app_high",), "app_high": ("app_low",)})
+        waits = gate_cost.waits_of({"app_low": ("app_high",), "app_high": ("app_low",)})
         with self.assertRaises((ValueError, RecursionError)):
-            costing.clock(2, dict.fromkeys(waits, 1.0), waits)
+            gate_cost.clock(2, dict.fromkeys(waits, 1.0), waits)
 
 
 class Script(unittest.TestCase):

@@ -10,7 +10,7 @@ import time
 import unittest
 from typing import Dict, List, Optional, Tuple
 
-from nozhgiva_tools.operate import founding, sectors
+from nozhgiva_tools.operate import founding
 from nozhgiva_tools.operate.founding import Ear, Heard, judge
 from nozhgiva_tools.operate.probing import HEADER
 from nozhgiva_tools.places import OPERATE
@@ -94,13 +94,13 @@ class Sectors(unittest.TestCase):
             number, system = f"{os.major(device)}:{os.minor(device)}", os.path.join(folder, "sys")
             mounts = os.path.join(folder, "mounts")
             open(mounts, "w").close()
-            self.assertIsNone(sectors.physical_sector(folder, system, mounts))
+            self.assertIsNone(founding.physical_sector(folder, system, mounts))
             disk = os.path.join(system, "dev", "block", number)
             for place, size in ((os.path.join(disk, "queue"), 4096), (os.path.join(system, "dev", "block", "queue"), 512)):
                 os.makedirs(place, exist_ok=True)
                 with open(os.path.join(place, "physical_block_size"), "w") as file:
                     file.write(f"{size}\n")
-                self.assertEqual(sectors.physical_sector(folder, system, mounts), size)
+                self.assertEqual(founding.physical_sector(folder, system, mounts), size)
                 os.unlink(os.path.join(place, "physical_block_size"))
 
     def test_a_file_system_without_a_number_of_its_own(self) -> None:
@@ -108,11 +108,11 @@ class Sectors(unittest.TestCase):
             mounts = os.path.join(folder, "mounts")
             with open(mounts, "w") as file:
                 file.write("22 1 0:7 / /data rw,relatime shared:1 - btrfs /dev/null rw\n23 1 0:8 / /other rw - tmpfs tmpfs rw\n")
-            self.assertEqual([sectors.source_of(number, mounts) for number in ("0:7", "0:8", "0:9")], ["1:3", None, None])
+            self.assertEqual([founding.source_of(number, mounts) for number in ("0:7", "0:8", "0:9")], ["1:3", None, None])
 
     def test_what_is_said(self) -> None:
-        self.assertEqual([sectors.warning("/d", size) for size in (None, 512)], ["", ""])
-        self.assertIn("the disk of /d has physical sectors of 4096 bytes", sectors.warning("/d", 4096))
+        self.assertEqual([founding.warning("/d", size) for size in (None, 512)], ["", ""])
+        self.assertIn("the disk of /d has physical sectors of 4096 bytes", founding.warning("/d", 4096))
 
 
 @unittest.skipUnless(program.is_there(), program.MISSING)

@@ -3,11 +3,10 @@
 import unittest
 from typing import Dict, List, Optional, Tuple
 
-from nozhgiva_tools.operate.demand import Demand
 from nozhgiva_tools.operate.doors import http_asked, place_of
 from nozhgiva_tools.operate.judging import AILS, Settling, SILENT, Verdict, WELL
+from nozhgiva_tools.operate.knowing import Demand, Tally
 from nozhgiva_tools.operate.probing import places_of, where_of
-from nozhgiva_tools.operate.tally import Tally
 from nozhgiva_tools.told.datafile import Checkpoint, Report, Value
 from nozhgiva_tools.told.lines import Applied, parse
 

@@ -19,6 +19,7 @@ QUICK, TIME, SLOW, NAMED = "quick", "time", "slow", "named"
 MARKS = frozenset((QUICK, TIME, SLOW, NAMED))
 PYTEST = "pytest"
 NONE_TRIED, NONE = "nothing was tried", 2
+JUDGED = "judged: "  # a line of a check that begins so is told beside its result
 """What is said, at a line's beginning, and the exit code, where a check could try nothing."""
 # A check that takes S seconds of a processor has this many on the clock: a machine may be busy and slow.
 LEAST, TIMES = 60, 10
@@ -142,6 +143,11 @@ def parts_left_out(text: str) -> List[str]:
     return [f"{count} of its tests: {why}" if count > 1 else why for why, count in sorted(counts.items())]
 
 
+def judged(text: str) -> List[str]:
+    """How much a check tried, where it says so in a line."""
+    return [line[len(JUDGED):] for line in text.splitlines() if line.startswith(JUDGED)]
+
+
 class Run:
     """A run of checks: what passed, what failed, what was left out and why, and how many checks that were."""
 
@@ -192,7 +198,7 @@ class Run:
                 parts = parts_left_out(text)
                 self.in_part += bool(parts)
                 self.left_out += [f"{check.name}: {why}" for why in parts]
-                self.say(f"{check.name}: passed in {took}")
+                self.say(": ".join([f"{check.name}: passed in {took}", *judged(text)]))
                 return
             if status == NONE and any(line.startswith(NONE_TRIED) for line in text.splitlines()):
                 self.leave_out(check, "; ".join(parts_left_out(text)) or "none of its tests was tried")

@@ -27,7 +27,7 @@ import tempfile
 import time
 from typing import List, NoReturn, Optional, Tuple
 
-from nozhgiva_tools.places import NOZHGIVA, TOP
+from nozhgiva_tools.places import in_memory, NOZHGIVA, TOP
 
 from . import checking, kit, packages
 
@@ -166,7 +166,7 @@ def main() -> int:
     elif not (is_part or words.checks):
         proved = prove()
         passed, failed = proved[0], failed + proved[1]
-    with tempfile.TemporaryDirectory(prefix="nozhgiva-") as folder:
+    with tempfile.TemporaryDirectory(prefix="nozhgiva-", dir=os.environ.get("TMPDIR") or in_memory()) as folder:
         run = checking.Run(TOP, folder, time_until(words, begun), say)
         run.all_of(chosen)
     return tell_end(run, passed + run.passed, failed + run.failed)

@@ -10,25 +10,97 @@ judges it. Comments, and lines of brackets alone, aren't counted. Other words th
 import argparse
 import signal
 import sys
-from typing import List, Tuple
+from pathlib import Path
+from typing import Dict, Iterable, Iterator, List, NamedTuple, Sequence, Set, Tuple
 
 from nozhgiva_tools.places import TOP
 
-from .addressing import believing, Tree
-from .addressing.believing import Found
-from .addressing.definitions import Definitions
+from .addressing import code, Module, Place, Tree
+from .addressing.definitions import Declaration, Definitions, readings, Scope
 
+Found = Dict[Tuple[Path, int], Declaration]
 MODULE, NAME, FIRST = ("vr_top", "command"), "run", "headline"
 PAGE = TOP / "docs" / "BELIEVED.md"
 BEGIN, END = "<!-- ./nozhgiva believed -->\n", "<!-- end -->"
 
 
+class NoFunction(Exception):
+    """There is no such function, or it has no contract."""
+
+
+class Part(NamedTuple):
+    """The declarations of one crate."""
+
+    crate: str
+    declarations: List[Declaration]
+
+    @property
+    def lines(self) -> int:
+        return sum(declaration.lines for declaration in self.declarations)
+
+
+def function(definitions: Definitions, module: Module, name: str) -> Tuple[code.Item, Scope]:
+    """A function of code with what the names of its contract mean."""
+    for item in definitions.items_of(definitions.source(module)):
+        if item.kind == "fn" and item.name == name and item.clauses:
+            return item, definitions.code_scope(module)
+    raise NoFunction(f"no function {name} with a contract in {definitions.source(module)}")
+
+
+def below(definitions: Definitions, texts: Iterable[str], scope: Scope) -> Found:
+    """The declarations below some clauses."""
+    found: Found = {}
+    seen: Set[Place] = set()
+    todo = [reading.place for text in texts for reading in readings(text, scope, set())]
+    while todo:
+        place = todo.pop()
+        if place is None or place in seen:
+            continue
+        seen.add(place)
+        for declaration in definitions.at(place):
+            if (declaration.path, declaration.line) not in found:
+                found[declaration.path, declaration.line] = declaration
+                todo += [reading.place for reading in definitions.readings(declaration)]
+    return found
+
+
+def parts(found: Found, crates: Sequence[str], top: Path) -> List[Part]:
+    """Declarations crate by crate, in the order of crates.txt, each crate's in the order of its files."""
+    folder = top / "crates"
+    by_crate: Dict[str, List[Declaration]] = {}
+    for (path, _), declaration in sorted(found.items()):
+        by_crate.setdefault(path.relative_to(folder).parts[0], []).append(declaration)
+    return [Part(crate, by_crate[crate]) for crate in crates if crate in by_crate]
+
+
+def counted(number: int, one: str) -> str:
+    return f"{number:,} {one}" + ("" if number == 1 else "s")
+
+
+def table(some: Sequence[Part], top: Path) -> Iterator[str]:
+    """A row for each crate: its files with how many of their definitions, and the lines of these."""
+    yield "| crate | lines | definitions of each file |"
+    yield "|---|---|---|"
+    for part in some:
+        files: Dict[str, int] = {}
+        for declaration in part.declarations:
+            name = str(declaration.path.relative_to(top / "crates" / part.crate))
+            files[name] = files.get(name, 0) + 1
+        yield f"| `{part.crate}` | {part.lines:,} | " + ", ".join(f"`{name}` {count}" for name, count in files.items()) + " |"
+
+
+def total(some: Sequence[Part]) -> str:
+    files = len({declaration.path for part in some for declaration in part.declarations})
+    definitions = counted(sum(len(part.declarations) for part in some), "definition")
+    return f"{definitions} in {counted(sum(part.lines for part in some), 'line')} of {counted(files, 'file')}, of {counted(len(some), 'crate')}"
+
+
 def found(tree: Tree) -> Tuple[Found, Found]:
     """What stands below the first clause, and what stands below the others alone."""
     definitions = Definitions(tree)
-    run, scope = believing.function(definitions, MODULE, NAME)
-    first = believing.below(definitions, [clause.text for clause in run.clauses if clause.label == FIRST], scope)
-    every = believing.below(definitions, [run.head, *(clause.text for clause in run.clauses)], scope)
+    run, scope = function(definitions, MODULE, NAME)
+    first = below(definitions, [clause.text for clause in run.clauses if clause.label == FIRST], scope)
+    every = below(definitions, [run.head, *(clause.text for clause in run.clauses)], scope)
     return first, {place: declaration for place, declaration in every.items() if place not in first}
 
 
@@ -36,15 +108,15 @@ def lists(tree: Tree, first: Found, others: Found) -> str:
     """The two lists, as lines of the page."""
     lines: List[str] = []
     for heading, some in ((f"## Below `{FIRST}`", first), ("## Below the other clauses alone", others)):
-        parts = believing.parts(some, list(tree.libraries), tree.top)
-        lines += [heading, "", believing.total(parts) + ".", "", *believing.table(parts, tree.top), ""]
+        told = parts(some, list(tree.libraries), tree.top)
+        lines += [heading, "", total(told) + ".", "", *table(told, tree.top), ""]
     return "\n".join(lines)
 
 
 def print_all(first: Found, others: Found) -> None:
     for (path, line), declaration in sorted({**first, **others}.items()):
         clause = "" if (path, line) in first else ", not below " + FIRST
-        print(f"{path.relative_to(TOP)}:{line}: {declaration.name}, {believing.counted(declaration.lines, 'line')}{clause}")
+        print(f"{path.relative_to(TOP)}:{line}: {declaration.name}, {counted(declaration.lines, 'line')}{clause}")
 
 
 def make_parser() -> argparse.ArgumentParser:
@@ -60,7 +132,7 @@ def main() -> int:
     tree = Tree(TOP)
     try:
         first, others = found(tree)
-    except believing.NoFunction as missing:
+    except NoFunction as missing:
         print(missing)
         return 1
     if words.list:
@@ -78,7 +150,7 @@ def main() -> int:
     elif page != right:
         print(f"{PAGE.relative_to(TOP)} isn't what the clauses of {NAME} cite; ./nozhgiva believed --write puts it right")
         return 1
-    print(f"{believing.counted(len(first) + len(others), 'definition')} below the clauses of {NAME}, as {PAGE.relative_to(TOP)} says")
+    print(f"{counted(len(first) + len(others), 'definition')} below the clauses of {NAME}, as {PAGE.relative_to(TOP)} says")
     return 0
 
 

@@ -7,7 +7,8 @@ It wants a clone in which `rt ci` has passed, since it checks over the libraries
 nothing there but a library that is missing, which it proves anew. Each crate is checked first as it is, then with each edit, over
 what that check proved: some minutes a crate, and 20 to 45 seconds an edit.
 
-It prints, by crate, the seconds, what each edit is refused by, and a sum; it ends with status 1 where one is not refused, or could
+It prints, by crate, the seconds, what each edit is refused by, and a sum. One that the prover refused by a limit of its own alone, which says
+less of the contract, is told apart, and counts as refused, as `rt must-fail` counts it. It ends with status 1 where one is not refused, or could
 not be tried, and with 3 where the minutes didn't suffice. Written for the `rt` of rattle-kit-13b, whose parts it calls; that of rattle-kit-13f
 has them too.
 """
@@ -33,8 +34,10 @@ from nozhgiva_tools.operate import standard
 from nozhgiva_tools.places import TOP
 
 PRINTING = threading.Lock()
-# What `must_fail` tells of an edit that was refused: kit 13b that it was, 13f by a word, as it tells each other ending too.
-REFUSED = (True, "refused")
+REFUSED, LIMITED, PASSED, BAD, UNTRIED, LEFT = "refused", "refused by a limit", "let through", "bad", "not tried", "left"
+# What `must_fail` tells of an edit that was refused: kit 13b that it was, 13f by a word. Each other ending is told by its text alike in both.
+REFUSALS = (True, "refused", "limit")
+SAID = (("only by a limit of the prover", LIMITED), ("NOT REFUSED", PASSED), ("NOT TRIED", UNTRIED))
 
 
 class Crate(Protocol):
@@ -77,7 +80,7 @@ class Edit(NamedTuple):
 
 
 class Tried(NamedTuple):
-    """What came of an edit: refused, let through, bad or left; after how many seconds, and what the prover said."""
+    """What came of an edit, by one of the words above; after how many seconds, and what the prover said."""
 
     name: str
     ending: str
@@ -156,14 +159,30 @@ def build_missing(crates: dict[str, Crate], wanted: dict[str, list[Edit]]) -> No
                 sys.exit(f"./nozhgiva mutations: {it.name} isn't proved here")
 
 
+def ending_of(told: bool | str, text: str) -> str:
+    """What came of an edit, by what `must_fail` answers."""
+    return next((ending for words, ending in SAID if words in text), REFUSED if told in REFUSALS else BAD)
+
+
+def is_refused(tried: Tried) -> bool:
+    return tried.ending in (REFUSED, LIMITED)
+
+
+def summed(tried: list[Tried], minutes: float) -> tuple[str, int]:
+    """The sum in words, and the status that it ends with."""
+    count = {ending: sum(it.ending == ending for it in tried) for ending in (LIMITED, PASSED, BAD, UNTRIED, LEFT)}
+    words = [f"{count[ending]} of them only by a limit" if ending == LIMITED else f"{count[ending]} {ending}" for ending in count if count[ending]]
+    status = 1 if count[PASSED] or count[BAD] or count[UNTRIED] else 3 if count[LEFT] else 0
+    return ", ".join([f"{sum(map(is_refused, tried))} of {len(tried)} refused in {minutes:.0f} minutes", *words]), status
+
+
 def try_edit(rt: Toolchain, crate: Crate, edit: Edit, kept: str) -> Tried:
     began = time.monotonic()
     with tempfile.TemporaryDirectory(prefix="wrong-body-") as folder:
         path = Path(folder, f"{edit.name}.edit")
         path.write_text(edit.text, encoding="utf-8")
         told, text = rt.must_fail(crate, str(path), ["--jobs", "1"], kept)
-    ending = "refused" if told in REFUSED else "let through" if "NOT REFUSED" in text else "bad"
-    return Tried(edit.name, ending, time.monotonic() - began, re.sub(r"^must-fail \S+ ", "", text)[:300])
+    return Tried(edit.name, ending_of(told, text), time.monotonic() - began, re.sub(r"^must-fail \S+ ", "", text)[:300])
 
 
 def try_crate(rt: Toolchain, crate: Crate, edits: list[Edit], ends: float) -> list[Tried]:
@@ -172,13 +191,13 @@ def try_crate(rt: Toolchain, crate: Crate, edits: list[Edit], ends: float) -> li
     with tempfile.TemporaryDirectory(prefix="wrong-bodies-") as kept:
         seed = rt.checked(crate, {}, ["--jobs", "1"], kept)
         if seed.returncode:
-            tried = [Tried(it.name, "bad", 0, "the crate as it is isn't proved here") for it in edits]
+            tried = [Tried(it.name, BAD, 0, "the crate as it is isn't proved here") for it in edits]
         else:
-            tried = [try_edit(rt, crate, it, kept) if time.monotonic() < ends else Tried(it.name, "left", 0, "no time was left") for it in edits]
+            tried = [try_edit(rt, crate, it, kept) if time.monotonic() < ends else Tried(it.name, LEFT, 0, "no time was left") for it in edits]
             if rt.checked(crate, {}, ["--jobs", "1"], kept).returncode:
-                tried = [it._replace(ending="bad", said="the crate as it is isn't proved any more over what was kept") for it in tried]
+                tried = [it._replace(ending=BAD, said="the crate as it is isn't proved any more over what was kept") for it in tried]
     with PRINTING:
-        print(f"{crate.name}: {sum(it.ending == 'refused' for it in tried)} of {len(edits)} refused, {time.monotonic() - began:.0f} s in all")
+        print(f"{crate.name}: {sum(map(is_refused, tried))} of {len(edits)} refused, {time.monotonic() - began:.0f} s in all")
         for it in tried:
             print(f"  {it.ending} {it.name}, {it.seconds:.0f} s: {it.said}", flush=True)
     return tried
@@ -199,9 +218,9 @@ def main() -> int:
     with concurrent.futures.ThreadPoolExecutor(said.lanes) as pool:
         calls = [pool.submit(try_crate, rt, crates[crate], edits, began + 60 * said.minutes) for crate, edits in wanted.items()]
         tried = [it for call in calls for it in call.result()]
-    count = {ending: sum(it.ending == ending for it in tried) for ending in ("refused", "let through", "bad", "left")}
-    print(f"{count['refused']} of {len(tried)} refused in {(time.monotonic() - began) / 60:.0f} minutes", *(f", {n} {it}" for it, n in count.items() if n and it != "refused"), sep="")
-    return 1 if count["let through"] or count["bad"] else 3 if count["left"] else 0
+    words, status = summed(tried, (time.monotonic() - began) / 60)
+    print(words)
+    return status
 
 
 def run() -> None:

@@ -17,14 +17,12 @@ from nozhgiva_tools.told import datafile
 from nozhgiva_tools.told.lines import parse, Reply, Splitter
 
 from . import doors, endings, metrics, noting, vitals as health
-from .demand import Demand, PROBE
-from .heard import Heard
+from .knowing import Demand, Heard, PROBE, Tally
 from .log import private, Thinner, Writer
 from .looking import Looker
 from .policy import Policy
 from .processes import Child
 from .renewal import Asking, GETS, Renewal
-from .tally import Tally
 from .vitals import Life
 
 PIECE = 1 << 16  # bytes that are read at once

@@ -14,7 +14,7 @@ import shutil
 import subprocess
 import sys
 
-from . import endings, founding, probing, sectors, standard
+from . import endings, founding, probing, standard
 
 TURNS = "1"
 
@@ -73,7 +73,7 @@ def main() -> int:
     if why:
         return refuse(why)
     folder = os.path.dirname(os.path.abspath(words.file))
-    warning = sectors.warning(folder, sectors.physical_sector(folder))
+    warning = founding.warning(folder, founding.physical_sector(folder))
     if warning:
         print(f"make-member: warning: {warning}", file=sys.stderr)
     os.umask(0o077)  # The file holds all values.

@@ -14,7 +14,7 @@ from nozhgiva_tools.told.lines import Line, Reply
 
 from . import vitals as health
 from .policy import Policy
-from .pulse import HANGS
+from .processes import HANGS
 
 KIND = "text/plain; version=0.0.4; charset=utf-8"
 REPLIES = {"reply": "answered", "busy": "busy", "redirect": "redirected", "old": "old", "gap": "gap", "evicted": "evicted"}

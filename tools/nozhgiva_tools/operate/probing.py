@@ -10,7 +10,7 @@ from typing import Dict, List, NamedTuple, Optional, Set, Tuple
 
 from nozhgiva_tools.told import datafile
 
-from .demand import PROBE
+from .knowing import PROBE
 from .doors import place_of
 
 HEADER = struct.Struct(">16s16s16s16sQQIIQQIBBBBQ8s")

@@ -18,8 +18,13 @@ def source(member: int, ports: Optional[List[str]], sockets: Optional[str], comm
     if ports is not None:
         return functools.partial(asking.ask_port, ports[member], wait)
     if sockets is not None:
-        return functools.partial(asking.ask, sockets.replace("{}", str(member)), "health", wait)
+        return at_socket(member, sockets, wait)
     return None if command is None else functools.partial(told_by, command.replace("{}", str(member)), wait)
+
+
+def at_socket(member: int, sockets: str, wait: float) -> Source:
+    """The line comes from a socket of the member's keeper."""
+    return functools.partial(asking.ask, sockets.replace("{}", str(member)), "health", wait)
 
 
 def told_by(command: str, wait: float) -> str:

@@ -5,10 +5,9 @@ from typing import Dict, List, NamedTuple, Optional
 from nozhgiva_tools.told import whole
 from nozhgiva_tools.told.datafile import Report
 
-from .demand import Demand
+from .knowing import Demand, Tally
 from .policy import PATIENCE, Policy, RECENT
-from .pulse import HANGS
-from .tally import Tally
+from .processes import HANGS
 
 LONG_CHANGE = 5.0  # seconds; a view change that takes longer is no ordinary one
 

@@ -1,11 +1,14 @@
-"""What the lines of a member are taken for, and how they are cut from pieces."""
+"""What the lines of a member are taken for, and how they are cut from pieces; and headers as the readers spell and read them, by docs/FORMATS.md."""
 
 import unittest
-from typing import List, Tuple
+from typing import Dict, List, Tuple
 
+from nozhgiva_tools.told import datafile
+from nozhgiva_tools.told.formats import Field, header
 from nozhgiva_tools.told.lines import (Applied, Beat, Choice, Given, Halt, Line, LONGEST, Message, parse, Prepare, Question, Reply, Request, Splitter, Start, UNKNOWN,
                                        without_value)
 
+NAME = bytes(range(16))
 ROWS: List[Tuple[str, Line]] = [
     ("send 9 0 1 commit view 3 op 12 commit 10", Beat(3, 12, 10)),
     ("send 9 0 1 prepare view 3 op 13 made 3 commit 12", Prepare(3, 13, 12)),
@@ -83,3 +86,19 @@ class Lines(unittest.TestCase):
         self.assertLessEqual(len(splitter.rest), 2 * LONGEST)
         self.assertEqual(list(splitter.take(b"x\nstart\n")), [b"start"])
         self.assertEqual(splitter.too_long, 1)
+
+
+class Headers(unittest.TestCase):
+    """Of 128 bytes."""
+
+    def test_what_is_spelled_is_read(self) -> None:
+        read = datafile.header_of(header("prepare", b"body", parent=NAME, cluster=2 ** 64 - 1, view=3, op=2 ** 62, commit=8, replica=5))
+        assert read is not None
+        self.assertEqual((read.command, read.cluster, read.view, read.op, read.commit, read.replica, read.version, read.size), (6, 2 ** 64 - 1, 3, 2 ** 62, 8, 5, 1, 132))
+        self.assertEqual((read.bytes[32:48], read.body), (NAME, datafile.name(b"body")))
+
+    def test_a_field_that_there_is_not_is_refused(self) -> None:
+        wrong: List[Dict[str, Field]] = [{"veiw": 3}, {"name": NAME}, {"parent": 3}, {"view": NAME}]
+        for fields in wrong:
+            with self.subTest(fields):
+                self.assertRaises(TypeError, header, "prepare", **fields)

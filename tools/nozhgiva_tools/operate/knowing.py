@@ -1,18 +1,69 @@
-"""How many keys and sessions a member's state holds: those of its checkpoint, as its file has it, and what its lines tell that it applied since.
+"""What a keeper knows of its member by its lines: whether clients ask it in vain; what it said that it applied, so that it is seen where it says something else of
+the same operation; and how many keys and sessions its state holds, those of its checkpoint, as its file has it, and what its lines tell that it applied since.
 
 Times are seconds of the keeper's clock."""
 
+import hashlib
 from collections import deque
 from typing import Deque, Dict, Optional, Tuple
 
 from nozhgiva_tools.told import datafile
-from nozhgiva_tools.told.lines import Applied, Request
+from nozhgiva_tools.told.lines import Applied, Line, Request
 from nozhgiva_tools.told.store import of_words, Store
 from nozhgiva_tools.told.table import Session
 
+PROBE = 2 ** 64 - 1  # the number of the client that `status` asks as; no other client has it, and its replies aren't looked at
+VAIN = ("busy", "redirect", "prepare")  # lines that show that something is asked, and not that it is done
+GONE = 3.0  # seconds after which clients that haven't asked again have given up
+NAMED = 4096  # operations of which the name of what was said is remembered
 REMEMBERED = 160  # operations whose lines are kept: a checkpoint and the window behind it
 LATELY = 300.0  # seconds; a session that was used within them may be one of a client at work
 NEVER = float("-inf")
+
+
+class Demand:
+    """Since when clients have been asking, with nothing applied."""
+
+    def __init__(self) -> None:
+        self.since: Optional[float] = None
+        self.last = 0.0  # when something was asked last
+        self.applied: Optional[float] = None  # when something was applied last
+        self.op = 0
+
+    def hear(self, now: float, line: Line) -> None:
+        if line.kind == "applied" and line.op > self.op:
+            self.op, self.applied, self.since = line.op, now, None
+        elif line.kind in VAIN:
+            if self.since is None or now - self.last > GONE:
+                self.since = now
+            self.last = now
+
+    def waits(self, now: float) -> float:
+        """For how many seconds clients have been asking in vain: one that asked once, and no more, hasn't."""
+        return self.last - self.since if self.since is not None and now - self.last <= GONE else 0.0
+
+    def ago(self, now: float) -> Optional[float]:
+        """How many seconds ago it applied something; None where it never did."""
+        return None if self.applied is None else now - self.applied
+
+
+class Heard:
+    """What was heard of each of the last operations, whatever starts lie between. All members apply one list of operations, so nothing of it ever changes."""
+
+    def __init__(self) -> None:
+        self.names: Dict[int, bytes] = {}
+        self.last = 0  # the operation that was heard last
+
+    def hear(self, text: bytes, line: Line) -> Optional[str]:
+        """A line of a member; where it contradicts one from before, a sentence that says so."""
+        if line.kind != "applied" or line.request is None:
+            return None
+        name = hashlib.blake2b(text.split(b" ", 4)[4], digest_size=16).digest()
+        before = self.names.get(line.op)
+        self.names[line.op], self.last = name, line.op
+        if len(self.names) > NAMED:
+            del self.names[min(self.names)]
+        return f"operation {line.op} isn't what it was when the member applied it before" if before not in (None, name) else None
 
 
 class Tally:
