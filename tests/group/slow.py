@@ -48,7 +48,8 @@ class Proxy:
         self.waiting: List[Waiting] = []
         self.ways: Dict[Tuple[int, int], str] = {}
         self.sockets: Dict[Tuple[int, int], socket.socket] = {}
-        for number, way in enumerate(itertools.permutations(range(len(hosts)), 2)):
+        for number, (sender, receiver) in enumerate(itertools.permutations(range(len(hosts)), 2)):
+            way = (sender, receiver)
             self.sockets[way] = socket.socket(socket.AF_INET, socket.SOCK_DGRAM)
             self.sockets[way].bind(("127.0.0.1", first + number))
             self.sockets[way].setblocking(False)
