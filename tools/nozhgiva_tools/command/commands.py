@@ -1,4 +1,4 @@
-"""The subcommands of `nozhgiva`: what each does, an example, its exit codes, and what is called for it. the module tree has their words."""
+"""The subcommands of `nozhgiva`: what each does, an example, its exit codes, and what is called for it. The module `tree` has their words."""
 
 import os
 from typing import List, NamedTuple, Optional, Tuple

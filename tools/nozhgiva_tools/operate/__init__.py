@@ -1,1 +1,1 @@
-"""What the scripts of operate/ share: lines, policy, log, member, health, ways to talk to a keeper."""
+"""What the scripts of operate/ share; tools/README.md says which module is for which script."""
