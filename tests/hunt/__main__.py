@@ -231,7 +231,7 @@ def positive(word: str) -> float:
 
 
 def words_of() -> argparse.Namespace:
-    parser = argparse.ArgumentParser(description=__doc__, formatter_class=argparse.RawDescriptionHelpFormatter)
+    parser = argparse.ArgumentParser(prog="hunt", description=__doc__, formatter_class=argparse.RawDescriptionHelpFormatter)
     parser.add_argument("--minutes", type=positive, help="rounds of a minute each for so long, in place of one short one")
     parser.add_argument("--seed", type=int, help="the number from which the first round is drawn, and the next ones from those after it; when things happen isn't drawn")
     parser.add_argument("--workers", type=int, default=6, choices=range(1, 9), metavar="N", help="how many clients, 1 to 8 (6)")

@@ -123,8 +123,9 @@ def time_until(words: argparse.Namespace, begun: float) -> float:
 def run_one(name: str, words: List[str]) -> int:
     """Runs a check with other words than its own, at this terminal, and gives its code."""
     check = checking.with_words(next(one for one in checking.read_table() if one.name == name), words)
+    asks_help = not {"-h", "--help"}.isdisjoint(words)
     why = checking.lacks(check, checking.find_program())
-    if why:
+    if why and not asks_help:
         say(f"nothing was tried: {why}")
         return checking.NONE
     os.chdir(TOP)
