@@ -27,7 +27,13 @@ pub trait Origins {
     fn origin(&self, port: u32) -> Origin;
 }
 
-impl<R: Net + Clock + Drop> Origins for StreamLink<TcpStreams<R>> {
+impl<R: Drop> Origins for TcpStreams<R> {
+    fn origin(&self, port: u32) -> Origin {
+        self.origin_of_port(port)
+    }
+}
+
+impl<T: Streams + Origins> Origins for StreamLink<T> {
     fn origin(&self, port: u32) -> Origin {
         self.streams().origin(port)
     }

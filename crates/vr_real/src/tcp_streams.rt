@@ -327,7 +327,7 @@ impl<R: Drop> TcpStreams<R> {
     }
 
     /// Where what comes at a port comes from. A stream that was begun here leads to a member.
-    pub fn origin(&self, port: u32) -> Origin {
+    pub fn origin_of_port(&self, port: u32) -> Origin {
         origin_at(&self.slots, port as usize)
     }
 
@@ -500,7 +500,7 @@ impl<R: Net + Clock + Drop> Streams for TcpStreams<R> {
     }
 
     fn speaks(&mut self, port: u32, member: u8) {
-        if let (Origin::Member, Some(place)) = (self.origin(port), self.place(port)) {
+        if let (Origin::Member, Some(place)) = (self.origin_of_port(port), self.place(port)) {
             self.places.speak(place, member);
         }
     }
