@@ -255,12 +255,29 @@ def try_file(machine: Machine, name: str, lane: int, number: int) -> Outcome:
             os.symlink(path + ".target", path)
             members.start(bad)
             account.work(80, PATIENCE)
-        elif name == "grows":
-            os.truncate(path, 2 * os.path.getsize(path))
-            account.work(80, PATIENCE)
         return ""
 
     return machine.with_bad_one(lane, number, what, frozenset({GOES_ON, DISK}))
+
+
+def try_grown(machine: Machine, lane: int, number: int) -> Outcome:
+    """The file grows under a member: it says 7 when it is started again, and once the file is as long as it was it goes on with all that it had."""
+    codes: List[Optional[int]] = []
+
+    def what(members: Members, bad: int, account: Account) -> str:
+        path = members.file(bad)
+        length = os.path.getsize(path)
+        os.truncate(path, 2 * length)
+        account.work(80, PATIENCE)
+        codes.extend((members.finish(bad), members.run(bad, "1000000")))
+        os.truncate(path, length)
+        members.start(bad)
+        return f"{meaning(codes[1])} at the next start"
+
+    outcome = machine.with_bad_one(lane, number, what, frozenset({GOES_ON}))
+    ended, refused = codes
+    wrong = "" if ended in (None, DISK) else f"as its file grew it {meaning(ended)}"
+    return outcome._replace(code=refused, wrong=outcome.wrong or wrong or ("" if refused == DISK else f"started again it {meaning(refused)}"))
 
 
 def try_gone(machine: Machine, how: str, lane: int, number: int) -> Outcome:
@@ -286,7 +303,7 @@ def try_gone(machine: Machine, how: str, lane: int, number: int) -> Outcome:
         return Outcome(f"{meaning(code)} at the next start", code, wrong or ("" if done == 8 and whole else "the others don't answer"), len(account.lost()))
 
 
-FILES = ("is moved, and moved back", "is cut to half", "is a link", "grows")
+FILES = ("is moved, and moved back", "is cut to half", "is a link")
 OUTPUTS = ("/dev/full", "a pipe without a reader", "a pipe that nobody reads")
 
 
@@ -309,5 +326,6 @@ def scenarios(machine: Machine, seed: int) -> Iterator[Scenario]:
         yield Scenario(f"machine: its lines go to {output}", f"{'goes on' if 'nobody' in output else '6 write fault'}; {whole}", once, partial(try_output, machine, output))
     for what in FILES:
         yield Scenario(f"machine: FILE {what}", f"goes on or 7; {whole}", once, partial(try_file, machine, what))
+    yield Scenario("machine: FILE grows", f"7 at the next start; {whole}", once, partial(try_grown, machine))
     for what in ("removed", "cut to nothing"):
         yield Scenario(f"machine: FILE is {what}", f"9 at the next start; {whole}", once, partial(try_gone, machine, what))

@@ -16,6 +16,8 @@ from nozhgiva_tools.run.ports import free_addresses
 from .common import call, needs_program, NOZHGIVA
 
 A, B = free_addresses(2)
+LENGTH = 2039808
+"""A member's file has as many bytes (docs/NODE.md), and none that has more is taken for one."""
 
 
 Stream = Union[int, IO[bytes]]
@@ -75,8 +77,16 @@ class Files(unittest.TestCase):
 
     def test_lost(self) -> None:
         self.assert_said(node(self.folder / "0"), 9, "is the path right?")
-        (self.folder / "1").write_bytes(b"x" * 3000000)
+        (self.folder / "1").write_bytes(b"x" * LENGTH)
         self.assert_said(node(self.folder / "1"), 9, "nozhgiva inspect ")
+
+    def test_too_long(self) -> None:
+        for length in (LENGTH + 1, 3000000):
+            with self.subTest(length=length):
+                file = self.folder / str(length)
+                file.write_bytes(b"x" * length)
+                self.assert_said(node(file), 7, f"{file} has {length} bytes, and a member's file no more than {LENGTH}: is the path right?")
+                self.assertEqual(file.read_bytes(), b"x" * length)
 
     def test_the_words_and_the_file(self) -> None:
         self.assertEqual(said(node(self.folder / "0", "--fresh"))[0], 0)

@@ -86,7 +86,7 @@ def of_signal(number: int, kind: str) -> Optional[str]:
 def why_no_file(file: str, _: Seen) -> str:
     """Why the data file can't be had, in the order of docs/NODE.md."""
     folder = os.path.dirname(os.path.abspath(file))
-    return holder(file) or why_no_path(file, folder) or why_no_room(file, folder) or (
+    return holder(file) or why_no_path(file, folder) or why_too_long(file) or why_no_room(file, folder) or (
         f"a call on {file} failed, and nothing else is seen: look at the disk (docs/NODE.md, After a disk fault)")
 
 
@@ -134,6 +134,14 @@ def why_no_folder(file: str, folder: str) -> Optional[str]:
     if flags & os.ST_RDONLY:
         return f"the file system of {folder} is mounted to be read only"
     return None if os.access(folder, os.W_OK | os.X_OK) else f"the folder {folder} may not be written by this user"
+
+
+def why_too_long(file: str) -> Optional[str]:
+    try:
+        length = os.stat(file).st_size
+    except OSError:
+        return None
+    return f"{file} has {length} bytes, and a member's file no more than {FILE_BYTES}: is the path right?" if length > FILE_BYTES else None
 
 
 def why_no_room(file: str, folder: str) -> Optional[str]:
